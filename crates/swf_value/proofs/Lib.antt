@@ -1,0 +1,14 @@
+pub mod TextLemmas
+pub mod Weights
+pub mod Rests
+pub mod OrderLaws
+pub mod ExprLemmas
+pub mod Writing
+pub mod Escapes
+pub mod Utf8Order
+pub mod Wholes
+pub mod Readings
+pub mod Data
+pub mod Compact
+pub mod ReadsBack
+pub mod SameLemmas

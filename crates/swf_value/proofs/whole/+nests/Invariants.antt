@@ -1,0 +1,12 @@
+use Rattle.std.proofs.Common.{◌≤◌, ◌↔◌, drop}
+use Rattle.serde_json.specs.Data.{items_depth, members_depth}
+use Rattle.serde_json.specs.View.{items_view, members_view}
+use Rattle.swf_value.proofs.whole.+nests.Given as goal
+
+abbrev pub invariant-items_nest_within-loop-item : goal.invariant-items_nest_within-loop-item
+invariant-items_nest_within-loop-item l =
+    (items_depth (items_view (drop l.item-index l.items)) ≤ l.most) ↔ (items_depth (items_view l.items) ≤ l.most)
+
+abbrev pub invariant-members_nest_within-loop-member : goal.invariant-members_nest_within-loop-member
+invariant-members_nest_within-loop-member l =
+    (members_depth (members_view l.member-iterator) ≤ l.most) ↔ (members_depth (members_view l.members.entries) ≤ l.most)

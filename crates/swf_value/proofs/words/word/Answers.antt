@@ -1,0 +1,6 @@
+use Rattle.std.proofs.Common.{◌≡◌, subst, List, ℕ, IfOk, Result}
+use Rattle.swf_value.proofs.SameLemmas.{chars_ascii}
+use Rattle.swf_value.proofs.words.word.Goals as goal
+
+pub returns : goal.returns
+returns c = rw (chars_ascii c.args.word.now c.requires) at c.copy_of.ensures

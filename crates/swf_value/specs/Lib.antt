@@ -1,0 +1,16 @@
+pub mod Value
+pub mod ValueCode
+pub mod Node
+pub mod NodeFalls
+pub mod Members
+pub mod Written
+pub mod Read
+pub mod Builtin
+pub mod Name
+pub mod Expr
+pub mod ExprNode
+pub mod ExprCode
+pub mod ExprFalls
+pub mod Order
+pub mod Size
+pub mod Same

@@ -1,0 +1,38 @@
+//! JSON values with whole numbers, their text, and the small types that every layer shares.
+#![tactic(auto)]
+
+mod builtin;
+mod copy;
+mod expr;
+mod fault;
+mod measure;
+mod members;
+mod name;
+mod op;
+mod order;
+mod read;
+mod same;
+mod strand;
+mod text;
+mod value;
+mod whole;
+mod words;
+mod write;
+
+pub use builtin::Builtin;
+pub use expr::{Expr, ExprMember, ExprNode};
+pub use fault::ValueFault;
+pub use measure::{depth, size};
+pub use name::Name;
+pub use op::Op;
+pub use order::{compare, order_laws};
+pub use read::{read_json, read_json_within};
+pub use same::{is_word, same_texts};
+pub use strand::Strand;
+pub use text::Text;
+pub use value::{Json, Member, Node};
+pub use words::{member, word};
+pub use write::write_json;
+
+#[cfg(test)]
+mod tests;

@@ -1,0 +1,124 @@
+// The order of values.
+ghost use Rattle.std.specs.Prelude.{◌≡◌, length, slice_index};
+ghost use Rattle.std.specs.Ordering.{nat_cmp};
+ghost use Rattle.std.specs.Cmp.Lexicographic.{slice_cmp};
+ghost use Rattle.swf_value.specs.Node.{node_value, items_of, members_of};
+ghost use Rattle.swf_value.specs.Order.{rank, value_cmp, items_cmp, members_cmp, names_cmp, OrderLaws};
+
+use crate::text::Text;
+use crate::value::{Json, Member, Node};
+use std::cmp::Ordering;
+
+/// The order of two values: null, false, true, numbers, texts by their characters, lists by their
+/// items, and objects by their sorted names and then by their values. It takes no memory.
+#[cycle(compare)]
+pub fn compare(a: &Json, b: &Json) -> Ordering
+    ensures { result ≡ value_cmp a.now b.now }
+{
+    compare_nodes(a.node(), b.node())
+}
+
+/// The order of one level.
+#[cycle(compare)]
+fn compare_nodes(a: &Node, b: &Node) -> Ordering
+    ensures { result ≡ value_cmp (node_value a.now) (node_value b.now) }
+{
+    match (a, b) {
+        (Node::Int(x), Node::Int(y)) => x.cmp(y),
+        (Node::Text(x), Node::Text(y)) => compare_texts(x, y),
+        (Node::List(x), Node::List(y)) => compare_items(x, y),
+        (Node::Object(x), Node::Object(y)) => match compare_names(x, y) {
+            Ordering::Equal => compare_members(x, y),
+            other => other,
+        },
+        (x, y) => rank_of(x).cmp(&rank_of(y)),
+    }
+}
+
+/// The place of a level's kind in the order.
+fn rank_of(node: &Node) -> u8
+    ensures { result ≡ rank (node_value node.now) }
+{
+    match node {
+        Node::Null => 0,
+        Node::Bool(value) => { if *value { 2 } else { 1 } }
+        Node::Int(_) => 3,
+        Node::Text(_) => 4,
+        Node::List(_) => 5,
+        Node::Object(_) => 6,
+    }
+}
+
+/// The order of two texts, by their characters.
+fn compare_texts(a: &Text, b: &Text) -> Ordering
+    ensures { result ≡ slice_cmp nat_cmp a.now b.now }
+{
+    a.as_str().chars().cmp(b.as_str().chars())
+}
+
+/// The order of two lists, item by item.
+#[cycle(compare)]
+fn compare_items(a: &[Json], b: &[Json]) -> Ordering
+    ensures { result ≡ items_cmp (items_of a.now) (items_of b.now) }
+{
+    for (i, x) in a.iter().enumerate() {
+        if i >= b.len() {
+            return Ordering::Greater;
+        }
+        match compare(x, &b[i]) {
+            Ordering::Equal => {}
+            other => return other,
+        }
+    }
+    if a.len() < b.len() {
+        Ordering::Less
+    } else {
+        Ordering::Equal
+    }
+}
+
+/// The order of two sorted lists of names.
+fn compare_names(a: &[Member], b: &[Member]) -> Ordering
+    ensures { result ≡ names_cmp (members_of a.now) (members_of b.now) }
+{
+    for (i, x) in a.iter().enumerate() {
+        if i >= b.len() {
+            return Ordering::Greater;
+        }
+        match compare_texts(&x.name, &b[i].name) {
+            Ordering::Equal => {}
+            other => return other,
+        }
+    }
+    if a.len() < b.len() {
+        Ordering::Less
+    } else {
+        Ordering::Equal
+    }
+}
+
+/// The order of the values of two objects, by their places.
+#[cycle(compare)]
+fn compare_members(a: &[Member], b: &[Member]) -> Ordering
+    ensures { result ≡ members_cmp (members_of a.now) (members_of b.now) }
+{
+    for (i, x) in a.iter().enumerate() {
+        if i >= b.len() {
+            return Ordering::Greater;
+        }
+        match compare(&x.value, &b[i].value) {
+            Ordering::Equal => {}
+            other => return other,
+        }
+    }
+    if a.len() < b.len() {
+        Ordering::Less
+    } else {
+        Ordering::Equal
+    }
+}
+
+/// The order is total, antisymmetric and transitive, and equal are only equal values.
+pub fn order_laws()
+    ensures { OrderLaws }
+{}
