@@ -1,0 +1,5 @@
+pub mod Chain
+pub mod Clauses
+mod Harmed
+mod Kept
+mod PutLemmas

@@ -1,0 +1,20 @@
+use Rattle.std.proofs.Common.{ap, Some, refl, length}
+use Rattle.swf_store.specs.declared.call.Call.TheVariants.{Read}
+use Rattle.swf_store.specs.declared.image.Image.{Image}
+use Rattle.swf_store.proofs.Clauses.{takes_goes, takes_listed, takes_cause, takes_reads, takes_nothing_new}
+use Rattle.swf_store.proofs.memory.MemoryStoreStore.read_at.Goals as goal
+
+pub returns-clause-seen : goal.returns-clause-seen
+returns-clause-seen c = ap (λ (i : Image). Some i) (takes_reads (Read c.args.file c.args.at (length c.args.into.now)) _ _ _ c.read.ensures.takes (λ w. refl))
+
+pub returns-clause-stop : goal.returns-clause-stop
+returns-clause-stop c = takes_nothing_new (Read c.args.file c.args.at (length c.args.into.now)) _ _ _ c.read.ensures.takes (λ w image left. left)
+
+pub returns-clause-time : goal.returns-clause-time
+returns-clause-time c = takes_goes (Read c.args.file c.args.at (length c.args.into.now)) _ _ _ c.read.ensures.takes
+
+pub returns-clause-listed : goal.returns-clause-listed
+returns-clause-listed c = takes_listed (Read c.args.file c.args.at (length c.args.into.now)) _ _ _ c.read.ensures.takes
+
+pub returns-clause-cause : goal.returns-clause-cause
+returns-clause-cause c = takes_cause (Read c.args.file c.args.at (length c.args.into.now)) _ _ _ c.read.ensures.takes

@@ -1,0 +1,23 @@
+use Rattle.std.proofs.Common.{ap, Some, refl}
+use Rattle.swf_store.specs.declared.call.Call.TheVariants.{Sync}
+use Rattle.swf_store.specs.declared.image.Image.{Image}
+use Rattle.swf_store.proofs.Clauses.{takes_goes, takes_listed, takes_cause, takes_reads, takes_nothing_new, takes_durable, sync_is_calm}
+use Rattle.swf_store.proofs.memory.MemoryStoreStore.sync.Goals as goal
+
+pub returns-clause-seen : goal.returns-clause-seen
+returns-clause-seen c = ap (λ (i : Image). Some i) (takes_reads Sync _ _ _ c.list.ensures.takes (λ w. refl))
+
+pub returns-clause-stop : goal.returns-clause-stop
+returns-clause-stop c = takes_nothing_new Sync _ _ _ c.list.ensures.takes sync_is_calm
+
+pub returns-clause-time : goal.returns-clause-time
+returns-clause-time c = takes_goes Sync _ _ _ c.list.ensures.takes
+
+pub returns-clause-listed : goal.returns-clause-listed
+returns-clause-listed c = takes_listed Sync _ _ _ c.list.ensures.takes
+
+pub returns-clause-cause : goal.returns-clause-cause
+returns-clause-cause c = takes_cause Sync _ _ _ c.list.ensures.takes
+
+pub returns-clause-durable : goal.returns-clause-durable
+returns-clause-durable c = takes_durable _ _ _ c.list.ensures.takes

@@ -1,0 +1,12 @@
+pub mod Calls
+pub mod Disk
+pub mod Faults
+pub mod Files
+pub mod Images
+pub mod Laws
+pub mod Memory
+pub mod MemoryView
+pub mod Put
+pub mod Replay
+pub mod Said
+pub mod Stops

@@ -1,0 +1,40 @@
+// How a call of a store fails.
+use std::alloc::{AllocError, AllocFailed};
+use thiserror::Error;
+
+/// A call of a store that was not done. The store's count of faults tells that there was one.
+#[derive(Clone, Copy, Debug, PartialEq, Eq, Error)]
+#[error("the store failed")]
+pub struct Failed;
+
+/// Memory was missing.
+#[derive(Clone, Copy, Debug, PartialEq, Eq, Error)]
+#[error("out of memory")]
+pub struct OutOfMemory;
+
+impl From<AllocError> for OutOfMemory {
+    fn from(_: AllocError) -> Self {
+        OutOfMemory
+    }
+}
+
+impl<T: Drop> From<AllocFailed<T>> for OutOfMemory {
+    fn from(_: AllocFailed<T>) -> Self {
+        OutOfMemory
+    }
+}
+
+/// Why a store could not be made.
+#[derive(Clone, Copy, Debug, PartialEq, Eq, Error)]
+pub enum StoreFault {
+    #[error("the store failed")]
+    Failed,
+    #[error("out of memory")]
+    OutOfMemory,
+}
+
+impl From<AllocError> for StoreFault {
+    fn from(_: AllocError) -> Self {
+        StoreFault::OutOfMemory
+    }
+}
