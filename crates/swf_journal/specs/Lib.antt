@@ -1,0 +1,5 @@
+pub mod FrameView
+pub mod Frames
+pub mod Opening
+pub mod Place
+pub mod Stands
