@@ -1,0 +1,45 @@
+// The types of a document (Serverless Workflow DSL 1.0.0, reference, "Workflow" and "Set").
+use crate::tasks::Tasks;
+use swf_value::{Json, Text};
+
+/// The namespace, name and version by which a document is known.
+#[derive(Drop)]
+pub struct DocKey {
+    pub namespace: Text,
+    pub name: Text,
+    pub version: Text,
+}
+
+/// A workflow document.
+#[derive(Drop)]
+pub struct Document {
+    pub key: DocKey,
+    pub tasks: Tasks,
+}
+
+/// A task and the name that it has in its list.
+#[derive(Drop)]
+pub struct Named {
+    pub name: Text,
+    pub task: Task,
+}
+
+/// A task.
+#[derive(Drop)]
+pub struct Task {
+    pub kind: Kind,
+}
+
+/// What a task does.
+#[derive(Drop)]
+pub enum Kind {
+    /// Gives a value.
+    Set(Template),
+}
+
+/// A value that is filled in when a task runs.
+#[derive(Drop)]
+pub enum Template {
+    /// A value as it is.
+    Const(Json),
+}

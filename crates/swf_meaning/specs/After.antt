@@ -1,0 +1,71 @@
+-- What a label needs, and what it changes.
+use Rattle.std.specs.Prelude.{◌+◌, ◌||◌, ℕ, List, [], ◌∷◌, ◌++◌, Bool, true, false, length, nat_le, Option, Some, None, option_map, option_and_then, if◌then◌else◌}
+use Rattle.std.specs.List.{list_any}
+use Rattle.swf_value.specs.Value.{Value, null}
+use Rattle.swf_value.specs.Same.{same}
+use Rattle.swf_document.specs.Reads.{document_of}
+use Rattle.swf_document.specs.declared.document.DocKey.{DocKey}
+use Rattle.swf_document.specs.declared.document.Document.{Document}
+use Rattle.swf_meaning.specs.declared.label.Label.{Label}
+use Rattle.swf_meaning.specs.declared.label.Label.TheVariants.{Load, Start, Step}
+use Rattle.swf_meaning.specs.Node.{Workflow, Node, Fresh}
+use Rattle.swf_meaning.specs.Local.{local}
+use Rattle.swf_meaning.specs.Keys.{Key, Document as OfDocument, Instance as OfInstance, same_doc, same_key}
+use Rattle.swf_meaning.specs.World.{Instance, World}
+
+abbrev pub most_documents : ℕ
+most_documents = 1000
+
+abbrev pub most_instances : ℕ
+most_instances = 10000
+
+abbrev pub is_used : Key → World → Bool
+is_used k w = list_any (λ p. same_key k p.0) w.keys
+
+-- the world with one more label, whose key was used at its place
+abbrev pub counted : Key → World → World
+counted k w = record w { keys = w.keys ++ (k, w.count) ∷ []; count = w.count + 1 }
+
+abbrev pub with_document : World → Document → World
+with_document w d = record (counted (OfDocument d.key) w) { documents = w.documents ++ d ∷ [] }
+
+-- a document is added that is new, while there is room
+abbrev pub loaded : World → Document → Option World
+loaded w d = if is_used (OfDocument d.key) w || nat_le most_documents (length w.documents) then None else Some (with_document w d)
+
+-- the loaded document of a key
+abbrev pub document_at : DocKey → List Document → Option Document
+document_at k [] = None
+document_at k (d ∷ ds) = if same_doc k d.key then Some d else document_at k ds
+
+-- an instance that has just begun
+abbrev pub begun : List ℕ → Value → ℕ → Document → Instance
+begun id input now d = record { id = id; key = d.key; input = input; started = now; context = null; node = Fresh (Workflow d.tasks) input; number = 0 }
+
+abbrev pub with_instance : World → Instance → World
+with_instance w i = record (counted (OfInstance i.id) w) { instances = w.instances ++ i ∷ [] }
+
+-- an instance is added whose id is new and whose document is loaded, while there is room
+abbrev pub started : World → List ℕ → DocKey → Value → Option World
+started w id key input = if is_used (OfInstance id) w || nat_le most_instances (length w.instances) then None else option_map (λ d. with_instance w (begun id input w.now d)) (document_at key w.documents)
+
+abbrev pub with_node : Instance → Node → Instance
+with_node i n = record i { node = n }
+
+-- the instances after the one of that id took a step; none where there is none or it cannot
+abbrev pub stepped : List ℕ → List Instance → Option (List Instance)
+stepped id [] = None
+stepped id (i ∷ is) = if same id i.id then option_map (λ n. with_node i n ∷ is) (local i.node) else option_map (λ js. i ∷ js) (stepped id is)
+
+abbrev pub is_root : List ℕ → Bool
+is_root [] = true
+is_root (b ∷ bs) = false
+
+abbrev pub with_instances : World → List Instance → World
+with_instances w is = record w { instances = is; count = w.count + 1 }
+
+-- the world after a label; none where the label's condition does not hold
+abbrev pub after : World → Label → Option World
+after w (Load v) = option_and_then (loaded w) (document_of v)
+after w (Start id key input) = started w id key input
+after w (Step id strand) = if is_root strand then option_map (with_instances w) (stepped id w.instances) else None

@@ -1,0 +1,45 @@
+-- By what an outcome is known, so that none acts twice.
+use Rattle.std.specs.Prelude.{◌≡◌, ◌&&◌, ℕ, List, [], ◌∷◌, Bool, true, false, not, codes, Option, Some, None, option_and_then, unwrap_or}
+use Rattle.std.specs.List.{list_any, filter_map}
+use Rattle.swf_value.specs.Value.{Value}
+use Rattle.swf_value.specs.Members.{member_at}
+use Rattle.swf_value.specs.Same.{same}
+use Rattle.swf_document.specs.Reads.{text_of}
+use Rattle.swf_document.specs.declared.document.DocKey.{DocKey}
+use Rattle.swf_meaning.specs.declared.label.Label.{Label}
+use Rattle.swf_meaning.specs.declared.label.Label.TheVariants.{Load, Start, Step}
+
+pub data Key : Type 0 where
+  Document : DocKey → Key
+  Instance : List ℕ → Key
+
+abbrev pub same_doc : DocKey → DocKey → Bool
+same_doc a b = same a.namespace b.namespace && same a.name b.name && same a.version b.version
+
+abbrev pub same_key : Key → Key → Bool
+same_key (Document a) (Document b) = same_doc a b
+same_key (Instance a) (Instance b) = same a b
+same_key (Document a) (Instance b) = false
+same_key (Instance a) (Document b) = false
+
+-- a text in the value of `document`, or the empty text
+abbrev head_text : List ℕ → Value → List ℕ
+head_text k v = unwrap_or (option_and_then text_of (option_and_then (member_at k) (member_at (codes "document") v))) []
+
+-- the namespace, name and version that a value gives
+abbrev pub doc_key : Value → DocKey
+doc_key v = record { namespace = head_text (codes "namespace") v; name = head_text (codes "name") v; version = head_text (codes "version") v }
+
+-- a load's key is its document's, and a start's its id; a step has none
+abbrev pub key_of : Label → Option Key
+key_of (Load v) = Some (Document (doc_key v))
+key_of (Start id key input) = Some (Instance id)
+key_of (Step id strand) = None
+
+abbrev pub are_distinct : List Key → Bool
+are_distinct [] = true
+are_distinct (k ∷ ks) = not (list_any (same_key k) ks) && are_distinct ks
+
+-- no two labels have equal keys
+abbrev pub Once : List Label → Type 0
+Once h = are_distinct (filter_map key_of h) ≡ true

@@ -1,0 +1,28 @@
+// What happens to the world, one label after another.
+use swf_document::DocKey;
+use swf_value::{Json, Strand, Text};
+
+/// One event of a run: what was handed in, or one step of an instance.
+#[derive(Drop)]
+pub enum Label {
+    /// A document was loaded.
+    Load(Json),
+    /// An instance of a loaded document was started.
+    Start { id: Text, key: DocKey, input: Json },
+    /// An instance took one step on one of its strands.
+    Step { id: Text, strand: Strand },
+}
+
+/// What can be handed in.
+#[derive(Drop)]
+pub enum Outcome {
+    Load(Json),
+    Start { id: Text, key: DocKey, input: Json },
+}
+
+/// What can be asked without changing anything.
+#[derive(Drop)]
+pub enum Query {
+    /// The status of the instance of this id.
+    Status(Text),
+}
