@@ -1,0 +1,4 @@
+pub mod MachineLemmas
+pub mod SubmitLemmas
+pub mod ReportLemmas
+pub mod ReadLemmas

@@ -1,0 +1,11 @@
+pub mod Told
+pub mod Causes
+pub mod Progress
+pub mod Machine
+pub mod Stands
+pub mod Submits
+pub mod Steps
+pub mod Answers
+pub mod ReadSmall
+pub mod Reports
+pub mod Script
