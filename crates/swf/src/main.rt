@@ -1,0 +1,44 @@
+//! A durable engine for the CNCF Serverless Workflow DSL 1.0.0: the program over its library.
+#![tactic(auto)]
+
+use std::env;
+use std::io::{self, BufReader, ErrorKind};
+use std::process::ExitCode;
+use std::rt::Env;
+use swf_cli::swf_run;
+use swf_engine::ConsoleHost;
+
+/// The words of the command line have no meaning.
+const NO_MEANING: u8 = 2;
+
+/// No memory was found.
+const NO_MEMORY: u8 = 6;
+
+fn main(rt: HostRuntime) -> ExitCode {
+    let alloc = rt.alloc();
+    let words = match words(&rt) {
+        Ok(words) => words,
+        Err(status) => return ExitCode::from(status),
+    };
+    let Ok(reader) = BufReader::new(alloc, rt.reader()) else {
+        return ExitCode::from(NO_MEMORY);
+    };
+    let mut host = ConsoleHost::new(alloc, reader, io::writer(&rt));
+    ExitCode::from(swf_run(alloc, &words, &mut host))
+}
+
+// The words behind the program's name. Words that are not text have no meaning.
+fn words(rt: &(impl Env + AllocGlobal)) -> Result<Vec<String>, u8> {
+    let args = match env::args(rt) {
+        Ok(args) => args,
+        Err(error) if error.kind() == ErrorKind::OutOfMemory => return Err(NO_MEMORY),
+        Err(_) => return Err(NO_MEANING),
+    };
+    let mut words = Vec::new(rt.alloc());
+    for word in args.skip(1) {
+        if words.push(word).is_err() {
+            return Err(NO_MEMORY);
+        }
+    }
+    Ok(words)
+}

@@ -1,0 +1,4 @@
+pub mod DigitLemmas
+pub mod LineLemmas
+pub mod TurnLemmas
+pub mod SessionLemmas

@@ -1,0 +1,9 @@
+pub mod Words
+pub mod Line
+pub mod Spoken
+pub mod Turns
+pub mod Session
+pub mod Reading
+pub mod Sayable
+pub mod Steps
+pub mod Statuses

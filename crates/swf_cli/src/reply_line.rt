@@ -1,0 +1,111 @@
+// Writing a reply as its line.
+ghost use Rattle.std.specs.Prelude.{◌≡◌, ◌≤◌, ◌∷◌, ◌^◌, [], pos, IsTrue, IfOk, codes};
+ghost use Rattle.swf_value.specs.Same.{is_ascii};
+ghost use Rattle.swf_value.specs.Value.{int, text, IsBefore, Value};
+ghost use Rattle.swf_cli.specs.Spoken.{one, two, ok_with, fault_text, not_in_profile, reply_value, spoken};
+ghost use Rattle.swf_cli.specs.Sayable.{IsSayable};
+
+use crate::command::LineFault;
+use crate::reply::Reply;
+use std::alloc::{AllocError, Global};
+use swf_value::{Json, member, word, write_json};
+
+// An object of one text.
+fn one(alloc: Global, name: &str, text: &str) -> Result<Json, AllocError>
+    requires name { IsTrue (is_ascii name.now) }
+    requires text { IsTrue (is_ascii text.now) }
+    ensures { IfOk result (λ v. v ≡ one name.now text.now) }
+{
+    let mut members = Vec::new(alloc);
+    members.push(member(alloc, name, Json::text(word(alloc, text)?))?)?;
+    Ok(Json::object(members))
+}
+
+// An object of a text and another value.
+fn two(alloc: Global, name: &str, text: &str, other: &str, value: Json) -> Result<Json, AllocError>
+    requires name { IsTrue (is_ascii name.now) }
+    requires text { IsTrue (is_ascii text.now) }
+    requires other { IsTrue (is_ascii other.now) }
+    requires order { IsBefore name.now other.now }
+    ensures { IfOk result (λ v. v ≡ two name.now text.now other.now value) }
+{
+    let mut members = Vec::new(alloc);
+    members.push(member(alloc, name, Json::text(word(alloc, text)?))?)?;
+    members.push(member(alloc, other, value)?)?;
+    Ok(Json::object(members))
+}
+
+// An `ok` with a number.
+fn ok_with(alloc: Global, text: &str, name: &str, number: u64) -> Result<Json, AllocError>
+    requires text { IsTrue (is_ascii text.now) }
+    requires name { IsTrue (is_ascii name.now) }
+    requires order { IsBefore (codes "ok") name.now }
+    requires small { number ≤ 2 ^ 40 }
+    ensures { IfOk result (λ v. v ≡ ok_with text.now name.now number) }
+{
+    two(alloc, "ok", text, name, Json::int(number as i64))
+}
+
+fn fault_text(fault: LineFault) -> &'static str
+    ensures text { result.now ≡ fault_text fault }
+    ensures ascii { IsTrue (is_ascii result.now) }
+{
+    match fault {
+        LineFault::Command => "command",
+        LineFault::Word => "word",
+        LineFault::Number => "number",
+        LineFault::NotJson => "not-json",
+        LineFault::TooDeep => "too-deep",
+        LineFault::NotWhole => "not-whole",
+    }
+}
+
+// The value of a refusal with its one fault.
+fn refused(alloc: Global) -> Result<Json, AllocError>
+    ensures { IfOk result (λ v. v ≡ reply_value Reply.Refused) }
+{
+    let place = Json::text(word(alloc, "")?);
+    let fault = two(alloc, "kind", "not-in-profile", "place", place)?;
+    let mut faults = Vec::new(alloc);
+    faults.push(fault)?;
+    two(alloc, "error", "refused", "faults", Json::list(faults))
+}
+
+// The value that a reply's line is of.
+fn reply_json(alloc: Global, reply: Reply) -> Result<Json, AllocError>
+    requires { IsSayable reply }
+    ensures { IfOk result (λ v. v ≡ reply_value reply) }
+{
+    match reply {
+        Reply::Loaded(place) => ok_with(alloc, "loaded", "place", place),
+        Reply::Started(place) => ok_with(alloc, "started", "place", place),
+        Reply::Quiet(steps) => ok_with(alloc, "quiet", "steps", steps),
+        Reply::Budget(steps) => ok_with(alloc, "budget", "steps", steps),
+        Reply::Report(value) => Ok(value),
+        Reply::Quit => one(alloc, "ok", "quit"),
+        Reply::BadLine(fault) => bad_line(alloc, fault),
+        Reply::TooLong => one(alloc, "error", "too-long"),
+        Reply::Refused => refused(alloc),
+        Reply::UnknownInstance => one(alloc, "error", "unknown-instance"),
+        Reply::Memory => one(alloc, "error", "memory"),
+    }
+}
+
+fn bad_line(alloc: Global, fault: LineFault) -> Result<Json, AllocError>
+    ensures { IfOk result (λ v. v ≡ reply_value (Reply.BadLine fault)) }
+{
+    let text = Json::text(word(alloc, fault_text(fault))?);
+    two(alloc, "error", "bad-line", "fault", text)
+}
+
+/// The line of a reply, with its newline.
+pub fn reply_line(alloc: Global, reply: Reply) -> Result<Vec<u8>, AllocError>
+    requires { IsSayable reply }
+    ensures { IfOk result (λ bytes. bytes.items ≡ spoken reply) }
+{
+    let value = reply_json(alloc, reply)?;
+    let mut line = Vec::new(alloc);
+    write_json(alloc, &value, &mut line)?;
+    line.push(b'\n')?;
+    Ok(line)
+}
