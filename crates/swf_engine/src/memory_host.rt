@@ -1,6 +1,8 @@
 // A host in memory: it follows a script, and keeps all that was taken and said.
-ghost use Rattle.std.specs.Prelude.{◌≡◌, ◌∷◌, ◌++◌, [], Some, IfOk, OnOk, OnErr, length, option_map};
-ghost use Rattle.swf_engine.specs.Script.{coming};
+ghost use Rattle.std.specs.Prelude.{◌≡◌, [], Some, IfOk, OnOk, OnErr, option_map};
+ghost use Rattle.swf_engine.specs.Script.{coming, play, first_play, input_taken, piece_said, AfterNext, AfterSaid};
+ghost use Rattle.swf_engine.specs.Told.{after_next, AfterSay};
+ghost use Rattle.swf_engine.specs.Causes.{HasCause};
 
 use crate::bytes::Bytes;
 use crate::host::{Failed, Host, Input, Said};
@@ -38,6 +40,7 @@ impl MemoryHost {
         failing_next: Vec<u64>,
         failing_say: Vec<u64>,
     ) -> MemoryHost
+        ensures play { play result ≡ first_play script.items failing_next.items failing_say.items }
         ensures told { ⟦<MemoryHost as Host>⟧.told result ≡ Some (record { taken = []; said = [] }) }
         ensures faults { ⟦<MemoryHost as Host>⟧.host_faults result ≡ 0 }
     {
@@ -72,14 +75,14 @@ impl MemoryHost {
 
     /// How many calls failed because no memory was found to keep what is told.
     pub fn lacks(&self) -> u64
-        ensures { result ≡ self.now.lacks }
+        ensures { result ≡ (play self.now).lacks }
     {
         self.lacks
     }
 
     // Copies the next input of the script, or `Closed` past its end.
     fn coming(&self) -> Result<Input, AllocError>
-        ensures { IfOk result (λ i. i ≡ coming self.now.script.items self.now.at) }
+        ensures { IfOk result (λ i. i ≡ coming (play self.now).script (play self.now).at) }
     {
         match self.script.get(self.at) {
             Some(Turn::In(input)) => copy_input(self.alloc, input),
@@ -89,11 +92,8 @@ impl MemoryHost {
 
     // Takes the next input, and keeps a copy of it.
     fn take(&mut self) -> Result<Input, AllocError>
-        ensures ok { IfOk result (λ i. self.new.taken.items ≡ self.old.taken.items ++ i ∷ []) }
-        ensures err { OnErr result (self.new.taken.items ≡ self.old.taken.items) }
-        ensures said { self.new.said.items ≡ self.old.said.items }
-        ensures faults { self.new.faults ≡ self.old.faults }
-        ensures turn { IfOk result (λ i. i ≡ coming self.old.script.items self.old.at) }
+        ensures ok { IfOk result (λ i. (i ≡ coming (play self.old).script (play self.old).at) × (play self.new ≡ input_taken i (play self.old))) }
+        ensures err { OnErr result (play self.new ≡ play self.old) }
     {
         let input = self.coming()?;
         let kept = self.coming()?;
@@ -104,10 +104,8 @@ impl MemoryHost {
 
     // Keeps what is said.
     fn keep(&mut self, conn: u64, bytes: &[u8]) -> Result<(), AllocError>
-        ensures ok { OnOk result (self.new.said.items ≡ self.old.said.items ++ record { conn = conn; bytes = bytes.now; inputs = length self.old.taken.items } ∷ []) }
-        ensures err { OnErr result (self.new.said.items ≡ self.old.said.items) }
-        ensures taken { self.new.taken.items ≡ self.old.taken.items }
-        ensures faults { self.new.faults ≡ self.old.faults }
+        ensures ok { OnOk result (play self.new ≡ piece_said conn bytes.now (play self.old)) }
+        ensures err { OnErr result (play self.new ≡ play self.old) }
     {
         let bytes = Bytes::copy_of(self.alloc, bytes)?;
         let inputs = self.taken.len() as u64;
@@ -135,7 +133,11 @@ impl Host for MemoryHost {
 
     ghost host_faults = { λ h. h.faults };
 
-    fn next(&mut self) -> Result<Input, Failed> {
+    fn next(&mut self) -> Result<Input, Failed>
+        ensures told { ⟦<MemoryHost as Host>⟧.told self.new ≡ after_next result (⟦<MemoryHost as Host>⟧.told self.old) }
+        ensures cause { HasCause (⟦<MemoryHost as Host>⟧.host_faults self.old) (⟦<MemoryHost as Host>⟧.host_faults self.new) result }
+        ensures play { AfterNext (play self.old) result (play self.new) }
+    {
         let call = self.nexts;
         self.nexts = call.saturating_add(1);
         if self.failing_next.contains(&call) {
@@ -152,7 +154,11 @@ impl Host for MemoryHost {
         }
     }
 
-    fn say(&mut self, conn: u64, bytes: &[u8]) -> Result<(), Failed> {
+    fn say(&mut self, conn: u64, bytes: &[u8]) -> Result<(), Failed>
+        ensures told { AfterSay conn bytes.now result (⟦<MemoryHost as Host>⟧.told self.old) (⟦<MemoryHost as Host>⟧.told self.new) }
+        ensures cause { HasCause (⟦<MemoryHost as Host>⟧.host_faults self.old) (⟦<MemoryHost as Host>⟧.host_faults self.new) result }
+        ensures play { AfterSaid conn bytes.now (play self.old) result (play self.new) }
+    {
         let call = self.says;
         self.says = call.saturating_add(1);
         if self.failing_say.contains(&call) {
