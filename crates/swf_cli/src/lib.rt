@@ -11,4 +11,6 @@ mod words;
 pub use session::swf_run;
 
 #[cfg(test)]
+mod parse_tests;
+#[cfg(test)]
 mod tests;

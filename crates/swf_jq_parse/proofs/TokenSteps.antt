@@ -1,0 +1,51 @@
+-- Tokens one after another.
+use Rattle.std.proofs.Common.{◌≡◌, ◌∙◌, ap, ap₂, sym, refl, subst, ℕ, zero, suc, ◌+◌, ◌≤◌, List, [], ◌∷◌, length, true, false, Ok, Err, if◌then◌else◌, arith}
+use Rattle.swf_jq_parse.specs.Machine.{ends_at, fails_by}
+use Rattle.swf_jq_parse.specs.Lexer.{Lexeme, Nested, is_blank, Lexed, last, also, lexed_of, lex_within, lex, next}
+use Rattle.swf_jq_parse.specs.declared.fault.ParseFault.{ParseFault}
+use Rattle.swf_jq_parse.proofs.Shorter.{Shorter, next-shorter}
+use Rattle.swf_jq_parse.specs.Nest.{Nest}
+
+pub lex-blank : (n : Nest) (at c : ℕ) (cs : List ℕ) → is_blank c ≡ true → lex n at (c ∷ cs) ≡ lex n (at + 1) cs
+unfolding lex_within
+lex-blank n at c cs h = rw h refl
+
+-- ---- the bound on how many characters are read does not matter
+
+by_next : (cs : List ℕ) (at : ℕ) (f g : Lexeme × Nest → Lexed) (x : Nested) → Shorter cs x → ((r : Lexeme × Nest) → length r.0.rest ≤ length cs → f r ≡ g r) → lexed_of at f x ≡ lexed_of at g x
+by_next cs at f g (Err e) s h = refl
+by_next cs at f g (Ok r) s h = ap (also at r.0.token) (h r s)
+
+none_within : (k : ℕ) (n : Nest) (at : ℕ) → lex_within k n at [] ≡ last (ends_at at)
+unfolding lex_within
+none_within zero n at = refl
+none_within (suc k) n at = refl
+
+fuel : (k m : ℕ) (n : Nest) (at : ℕ) (cs : List ℕ) → length cs ≤ k → length cs ≤ m → lex_within k n at cs ≡ lex_within m n at cs
+unfolding lex_within
+fuel k m n at [] h i = none_within k n at ∙ sym (none_within m n at)
+fuel zero m n at (c ∷ cs) h i = absurd (omega arith)
+fuel (suc k) zero n at (c ∷ cs) h i = absurd (omega arith)
+fuel (suc k) (suc m) n at (c ∷ cs) h i =
+    ap₂ (λ (x y : Lexed). if is_blank c then x else y)
+    (fuel k m n (at + 1) cs (omega arith) (omega arith))
+    (by_next cs at (λ r. lex_within k r.1 r.0.at r.0.rest) (λ r. lex_within m r.1 r.0.at r.0.rest) (next n at c cs) (next-shorter n at c cs) (λ r s. fuel k m r.1 r.0.at r.0.rest (omega arith) (omega arith)))
+
+-- ---- the tokens, by what stands at the front
+
+pub lex-end : (n : Nest) (at : ℕ) → lex n at [] ≡ last (ends_at at)
+lex-end n at = none_within 0 n at
+
+lex-next : (n : Nest) (at c : ℕ) (cs : List ℕ) → is_blank c ≡ false → lex n at (c ∷ cs) ≡ lexed_of at (λ r. lex_within (length cs) r.1 r.0.at r.0.rest) (next n at c cs)
+unfolding lex_within
+lex-next n at c cs h = rw h refl
+
+pub lex-token : (n : Nest) (at c : ℕ) (cs : List ℕ) (r : Lexeme × Nest) → is_blank c ≡ false → next n at c cs ≡ Ok r → lex n at (c ∷ cs) ≡ also at r.0.token (lex r.1 r.0.at r.0.rest)
+lex-token n at c cs r h e =
+    let s : length r.0.rest ≤ length cs = subst (Shorter cs) e (next-shorter n at c cs) in
+    lex-next n at c cs h
+    ∙ ap (lexed_of at (λ r. lex_within (length cs) r.1 r.0.at r.0.rest)) e
+    ∙ ap (also at r.0.token) (fuel (length cs) (length r.0.rest) r.1 r.0.at r.0.rest s (omega arith))
+
+pub lex-fault : (n : Nest) (at c : ℕ) (cs : List ℕ) (e : ParseFault) → is_blank c ≡ false → next n at c cs ≡ Err e → lex n at (c ∷ cs) ≡ last (fails_by e)
+lex-fault n at c cs e h f = lex-next n at c cs h ∙ ap (lexed_of at (λ r. lex_within (length cs) r.1 r.0.at r.0.rest)) f

@@ -1,0 +1,5 @@
+use Rattle.swf_jq_parse.proofs.TokenSteps.{lex-end, lex-blank, lex-token, lex-fault}
+use Rattle.swf_jq_parse.proofs.laws.lexer_laws.Goals as goal
+
+pub returns : goal.returns
+returns c = (lex-end, lex-blank, lex-token, lex-fault)

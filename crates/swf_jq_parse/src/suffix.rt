@@ -1,0 +1,125 @@
+// What may follow an operand.
+ghost use Rattle.std.specs.Prelude.{◌≡◌};
+ghost use Rattle.swf_jq_parse.specs.Gives.{Gives};
+ghost use Rattle.swf_jq_parse.specs.Suffix.{have, have_keyword, have_sign, suffix, dotted};
+
+use crate::closing::{
+    close_brace, close_bracket, close_paren, elif_next, else_next, end_if, next_argument, then_next,
+};
+use crate::fault::{ParseFault, refuse};
+use crate::joining::{bind_next, comma_next, infix, pipe_next};
+use crate::mode::Mode;
+use crate::operand::{field, text_expr};
+use crate::stack::{Joint, Purpose, Stack};
+use crate::text_part::{close_text, open_text, resume_text};
+use crate::token::{Keyword, Sign, Token};
+use std::alloc::Global;
+use swf_value::Expr;
+
+/// Whatever may follow an operand.
+#[tactic(auto, unfolding(crate::specs::Suffix::have))]
+pub fn have(
+    alloc: Global,
+    stack: &mut Stack,
+    of: Expr,
+    at: usize,
+    token: Token,
+) -> Result<Mode, ParseFault>
+    ensures { Gives (λ m. (stack.new, m)) result (have stack.old of at token) }
+{
+    match token {
+        Token::Dot => Ok(Mode::Suffix(of)),
+        Token::Dots => Err(ParseFault::Syntax {
+            at: at.saturating_add(1),
+        }),
+        Token::Field(name) => Ok(Mode::Have(field(alloc, of, name)?)),
+        Token::Keyword(keyword) => have_keyword(alloc, stack, of, at, keyword),
+        Token::TextMid(text) => resume_text(alloc, stack, of, at, text),
+        Token::TextClose(text) => close_text(alloc, stack, of, at, text),
+        Token::Sign(sign) => have_sign(alloc, stack, of, at, sign),
+        other => refuse(other, at),
+    }
+}
+
+#[tactic(auto, unfolding(crate::specs::Suffix::have_keyword))]
+fn have_keyword(
+    alloc: Global,
+    stack: &mut Stack,
+    of: Expr,
+    at: usize,
+    keyword: Keyword,
+) -> Result<Mode, ParseFault>
+    ensures { Gives (λ m. (stack.new, m)) result (have_keyword stack.old of at keyword) }
+{
+    match keyword {
+        Keyword::As => bind_next(stack, at, of),
+        Keyword::Or => infix(alloc, stack, at, Joint::Or, of),
+        Keyword::And => infix(alloc, stack, at, Joint::And, of),
+        Keyword::Then => then_next(alloc, stack, of, at),
+        Keyword::Elif => elif_next(alloc, stack, of, at),
+        Keyword::Else => else_next(alloc, stack, of, at),
+        Keyword::End => end_if(alloc, stack, of, at),
+        Keyword::If => Err(ParseFault::Syntax { at }),
+        Keyword::Null => Err(ParseFault::Syntax { at }),
+        Keyword::True => Err(ParseFault::Syntax { at }),
+        Keyword::False => Err(ParseFault::Syntax { at }),
+    }
+}
+
+#[tactic(auto, unfolding(crate::specs::Suffix::have_sign))]
+fn have_sign(
+    alloc: Global,
+    stack: &mut Stack,
+    of: Expr,
+    at: usize,
+    sign: Sign,
+) -> Result<Mode, ParseFault>
+    ensures { Gives (λ m. (stack.new, m)) result (have_sign stack.old of at sign) }
+{
+    match sign {
+        Sign::LeftParen => Err(ParseFault::Syntax { at }),
+        Sign::RightParen => close_paren(alloc, stack, of, at),
+        Sign::LeftBracket => Ok(Mode::IndexStart(of)),
+        Sign::RightBracket => close_bracket(alloc, stack, of, at),
+        Sign::LeftBrace => Err(ParseFault::Syntax { at }),
+        Sign::RightBrace => close_brace(alloc, stack, of, at),
+        Sign::Comma => comma_next(alloc, stack, at, of),
+        Sign::Pipe => pipe_next(alloc, stack, of),
+        Sign::Semicolon => next_argument(alloc, stack, of, at),
+        Sign::Colon => Err(ParseFault::Syntax { at }),
+        Sign::Question => Ok(Mode::Have(Expr::maybe(alloc, of)?)),
+        Sign::Alternative => infix(alloc, stack, at, Joint::Alt, of),
+        Sign::Op(op) => infix(alloc, stack, at, Joint::Op(op), of),
+    }
+}
+
+/// What may follow an operand and a `.`.
+#[tactic(auto, unfolding(crate::specs::Suffix::suffix))]
+pub fn suffix(
+    alloc: Global,
+    stack: &mut Stack,
+    of: Expr,
+    at: usize,
+    token: Token,
+) -> Result<Mode, ParseFault>
+    ensures { Gives (λ m. (stack.new, m)) result (suffix stack.old of at token) }
+{
+    match token {
+        Token::Text(text) => Ok(Mode::Have(Expr::index(alloc, of, text_expr(text))?)),
+        Token::TextOpen(text) => open_text(stack, Purpose::Index(of), text),
+        Token::Sign(Sign::LeftBracket) => Ok(Mode::IndexStart(of)),
+        other => refuse(other, at),
+    }
+}
+
+/// What may follow a `.` that is an operand.
+#[tactic(auto, unfolding(crate::specs::Suffix::dotted))]
+pub fn dotted(alloc: Global, stack: &mut Stack, at: usize, token: Token) -> Result<Mode, ParseFault>
+    ensures { Gives (λ m. (stack.new, m)) result (dotted stack.old at token) }
+{
+    match token {
+        Token::Text(text) => Ok(Mode::Have(field(alloc, Expr::here(), text)?)),
+        Token::TextOpen(text) => open_text(stack, Purpose::Index(Expr::here()), text),
+        token => have(alloc, stack, Expr::here(), at, token),
+    }
+}
