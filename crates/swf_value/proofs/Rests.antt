@@ -2,14 +2,11 @@
 use Rattle.std.proofs.Common.{◌≡◌, ◌∙◌, ℕ, zero, suc, ◌+◌, ◌<◌, ◌≤◌, List, [], ◌∷◌, length, get_or, drop, ap, sym, refl, add-one, arith}
 use Rattle.std.proofs.Math.Seq.{drop-cons}
 use Rattle.std.proofs.lemmas.List.{drop_all}
-use Rattle.std.specs.Ordering.{nat_cmp, ordering_then}
-use Rattle.std.specs.Cmp.Lexicographic.{slice_cmp}
-use Rattle.std.specs.declared.cmp.Ordering.{Ordering}
-use Rattle.std.specs.declared.cmp.Ordering.TheVariants.{Less, Equal, Greater}
+use Rattle.std.specs.declared.cmp.Ordering.TheVariants.{Less}
 use Rattle.swf_value.specs.Value.{Value}
 use Rattle.swf_value.specs.Node.{items_of, members_of}
 use Rattle.swf_value.specs.declared.value.Member.{Member}
-use Rattle.swf_value.specs.Order.{value_cmp, items_cmp, members_cmp, names_cmp}
+use Rattle.swf_value.specs.Order.{items_cmp, members_cmp, names_cmp}
 
 -- the item at a place, and what comes after it
 pub rest_at : {A : Type 0} (ds : List A) (i : ℕ) (d : A) → i < length ds → d ≡ get_or ds i d → drop i ds ≡ d ∷ drop (i + 1) ds

@@ -1,11 +1,10 @@
 -- A code for expressions, by which a ghost name tells them apart.
-use Rattle.std.specs.Prelude.{◌≡◌, ◌==◌, ◌∷◌, [], ℕ, List, refl, if◌then◌else◌}
+use Rattle.std.specs.Prelude.{◌≡◌, ◌==◌, ℕ, List, refl, if◌then◌else◌}
 use Rattle.std.specs.Coded.{Coded, coded_ℕ, coded_list, code_by}
 use Rattle.std.proofs.lemmas.Bool.{false≢true, eq-eqb}
 use base.Stored.{Gv, gnil, gnum, gcons}
 use mathlib.Core.Path.{ap, sym, subst}
 use Rattle.swf_value.specs.Expr.{Tree, here, lit, var, index, iterate, maybe, pipe, both, alt, or, and, binary, neg, empty_list, list_of, object_of, if_then, if_else, bind, apply, Trees, no_trees, tree, Pairs, no_pairs, pair}
-use Rattle.swf_value.specs.Value.{Value}
 use Rattle.swf_value.specs.ValueCode.{value_code}
 use Rattle.swf_value.specs.declared.builtin.Builtin.{Builtin}
 use Rattle.swf_value.specs.declared.builtin.Builtin.TheVariants as builtins

@@ -1,6 +1,6 @@
 -- The value that one level of a `Json` stands for.
-use Rattle.std.specs.Prelude.{◌+◌, ℕ, List, [], ◌∷◌}
-use Rattle.swf_value.specs.Value.{Value, null, boolean, int, text, list, object, Items, no_items, item, Members, no_members, member}
+use Rattle.std.specs.Prelude.{◌≡◌, ◌+◌, ◌-◌, ◌^◌, ℕ, min, List, [], ◌∷◌}
+use Rattle.swf_value.specs.Value.{Value, null, boolean, int, text, list, object, Items, no_items, item, Members, no_members, member, IsLevel, depth}
 use Rattle.swf_value.specs.declared.value.Node.{Node}
 use Rattle.swf_value.specs.declared.value.Node.TheVariants.{Null, Bool, Int, Text, List as Listed, Object}
 use Rattle.swf_value.specs.declared.value.Member.{Member}
@@ -20,6 +20,11 @@ node_value (Int z) = int z
 node_value (Text t) = text t
 node_value (Listed v) = list (items_of v.items)
 node_value (Object v) = object (members_of v.items)
+
+-- what a `Json` keeps of the value that it stands for: its level, and its depth as a `u32`
+pub record IsKept (kept : ℕ) (v : Value) : Type 0 where
+  pub level : IsLevel v
+  pub depth_is : kept ≡ min (depth v) (2 ^ 32 - 1)
 
 -- a number that is greater than that of each value inside
 abbrev mutual

@@ -45,35 +45,30 @@ fn size_of_members(members: &[Member]) -> u64
 
 /// How deep lists and objects nest, which is 0 for the other values; the greatest number where that
 /// is greater still. It takes no memory.
-#[cycle(depth)]
 pub fn depth(value: &Json) -> u32
     ensures { result ≡ min (depth value.now) (2 ^ 32 - 1) }
 {
-    match value.node() {
-        Node::List(items) => depth_of_items(items).saturating_add(1),
-        Node::Object(members) => depth_of_members(members).saturating_add(1),
-        _ => 0,
-    }
+    value.depth()
 }
 
-#[cycle(depth)]
-fn depth_of_items(items: &[Json]) -> u32
+/// The greatest depth of the items.
+pub(crate) fn depth_of_items(items: &[Json]) -> u32
     ensures { result ≡ min (depth_items (items_of items.now)) (2 ^ 32 - 1) }
 {
     let mut most: u32 = 0;
     for item in items {
-        most = most.max(depth(item));
+        most = most.max(item.depth());
     }
     most
 }
 
-#[cycle(depth)]
-fn depth_of_members(members: &[Member]) -> u32
+/// The greatest depth of the members' values.
+pub(crate) fn depth_of_members(members: &[Member]) -> u32
     ensures { result ≡ min (depth_members (members_of members.now)) (2 ^ 32 - 1) }
 {
     let mut most: u32 = 0;
     for member in members {
-        most = most.max(depth(&member.value));
+        most = most.max(member.value.depth());
     }
     most
 }

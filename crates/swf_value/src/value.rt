@@ -2,6 +2,7 @@
 ghost use Rattle.std.specs.Prelude.{◌≡◌, ◌↔◌, IfOk, IsTrue, option_map, chars};
 
 use crate::copy::copy_node;
+use crate::measure::{depth_of_items, depth_of_members};
 use crate::members;
 use crate::order::compare;
 use crate::text::Text;
@@ -13,6 +14,8 @@ use std::marker::Model;
 #[derive(Drop)]
 pub struct Json {
     node: Node,
+    /// How deep lists and objects nest in it; the greatest number where that is greater still.
+    depth: u32,
 }
 
 /// One level of a value.
@@ -45,12 +48,11 @@ impl Model for Json {
 
     ghost coded = { value_code };
 
-    ghost use Rattle.swf_value.specs.Value.{IsLevel};
-    ghost use Rattle.swf_value.specs.Node.{node_value, weight};
+    ghost use Rattle.swf_value.specs.Node.{node_value, weight, IsKept};
 
     ghost view = { λ j. node_value j.node };
 
-    ghost invariant = { λ j. IsLevel (node_value j.node) };
+    ghost invariant = { λ j. IsKept j.depth (node_value j.node) };
 
     ghost size = { weight };
 
@@ -60,15 +62,18 @@ impl Model for Json {
 }
 
 impl Json {
-    ghost use Rattle.std.specs.Prelude.{chars};
-    ghost use Rattle.swf_value.specs.Value.{Value as JsonValue, null, boolean, int, text, list, object, InRange, Ascending, IsLevel};
+    ghost use Rattle.std.specs.Prelude.{◌-◌, ◌^◌, min, chars};
+    ghost use Rattle.swf_value.specs.Value.{Value as JsonValue, null, boolean, int, text, list, object, InRange, Ascending, IsLevel, depth};
     ghost use Rattle.swf_value.specs.Node.{node_value, items_of, members_of};
     ghost use Rattle.swf_value.specs.Members.{member_at};
 
     pub fn null() -> Json
         ensures { result ≡ null }
     {
-        Json { node: Node::Null }
+        Json {
+            node: Node::Null,
+            depth: 0,
+        }
     }
 
     pub fn boolean(value: bool) -> Json
@@ -76,6 +81,7 @@ impl Json {
     {
         Json {
             node: Node::Bool(value),
+            depth: 0,
         }
     }
 
@@ -86,6 +92,7 @@ impl Json {
     {
         Json {
             node: Node::Int(value),
+            depth: 0,
         }
     }
 
@@ -94,14 +101,17 @@ impl Json {
     {
         Json {
             node: Node::Text(value),
+            depth: 0,
         }
     }
 
     pub fn list(items: Vec<Json>) -> Json
         ensures { result ≡ list (items_of items.items) }
     {
+        let depth = depth_of_items(&items).saturating_add(1);
         Json {
             node: Node::List(items),
+            depth,
         }
     }
 
@@ -110,9 +120,18 @@ impl Json {
         requires { Ascending (members_of members.items) }
         ensures { result ≡ object (members_of members.items) }
     {
+        let depth = depth_of_members(&members).saturating_add(1);
         Json {
             node: Node::Object(members),
+            depth,
         }
+    }
+
+    /// How deep lists and objects nest in it; the greatest number where that is greater still.
+    pub(crate) fn depth(&self) -> u32
+        ensures { result ≡ min (depth self.now) (2 ^ 32 - 1) }
+    {
+        self.depth
     }
 
     /// The level at the top.
@@ -154,6 +173,9 @@ impl Json {
         ensures { IfOk result (λ v. v ≡ self.now) }
     {
         let node = copy_node(alloc, &self.node)?;
-        Ok(Json { node })
+        Ok(Json {
+            node,
+            depth: self.depth,
+        })
     }
 }

@@ -1,4 +1,3 @@
-use Rattle.std.proofs.Common.{◌≡◌, subst, List, ℕ, IfOk, Result}
 use Rattle.swf_value.proofs.SameLemmas.{chars_ascii}
 use Rattle.swf_value.proofs.words.word.Goals as goal
 
