@@ -1,0 +1,34 @@
+-- What an evaluation shows: nothing but the limit where it takes more turns than are allowed.
+use Rattle.std.specs.Prelude.{List, [], ◌∷◌, map, reverse, nat_lt, if◌then◌else◌}
+use Rattle.swf_value.specs.Value.{Value, null}
+use Rattle.swf_jq_eval.specs.declared.vars.Variable.{Variable}
+use Rattle.swf_jq_eval.specs.declared.evaluate.End.{End}
+use Rattle.swf_jq_eval.specs.declared.evaluate.End.TheVariants as ends
+use Rattle.swf_jq_eval.specs.declared.evaluate.First.{First}
+use Rattle.swf_jq_eval.specs.declared.evaluate.First.TheVariants as firsts
+use Rattle.swf_jq_eval.specs.Run.{Ending, clean, raised, Run}
+use Rattle.swf_jq_eval.specs.Outputs.{Scope}
+use Rattle.swf_jq_eval.specs.Frames.{limit}
+
+-- the names and values that are given, of which the last of a name counts
+abbrev pub scope_from : List Variable → Scope
+scope_from vs = map (λ x. (x.name, x.value)) (reverse vs)
+
+abbrev pub end_for : Ending → End
+end_for clean = ends.Clean
+end_for (raised m) = ends.Raised m
+
+abbrev pub values_shown : Run → List Value
+values_shown s = if nat_lt limit s.turns then [] else s.values
+
+abbrev pub end_shown : Run → End
+end_shown s = if nat_lt limit s.turns then ends.Limit else end_for s.end
+
+-- the first output, and where there is none null or what is raised
+abbrev pub first_in : List Value → Ending → First
+first_in (v ∷ vs) e = firsts.Value v
+first_in [] clean = firsts.Value null
+first_in [] (raised m) = firsts.Raised m
+
+abbrev pub first_shown : Run → First
+first_shown s = if nat_lt limit s.turns then firsts.Limit else first_in s.values s.end

@@ -1,0 +1,17 @@
+pub mod Operations
+pub mod Builtins
+pub mod Word
+pub mod Shared
+pub mod SharedFalls
+pub mod Run
+pub mod Outputs
+pub mod Frames
+pub mod VariableCode
+pub mod Evaluate
+pub mod Look
+pub mod Measure
+pub mod Outcome
+pub mod MapMembers
+pub mod Caps
+pub mod Answers
+pub mod Single
