@@ -11,6 +11,8 @@ mod words;
 pub use session::swf_run;
 
 #[cfg(test)]
+mod expression_tests;
+#[cfg(test)]
 mod parse_tests;
 #[cfg(test)]
 mod tests;
