@@ -1,19 +1,21 @@
 //! The store of the engine: three files, what a read of them gives, and what a stop may leave of them.
 #![tactic(auto)]
 
+mod bytes;
 mod call;
 mod failed;
 mod files;
 mod image;
 mod memory;
 mod replay;
+mod said;
 mod store;
-#[cfg(test)]
-mod tests;
 
+pub use bytes::Bytes;
 pub use call::Call;
 pub use failed::{Failed, OutOfMemory, StoreFault};
 pub use files::FileStore;
-pub use image::{Bytes, File, Image};
+pub use image::{File, Image};
 pub use memory::MemoryStore;
+pub use said::Piece;
 pub use store::Store;

@@ -1,5 +1,5 @@
 use Rattle.std.proofs.Common.{length}
-use Rattle.swf_store.proofs.Chain.{same_in_is_torn}
+use Rattle.swf_store.specs.Laws.{same_in_is_torn}
 use Rattle.swf_store.proofs.files.FileStoreStore.write_at.Goals as goal
 
 pub returns-clause-stop : goal.returns-clause-stop
