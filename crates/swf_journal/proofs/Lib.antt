@@ -1,6 +1,5 @@
 mod AppendLemmas
 pub mod FrameLemmas
 mod HeadLemmas
-pub mod Moments
 pub mod OpenLemmas
 pub mod StandsLemmas

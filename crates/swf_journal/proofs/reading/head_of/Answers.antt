@@ -3,7 +3,7 @@ use Rattle.std.specs.Int.{from_be_bytes}
 use Rattle.std.proofs.lemmas.List.{take_rest, get_or-drop}
 use Rattle.swf_journal.specs.Frames.{open_gate}
 use Rattle.swf_journal.proofs.HeadLemmas.{spelled}
-use Rattle.swf_journal.proofs.open.head_of.Goals as goal
+use Rattle.swf_journal.proofs.reading.head_of.Goals as goal
 
 pub returns-else-len-lt8 : goal.returns-else-len-lt8
 returns-else-len-lt8 c =

@@ -2,7 +2,7 @@ use Rattle.std.proofs.Common.{◌≡◌, List, ℕ, length, min, subst, arith}
 use Rattle.std.specs.Prelude.{◌↔◌, IsTrue}
 use Rattle.swf_journal.specs.Frames.{header}
 use Rattle.swf_journal.proofs.HeadLemmas.{read_is}
-use Rattle.swf_journal.proofs.open.has_header.Goals as goal
+use Rattle.swf_journal.proofs.header.has_header.Goals as goal
 
 pub returns-clause-header : goal.returns-clause-header
 returns-clause-header g c = λ image seen.
