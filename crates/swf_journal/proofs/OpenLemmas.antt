@@ -6,7 +6,7 @@ use Rattle.std.proofs.lemmas.List.{append_assoc, take-append-drop, drop_more, ta
 use Rattle.swf_store.specs.declared.image.File.{File}
 use Rattle.swf_store.specs.declared.image.File.TheVariants.{Journal}
 use Rattle.swf_store.specs.declared.image.Image.{Image}
-use Rattle.swf_store.specs.Disk.{TornIn}
+use Rattle.swf_store.specs.Disk.{TornIn, Only}
 use Rattle.swf_store.specs.Files.{bytes_of, with_bytes}
 use Rattle.swf_store.specs.Put.{put}
 use Rattle.swf_journal.specs.declared.reading.Head.TheVariants.{Shut, Cut, Open}
@@ -154,6 +154,10 @@ begun_holds journal frames (inr long) = subst (λ (l : List ℕ). IsShutAfter he
 
 pub keeps_itself : (image : Image) → KeepsFrames image image
 keeps_itself image = record { others = refl; stands = λ frames stands. stands }
+
+-- where a stop leaves the image alone
+pub only_keeps : (image : Image) (may_leave : Image → Type 0) → Only image may_leave → (left : Image) → may_leave left → KeepsFrames image left
+only_keeps image may_leave only left now = subst (KeepsFrames image) (sym (only left now)) (keeps_itself image)
 
 -- a journal that is too short stands for no frames, however its header is torn
 pub keeps_short : (image left : Image) → length image.journal < 25 → left ≡ with_bytes image Journal left.journal → length left.journal < 25 → KeepsFrames image left
