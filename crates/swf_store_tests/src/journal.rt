@@ -1,10 +1,10 @@
-// What no clause says of the journal: that calls succeed, its bytes, damage by example, and stops at each call.
+// The journal: that calls succeed, its bytes, damage by example, and stops at each call.
 ghost use Rattle.std.specs.Prelude.{IfOk};
 ghost use Rattle.swf_journal.specs.Place.{IsJournalOf};
 
-use crate::{Journal, OpenFault, begin, build};
 use std::alloc::Global;
 use std::test::Fail;
+use swf_journal::{Journal, OpenFault, begin, build};
 use swf_store::{Bytes, File, Image, MemoryStore, Store};
 
 const BODY: [u8; 13] = [0, 0, 0, 1, 5, 0, 0, 0, 0, 0, 0, 3, 0xE8];
@@ -21,9 +21,12 @@ const WRONG_HEADER: [u8; 25] = *b"TWFJRNL1\0\0\0\0\0\0\0\0\0\0\0\0\0\0\0\0\x64";
 // The length is one more than the body and its next gate.
 const LONG_FRAME: [u8; 27] = *b"SWFJRNL1\0\0\0\0\0\0\0\0\xA5\0\0\0\0\0\0\0\x02x\0";
 
+// The length is the greatest that there is.
+const LONGEST_FRAME: [u8; 27] = *b"SWFJRNL1\0\0\0\0\0\0\0\0\xA5\xFF\xFF\xFF\xFF\xFF\xFF\xFF\xFFx\0";
+
 // The journal of a store, and how many frames it has.
 fn open<S: Store>(alloc: Global, store: &mut S) -> Result<(Journal, u64), OpenFault>
-    ensures { IfOk result (λ opened. IsJournalOf (S.seen store.new) (S.may_leave store.new) opened.0) }
+    ensures { IfOk result (λ opened. IsJournalOf (S.seen store.new) opened.0) }
 {
     let mut reading = begin(store)?;
     for frames in 0..u64::MAX {
@@ -72,7 +75,7 @@ fn append_frames<S: Store>(alloc: Global, store: &mut S, count: u64) -> Result<S
 
 fn store_with(alloc: Global, journal: &[u8]) -> Result<MemoryStore, Fail> {
     let mut image = Image::empty(alloc);
-    image.journal = Bytes::new(journal.to_vec(alloc)?);
+    image.journal = Bytes::of(journal.to_vec(alloc)?);
     Ok(MemoryStore::new(alloc, image, Vec::new(alloc)))
 }
 
@@ -106,6 +109,7 @@ fn damage_has_its_place(rt: HostRuntime) -> Result<(), Fail> {
         (SHUT_AT_16.as_slice(), Ok(0)),
         (WRONG_HEADER.as_slice(), Err(OpenFault::Damaged { at: 0 })),
         (LONG_FRAME.as_slice(), Err(OpenFault::Damaged { at: 17 })),
+        (LONGEST_FRAME.as_slice(), Err(OpenFault::Damaged { at: 17 })),
         (&[0xA5; 3], Ok(0)),
     ];
     for (bytes, wanted) in cases {
