@@ -6,7 +6,7 @@ use Rattle.std.proofs.lemmas.List.{append_assoc, append-nil, take_at, drop_at, d
 use Rattle.swf_store.specs.declared.image.File.{File}
 use Rattle.swf_store.specs.declared.image.Image.{Image}
 use Rattle.swf_store.specs.Disk.{Torn, TornIn, Only}
-use Rattle.swf_store.specs.Files.{bytes_of, with_bytes}
+use Rattle.swf_store.specs.Files.{bytes_of}
 use Rattle.swf_store.specs.Put.{put}
 use Rattle.swf_store.specs.Laws.{length-put}
 use Rattle.swf_store.proofs.FileLemmas.{bytes_with, with_again, with_same}

@@ -1,5 +1,5 @@
 -- The calls of openings and readings that fail.
-use Rattle.std.proofs.Common.{◌≡◌, ℕ, Bool, nat_lt, Option, List, [], ◌∷◌, ◌++◌, Result, Ok, Err, Vec}
+use Rattle.std.proofs.Common.{◌≡◌, ℕ, Bool, nat_lt, Option, List, [], ◌∷◌, Result, Ok, Err, Vec}
 use Rattle.std.specs.declared.alloc.Global.{Global}
 use Rattle.std.specs.Result.{IsErr}
 use Rattle.swf_store.specs.declared.call.Call.{Call}

@@ -104,7 +104,10 @@ impl Reading {
         ensures ready { (bytes front : List ℕ) (frames : List (List ℕ)) → HasRead bytes self front frames → IsReady bytes result.at front frames }
     {
         let Reading {
-            file, gate, limit, ..
+            file,
+            gate,
+            limit,
+            ..
         } = self;
         Journal::at(file, gate, limit)
     }

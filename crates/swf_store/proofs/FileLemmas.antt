@@ -1,5 +1,5 @@
 -- One file of an image at a time.
-use Rattle.std.proofs.Common.{◌≡◌, ℕ, ◌+◌, List, length, max, refl}
+use Rattle.std.proofs.Common.{◌≡◌, ℕ, List, refl}
 use Rattle.swf_store.specs.declared.image.File.{File}
 use Rattle.swf_store.specs.declared.image.File.TheVariants.{Journal, Snap0, Snap1}
 use Rattle.swf_store.specs.declared.image.Image.{Image}

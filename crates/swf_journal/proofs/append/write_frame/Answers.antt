@@ -1,4 +1,4 @@
-use Rattle.std.proofs.Common.{◌≡◌, ◌∙◌, ◌+◌, ◌≤◌, ◌^◌, ◌<◌, ◌++◌, [], ◌∷◌, List, ℕ, Some, length, sym, ap, subst, arith}
+use Rattle.std.proofs.Common.{◌≡◌, ◌∙◌, ◌+◌, ◌≤◌, ◌^◌, ◌<◌, [], ◌∷◌, List, ℕ, Some, length, sym, ap, subst, arith}
 use Rattle.std.specs.Prelude.{is_some}
 use Rattle.swf_store.specs.declared.call.Call.{Call}
 use Rattle.swf_store.specs.declared.call.Call.TheVariants.{Write, Sync}

@@ -1,4 +1,4 @@
-use Rattle.std.proofs.Common.{◌≡◌, ◌∙◌, ◌++◌, ◌<◌, ◌≤◌, [], ◌∷◌, List, ℕ, true, false, Some, length, take, max, sym, ap, subst, arith, rules}
+use Rattle.std.proofs.Common.{◌≡◌, ◌∙◌, ◌++◌, ◌<◌, ◌≤◌, [], ◌∷◌, List, ℕ, true, false, Some, length, take, ap, subst, arith, rules}
 use Rattle.std.specs.Prelude.{is_some}
 use Rattle.swf_store.specs.declared.call.Call.TheVariants.{Size, Read, Write, Sync}
 use Rattle.swf_store.specs.declared.image.File.TheVariants.{Journal}
@@ -8,7 +8,7 @@ use Rattle.swf_store.proofs.CallLemmas.{begins_one, begins_after, begins_all, do
 use Rattle.swf_store.proofs.Moments.{goes_on_only, weaker_only}
 use Rattle.swf_journal.specs.Frames.{header}
 use Rattle.swf_journal.specs.JournalCalls.{header_calls}
-use Rattle.swf_journal.specs.Opening.{begun, KeepsFrames}
+use Rattle.swf_journal.specs.Opening.{KeepsFrames}
 use Rattle.swf_journal.specs.Place.{Place}
 use Rattle.swf_journal.proofs.JournalCallLemmas.{header_failed}
 use Rattle.swf_journal.proofs.OpenLemmas.{only_keeps, header_torn, put_header, begun_reading, length-begun, read_new, read_old}

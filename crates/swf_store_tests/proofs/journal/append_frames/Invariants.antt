@@ -1,4 +1,3 @@
-use Rattle.std.proofs.Common.{◌≡◌, ◌≤◌, length}
 use Rattle.swf_journal.specs.Place.{IsJournalOf}
 use Rattle.swf_store_tests.proofs.journal.append_frames.Given as goal
 
