@@ -1,2 +1,4 @@
+pub mod EpochLaws
+pub mod Epochs
 pub mod Taken
 pub mod Turns

@@ -1,5 +1,5 @@
 // Where inputs come from, and where replies go.
-ghost use Rattle.std.specs.Prelude.{◌≡◌, ℕ, List, Option, length};
+ghost use Rattle.std.specs.Prelude.{◌≡◌, ℕ, List, Option, length, IfOk};
 ghost use Rattle.std.specs.Option.{ForSome};
 ghost use Rattle.swf_store.specs.Disk.{NothingNew};
 ghost use Rattle.swf_store.specs.Faults.{HasCause};
@@ -8,6 +8,7 @@ ghost use Rattle.swf_store.specs.Stops.{Elapses, ElapsesSilent};
 ghost use Rattle.swf_host.specs.declared.host.Input.{Input as Came};
 ghost use Rattle.swf_host.specs.Taken.{after_next};
 
+use std::alloc::{AllocError, Global};
 use swf_store::{Bytes, Failed, Store};
 
 /// What comes from outside.
@@ -19,6 +20,18 @@ pub enum Input {
     TooLong(u64),
     /// Nothing comes any more.
     Closed,
+}
+
+impl Input {
+    pub fn copy(&self, alloc: Global) -> Result<Input, AllocError>
+        ensures { IfOk result (λ input. input ≡ self.now) }
+    {
+        Ok(match self {
+            Input::Ask(conn, bytes) => Input::Ask(*conn, bytes.copy(alloc)?),
+            Input::TooLong(conn) => Input::TooLong(*conn),
+            Input::Closed => Input::Closed,
+        })
+    }
 }
 
 /// A source of inputs and a sink of replies, beside a store. Its own calls change nothing of the store.

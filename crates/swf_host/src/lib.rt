@@ -2,7 +2,11 @@
 #![tactic(auto)]
 
 mod host;
+mod script;
+mod spoke;
 mod turn;
 
 pub use host::{Host, Input};
+pub use script::ScriptHost;
+pub use spoke::Spoke;
 pub use turn::{TurnFault, append_then_say, two_turns};

@@ -1,7 +1,9 @@
-//! Tests of the store and the journal: what no clause says of them.
+//! Tests of the store, the journal and turns over a host: what no clause says of them.
 #![tactic(auto)]
 
 #[cfg(test)]
 mod journal;
 #[cfg(test)]
 mod store;
+#[cfg(test)]
+mod turns;
