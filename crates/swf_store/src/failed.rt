@@ -1,5 +1,6 @@
 // How a call of a store fails.
 use std::alloc::{AllocError, AllocFailed};
+use std::io;
 use thiserror::Error;
 
 /// A call of a store that was not done. The store's count of faults tells that there was one.
@@ -36,5 +37,11 @@ pub enum StoreFault {
 impl From<AllocError> for StoreFault {
     fn from(_: AllocError) -> Self {
         StoreFault::OutOfMemory
+    }
+}
+
+impl From<io::Error> for StoreFault {
+    fn from(_: io::Error) -> Self {
+        StoreFault::Failed
     }
 }

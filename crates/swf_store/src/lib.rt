@@ -6,6 +6,7 @@ mod failed;
 mod files;
 mod image;
 mod memory;
+mod opened;
 mod replay;
 mod store;
 #[cfg(test)]

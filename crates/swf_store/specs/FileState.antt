@@ -1,0 +1,19 @@
+-- A store over files: which of its files stands for which, and how many of its calls have failed.
+use Rattle.std.specs.Prelude.{ℕ, ◌+◌}
+use Rattle.swf_store.specs.declared.files.Folder.{Folder}
+use Rattle.swf_store.specs.declared.files.State.{State}
+use Rattle.swf_store.specs.declared.files.State.TheVariants.{Open, Closed}
+use Rattle.swf_store.specs.declared.image.File.{File}
+use Rattle.swf_store.specs.declared.image.File.TheVariants.{Journal, Snap0, Snap1}
+use Rattle.swf_store.specs.declared.opened.Opened.{Opened}
+
+-- the call that closed the files, and those since
+abbrev pub faults_of : {F : Type 0} → State F → ℕ
+faults_of (Open _) = 0
+faults_of (Closed later) = later + 1
+
+-- the open file that stands for a file of the store
+abbrev pub opened_as : {F : Type 0} → Folder F → File → Opened F
+opened_as folder Journal = folder.journal
+opened_as folder Snap0 = folder.snap0
+opened_as folder Snap1 = folder.snap1
