@@ -1,5 +1,5 @@
--- A store over files: which of its files stands for which, and how many of its calls have failed.
-use Rattle.std.specs.Prelude.{ℕ, ◌+◌}
+-- A store over files: which open file stands for which, how many calls have failed, and what a sync has made sure of.
+use Rattle.std.specs.Prelude.{◌≡◌, ℕ, ◌+◌, false}
 use Rattle.swf_store.specs.declared.files.Folder.{Folder}
 use Rattle.swf_store.specs.declared.files.State.{State}
 use Rattle.swf_store.specs.declared.files.State.TheVariants.{Open, Closed}
@@ -17,3 +17,12 @@ abbrev pub opened_as : {F : Type 0} → Folder F → File → Opened F
 opened_as folder Journal = folder.journal
 opened_as folder Snap0 = folder.snap0
 opened_as folder Snap1 = folder.snap1
+
+-- no file holds what no sync has made sure of
+abbrev pub AllSynced : {F : Type 0} → Folder F → Type 0
+AllSynced folder = (folder.journal.unsynced ≡ false) × (folder.snap0.unsynced ≡ false) × (folder.snap1.unsynced ≡ false)
+
+-- the same of files that are open
+abbrev pub IsSynced : {F : Type 0} → State F → Type 0
+IsSynced (Open folder) = AllSynced folder
+IsSynced (Closed _) = Unit {0}

@@ -1,7 +1,7 @@
 // A store over three files of a folder. It tells nothing of what they hold.
-ghost use Rattle.std.specs.Prelude.{◌≡◌, ◌<◌, ◌≤◌, length, IfOk, Ok, Err};
+ghost use Rattle.std.specs.Prelude.{◌≡◌, ◌<◌, ◌≤◌, false, length, IfOk, IsErr, Ok, OnOk};
 ghost use Rattle.swf_store.specs.Faults.{HasCause};
-ghost use Rattle.swf_store.specs.FileState.{faults_of, opened_as};
+ghost use Rattle.swf_store.specs.FileState.{faults_of, opened_as, AllSynced, IsSynced};
 
 use crate::opened::Opened;
 use crate::{Failed, File, Store, StoreFault};
@@ -43,7 +43,8 @@ where
     pub fn in_folder(rt: R, alloc: Global, folder: &str) -> Result<FileStore<R>, StoreFault>
     where
         R: Drop,
-        ensures { IfOk result (λ store. faults_of store.state ≡ 0) }
+        ensures open { IfOk result (λ store. faults_of store.state ≡ 0) }
+        ensures synced { IfOk result (λ store. IsSynced store.state) }
     {
         let folder = if folder.is_empty() { "." } else { folder };
         let files = Folder {
@@ -61,6 +62,7 @@ where
     fn settle<T: Drop>(&mut self, outcome: io::Result<T>) -> Result<T, Failed>
         ensures cause { HasCause (faults_of self.old.state) (faults_of self.new.state) result }
         ensures value { IfOk result (λ value. outcome ≡ Ok value) }
+        ensures kept { OnOk result (self.new.state ≡ self.old.state) }
     {
         match outcome {
             Ok(value) => Ok(value),
@@ -86,7 +88,9 @@ impl<F: OpenFile + FileExt + AsRawFd + Drop> Folder<F> {
         }
     }
 
-    fn sync(&mut self) -> io::Result<()> {
+    fn sync(&mut self) -> io::Result<()>
+        ensures { OnOk result (AllSynced self.new) }
+    {
         self.journal.sync()?;
         self.snap0.sync()?;
         self.snap1.sync()
@@ -98,9 +102,15 @@ fn closed() -> io::Error {
     ErrorKind::NotConnected.into()
 }
 
-fn open_in<R: Files>(rt: &R, alloc: Global, folder: &str, name: &str) -> Result<Opened<R::File>, StoreFault>
+fn open_in<R: Files>(
+    rt: &R,
+    alloc: Global,
+    folder: &str,
+    name: &str,
+) -> Result<Opened<R::File>, StoreFault>
 where
     R::File: FileExt + AsRawFd,
+    ensures { IfOk result (λ opened. opened.unsynced ≡ false) }
 {
     let path = format!(in alloc; "{folder}/{name}")?;
     Ok(Opened::at(rt, path.as_str())?)
@@ -137,7 +147,10 @@ where
 
     ghost reads_may_be_left = { λ _ _ _. tt };
 
-    fn size(&mut self, file: File) -> Result<u64, Failed> {
+    fn size(&mut self, file: File) -> Result<u64, Failed>
+        ensures cause { HasCause (faults_of self.old.state) (faults_of self.new.state) result }
+        ensures ended { 0 < faults_of self.old.state → IsErr result }
+    {
         let outcome = match &mut self.state {
             State::Open(folder) => folder.file(file).size(),
             State::Closed(_) => Err(closed()),
@@ -145,7 +158,11 @@ where
         self.settle(outcome)
     }
 
-    fn read_at(&mut self, file: File, at: u64, into: &mut [u8]) -> Result<usize, Failed> {
+    fn read_at(&mut self, file: File, at: u64, into: &mut [u8]) -> Result<usize, Failed>
+        ensures bound { IfOk result (λ n. n ≤ length into.old) }
+        ensures cause { HasCause (faults_of self.old.state) (faults_of self.new.state) result }
+        ensures ended { 0 < faults_of self.old.state → IsErr result }
+    {
         let outcome = match &mut self.state {
             State::Open(folder) => folder.file(file).read_at(at, into),
             State::Closed(_) => Err(closed()),
@@ -153,7 +170,10 @@ where
         self.settle(outcome)
     }
 
-    fn write_at(&mut self, file: File, at: u64, bytes: &[u8]) -> Result<(), Failed> {
+    fn write_at(&mut self, file: File, at: u64, bytes: &[u8]) -> Result<(), Failed>
+        ensures cause { HasCause (faults_of self.old.state) (faults_of self.new.state) result }
+        ensures ended { 0 < faults_of self.old.state → IsErr result }
+    {
         let outcome = match &mut self.state {
             State::Open(folder) => folder.file(file).write_at(at, bytes),
             State::Closed(_) => Err(closed()),
@@ -161,7 +181,11 @@ where
         self.settle(outcome)
     }
 
-    fn sync(&mut self) -> Result<(), Failed> {
+    fn sync(&mut self) -> Result<(), Failed>
+        ensures synced { OnOk result (IsSynced self.new.state) }
+        ensures cause { HasCause (faults_of self.old.state) (faults_of self.new.state) result }
+        ensures ended { 0 < faults_of self.old.state → IsErr result }
+    {
         let outcome = match &mut self.state {
             State::Open(folder) => folder.sync(),
             State::Closed(_) => Err(closed()),

@@ -1,5 +1,5 @@
 // One open file of a folder, as a store holds it: opened safely, locked, and read and written whole.
-ghost use Rattle.std.specs.Prelude.{◌≤◌, length, IfOk};
+ghost use Rattle.std.specs.Prelude.{◌≡◌, ◌≤◌, true, false, length, IfOk, OnOk};
 
 use std::fs::{Files, OpenFile, OpenOptions, Permissions};
 use std::io::{self, Error, ErrorKind};
@@ -17,7 +17,9 @@ pub(crate) struct Opened<F> {
 
 impl<F: OpenFile + FileExt + AsRawFd + Drop> Opened<F> {
     // Opens a file, or makes it, for this process and the owner alone. Reads give what the disk has.
-    pub(crate) fn at<R: Files<File = F>>(rt: &R, path: &str) -> io::Result<Opened<F>> {
+    pub(crate) fn at<R: Files<File = F>>(rt: &R, path: &str) -> io::Result<Opened<F>>
+        ensures { IfOk result (λ opened. opened.unsynced ≡ false) }
+    {
         let mut file = open_or_make(rt, path)?;
         // What is meant for a standard stream that is closed must not land in the file.
         if file.as_raw_fd() <= 2 {
@@ -32,13 +34,23 @@ impl<F: OpenFile + FileExt + AsRawFd + Drop> Opened<F> {
         if found.mode() & 0o7777 != OWNER_ALONE {
             file.set_permissions(Permissions::from_mode(OWNER_ALONE))?;
         }
-        // Pages that a failed sync of an earlier run left may differ from the disk, and count as clean.
-        file.sync_all()?;
-        again(|| drop_pages(file.as_raw_fd()))?;
-        Ok(Opened {
+        let mut opened = Opened {
             file,
-            unsynced: false,
-        })
+            unsynced: true,
+        };
+        opened.make_sure()?;
+        Ok(opened)
+    }
+
+    // Makes sure that the disk has what earlier runs wrote, and that reads give what the disk has: pages that a sync of
+    // theirs could not write count as clean.
+    fn make_sure(&mut self) -> io::Result<()>
+        ensures { OnOk result (self.new.unsynced ≡ false) }
+    {
+        self.file.sync_all()?;
+        again(|| drop_pages(self.file.as_raw_fd()))?;
+        self.unsynced = false;
+        Ok(())
     }
 
     pub(crate) fn size(&self) -> io::Result<u64> {
@@ -54,12 +66,16 @@ impl<F: OpenFile + FileExt + AsRawFd + Drop> Opened<F> {
         Ok(count)
     }
 
-    pub(crate) fn write_at(&mut self, at: u64, bytes: &[u8]) -> io::Result<()> {
+    pub(crate) fn write_at(&mut self, at: u64, bytes: &[u8]) -> io::Result<()>
+        ensures { self.new.unsynced ≡ true }
+    {
         self.unsynced = true;
         self.file.write_all_at(bytes, at)
     }
 
-    pub(crate) fn sync(&mut self) -> io::Result<()> {
+    pub(crate) fn sync(&mut self) -> io::Result<()>
+        ensures { OnOk result (self.new.unsynced ≡ false) }
+    {
         if self.unsynced {
             self.file.sync_data()?;
             self.unsynced = false;
@@ -71,7 +87,11 @@ impl<F: OpenFile + FileExt + AsRawFd + Drop> Opened<F> {
 // Opens a regular file that stands at a path, or makes one; a link is not followed.
 fn open_or_make<R: Files>(rt: &R, path: &str) -> io::Result<R::File> {
     let mut options = OpenOptions::new();
-    options.read(true).write(true).create_new(true).mode(OWNER_ALONE);
+    options
+        .read(true)
+        .write(true)
+        .create_new(true)
+        .mode(OWNER_ALONE);
     match options.open(rt, path) {
         Err(error) if error.kind() == ErrorKind::AlreadyExists => {
             // To open a pipe or a device may act on it.
