@@ -1,23 +1,12 @@
 -- One call more of a store in memory: what it makes of the files, and what a stop may leave.
 use Rattle.std.proofs.Common.{◌≡◌, ℕ, suc, ◌+◌, ◌≤◌, List, [], ◌∷◌, ◌++◌, length, refl, sym, ◌∙◌, ap, subst, arith}
-use Rattle.std.proofs.lemmas.List.{take_all, take-append-le, take_min}
+use Rattle.std.proofs.lemmas.List.{take_all, take-append-le}
 use Rattle.swf_store.specs.declared.call.Call.{Call}
-use Rattle.swf_store.specs.declared.image.File.{File}
-use Rattle.swf_store.specs.declared.image.File.TheVariants.{Journal, Snap0, Snap1}
 use Rattle.swf_store.specs.declared.image.Image.{Image}
 use Rattle.swf_store.specs.declared.replay.Change.{Change}
-use Rattle.swf_store.specs.Disk.{Torn, TornIn}
+use Rattle.swf_store.specs.Disk.{TornIn}
 use Rattle.swf_store.specs.Memory.{Memory, state_of, state_after, and_listed, fails_next}
 use Rattle.swf_store.specs.Replay.{Writing, IsTornBy, and_write, whole, step, is_in, replay}
-
--- a write that changes nothing is torn too
-pub same_is_torn : (bytes : List ℕ) (at n : ℕ) → Torn at n bytes bytes
-same_is_torn bytes at n = record { before = take_min at bytes; after = refl; no_shorter = omega arith; no_longer = omega arith }
-
-pub same_in_is_torn : (file : File) (at n : ℕ) (image : Image) → TornIn file at n image image
-same_in_is_torn Journal at n image = record { torn = same_is_torn image.journal at n; others = refl }
-same_in_is_torn Snap0 at n image = record { torn = same_is_torn image.snap0 at n; others = refl }
-same_in_is_torn Snap1 at n image = record { torn = same_is_torn image.snap1 at n; others = refl }
 
 -- writes one after another
 pub torn_append : (old between new : Image) (before after : List Change) → IsTornBy old before between → IsTornBy between after new → IsTornBy old (before ++ after) new

@@ -7,19 +7,18 @@ use Rattle.std.proofs.lemmas.List.Elements.{All-from_recursion}
 use Rattle.swf_store.specs.declared.image.Image.{Image}
 use Rattle.swf_store.specs.declared.replay.Change.{Change}
 use Rattle.swf_store.specs.declared.replay.Harm.{Harm}
-use Rattle.swf_store.specs.declared.replay.Harm.TheVariants.{Absent, Cut, Filled}
+use Rattle.swf_store.specs.declared.replay.Harm.TheVariants.{Turned, Cut, Filled}
 use Rattle.swf_store.specs.Disk.{Torn, TornIn}
 use Rattle.swf_store.specs.Files.{bytes_of, with_bytes}
 use Rattle.swf_store.specs.Images.{harmed_by, with_harm, harmed, images_of}
-use Rattle.swf_store.specs.Laws.{put_in_is_torn, whole_is_torn}
+use Rattle.swf_store.specs.Laws.{put_in_is_torn, and_write_is_torn, whole_is_torn}
 use Rattle.swf_store.specs.Put.{put}
-use Rattle.swf_store.specs.Replay.{Writing, IsTornBy, IsLeft, whole}
-use Rattle.swf_store.proofs.Chain.{same_in_is_torn, torn_append, whole_append}
+use Rattle.swf_store.specs.Replay.{Writing, IsTornBy, IsLeft, and_write, whole}
+use Rattle.swf_store.proofs.Chain.{torn_append, whole_append}
 
 pub with_harm_is : (synced : Image) (before : List Change) (change : Change) (after : List Change) (harm : Harm)
-    → whole (whole (whole synced before) (harmed_by harm change)) after ≡ with_harm synced before change after harm
-with_harm_is synced before change after harm =
-    sym (whole_append synced (before ++ harmed_by harm change) after ∙ ap (λ (i : Image). whole i after) (whole_append synced before (harmed_by harm change)))
+    → whole (and_write (whole synced before) (harmed_by harm change)) after ≡ with_harm synced before change after harm
+with_harm_is synced before change after harm = sym (whole_append synced before (harmed_by harm change ∷ after))
 
 -- the parts of a list one element on
 pub one_on : (number : ℕ) (all : List Change) (x : Change) (rest : List Change) → x ∷ rest ≡ drop number all → (rest ≡ drop (number + 1) all) × (take (number + 1) all ≡ take number all ++ x ∷ [])
@@ -48,8 +47,8 @@ wider at m n old new le torn = record {
         let sum : at + m + (n - m) ≡ at + n = omega arith in
         ap (λ k. drop k l) (sym sum) ∙ sym (drop-drop (n - m) (at + m) l)
 
-harm_is_torn : (old : Image) (change : Change) (harm : Harm) → TornIn change.file change.at (length change.bytes) old (whole old (harmed_by harm change))
-harm_is_torn old change Absent = same_in_is_torn change.file change.at (length change.bytes) old
+harm_is_torn : (old : Image) (change : Change) (harm : Harm) → TornIn change.file change.at (length change.bytes) old (and_write old (harmed_by harm change))
+harm_is_torn old change Turned = and_write_is_torn old (harmed_by Turned change)
 harm_is_torn old change Cut =
     let half = take (length change.bytes / 2) change.bytes in
     let cut = put_in_is_torn old change.file change.at half in
@@ -66,7 +65,7 @@ harm_is_torn old change Filled =
 with_harm_is_left : (synced : Image) (before : List Change) (change : Change) (after : List Change) (harm : Harm) → IsTornBy synced (before ++ change ∷ after) (with_harm synced before change after harm)
 with_harm_is_left synced before change after harm =
     let first = whole synced before in
-    let second = whole first (harmed_by harm change) in
+    let second = and_write first (harmed_by harm change) in
     let all = torn_append synced first (whole second after) before (change ∷ after) (whole_is_torn synced before) (second, harm_is_torn first change harm, whole_is_torn second after) in
     subst (λ i. IsTornBy synced (before ++ change ∷ after) i) (with_harm_is synced before change after harm) all
 
@@ -75,7 +74,7 @@ harmed_are_left synced before [] = tt
 harmed_are_left synced before (change ∷ after) =
     let same : before ++ change ∷ [] ++ after ≡ before ++ (change ∷ after) = append_assoc before (change ∷ []) after in
     let rest = subst (λ (cs : List Change). AllByRecursion (IsTornBy synced cs) (harmed synced (before ++ change ∷ []) after)) same (harmed_are_left synced (before ++ change ∷ []) after) in
-    (with_harm_is_left synced before change after Absent, (with_harm_is_left synced before change after Cut, (with_harm_is_left synced before change after Filled, rest)))
+    (with_harm_is_left synced before change after Turned, (with_harm_is_left synced before change after Cut, (with_harm_is_left synced before change after Filled, rest)))
 
 pub images_are_left : (writing : Writing) → All (IsLeft writing) (images_of writing)
 images_are_left writing =

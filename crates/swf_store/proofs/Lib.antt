@@ -2,4 +2,5 @@ pub mod Chain
 pub mod Clauses
 mod Harmed
 mod Kept
+pub mod Moments
 mod PutLemmas

@@ -5,8 +5,13 @@ use Rattle.std.specs.Prelude.{◌≡◌, ℕ, ◌+◌, ◌-◌, ◌^◌, ◌≤�
 abbrev pub Rose : ℕ → ℕ → Type 0
 Rose before now = min (before + 1) (2 ^ 64 - 1) ≤ now
 
--- the count never falls, it has risen where the call failed, and it stays where the call was done
-pub record HasCause {T E : Type 0} (before now : ℕ) (result : Result T E) : Type 0 where
+-- it has risen by one call
+pub record RoseOnce (before now : ℕ) : Type 0 where
+  pub rose : Rose before now
   pub later : before ≤ now
-  pub failed : OnErr result (Rose before now)
+  pub once : now ≤ before + 1
+
+-- the count has risen by one where the call failed, and it stays where the call was done
+pub record HasCause {T E : Type 0} (before now : ℕ) (result : Result T E) : Type 0 where
+  pub failed : OnErr result (RoseOnce before now)
   pub done : OnOk result (now ≡ before)

@@ -1,17 +1,18 @@
 -- That a store in memory leaves what its reads give, and that its moments are the numbers of its calls.
-use Rattle.std.specs.Prelude.{◌≡◌, ℕ, ◌+◌, ◌-◌, ◌≤◌, min, max, List, [], ◌∷◌, ◌++◌, length, take, drop, replicate, refl, Some}
+use Rattle.std.specs.Prelude.{◌≡◌, ℕ, ◌+◌, ◌-◌, ◌≤◌, min, max, Bool, true, false, List, [], ◌∷◌, ◌++◌, length, take, drop, replicate, if◌then◌else◌, refl, Some}
 use Rattle.std.proofs.Common.{◌∙◌, ap, subst, arith, length-append}
-use Rattle.std.proofs.lemmas.List.{append_assoc, take_at, drop_at, length-take, length-drop, length-replicate}
+use Rattle.std.proofs.lemmas.List.{append_assoc, take_at, take_min, drop_at, length-take, length-drop, length-replicate}
 use Rattle.swf_store.specs.declared.image.File.{File}
 use Rattle.swf_store.specs.declared.image.File.TheVariants.{Journal, Snap0, Snap1}
 use Rattle.swf_store.specs.declared.image.Image.{Image}
 use Rattle.swf_store.specs.declared.replay.Change.{Change}
+use Rattle.swf_store.specs.declared.said.Piece.{Piece}
 use Rattle.swf_store.specs.Disk.{Torn, TornIn}
 use Rattle.swf_store.specs.Files.{bytes_of, with_bytes}
 use Rattle.swf_store.specs.Memory.{Memory, LeftSince, state_of, state_after}
 use Rattle.swf_store.specs.Put.{put}
 use Rattle.swf_store.specs.Replay.{IsTornBy, IsLeft, and_write, whole, reads}
-use Rattle.swf_store.specs.Said.{Piece}
+use Rattle.swf_store.specs.Said.{IsSaid}
 
 pub length-front : (old : List ℕ) (at : ℕ) → length (take at old ++ replicate (at - length old) 0) ≡ at
 length-front old at =
@@ -45,17 +46,34 @@ put_in_is_torn image Journal at bytes = record { torn = put_is_torn image.journa
 put_in_is_torn image Snap0 at bytes = record { torn = put_is_torn image.snap0 bytes at; others = refl }
 put_in_is_torn image Snap1 at bytes = record { torn = put_is_torn image.snap1 bytes at; others = refl }
 
+-- a write that changes nothing is torn too
+pub same_is_torn : (bytes : List ℕ) (at n : ℕ) → Torn at n bytes bytes
+same_is_torn bytes at n = record { before = take_min at bytes; after = refl; no_shorter = omega arith; no_longer = omega arith }
+
+pub same_in_is_torn : (file : File) (at n : ℕ) (image : Image) → TornIn file at n image image
+same_in_is_torn Journal at n image = record { torn = same_is_torn image.journal at n; others = refl }
+same_in_is_torn Snap0 at n image = record { torn = same_is_torn image.snap0 at n; others = refl }
+same_in_is_torn Snap1 at n image = record { torn = same_is_torn image.snap1 at n; others = refl }
+
+-- and so is one that was done or failed
+pub and_write_is_torn : (image : Image) (change : Change) → TornIn change.file change.at (length change.bytes) image (and_write image change)
+and_write_is_torn image change = either change.done
+  where
+    either : (done : Bool) → TornIn change.file change.at (length change.bytes) image (if done then with_bytes image change.file (put (bytes_of image change.file) change.at change.bytes) else image)
+    either true = put_in_is_torn image change.file change.at change.bytes
+    either false = same_in_is_torn change.file change.at (length change.bytes) image
+
 pub whole_is_torn : (image : Image) (changes : List Change) → IsTornBy image changes (whole image changes)
 whole_is_torn image [] = refl
-whole_is_torn image (change ∷ changes) = (and_write image change, put_in_is_torn image change.file change.at change.bytes, whole_is_torn (and_write image change) changes)
+whole_is_torn image (change ∷ changes) = (and_write image change, and_write_is_torn image change, whole_is_torn (and_write image change) changes)
 
-pub counts_now_lem : (memory : Memory) (t : ℕ) (image : Image) → t ≤ length memory.calls → IsLeft (state_of memory) image → LeftSince memory t image []
-counts_now_lem memory t image le left = record { number = length memory.calls; not_before = le; made = omega arith; left = left; silent = refl }
+pub counts_now_lem : (memory : Memory) (t : ℕ) (image : Image) (pieces : List Piece) → t ≤ length memory.calls → IsLeft (state_of memory) image → IsSaid (Some []) pieces → LeftSince memory t image pieces
+counts_now_lem memory t image pieces le left silent = record { number = length memory.calls; not_before = le; made = omega arith; left = left; silent = silent [] refl }
 
-pub only_now_lem : (memory : Memory) (image : Image) (pieces : List Piece) → LeftSince memory (length memory.calls) image pieces → IsLeft (state_of memory) image × (pieces ≡ [])
+pub only_now_lem : (memory : Memory) (image : Image) (pieces : List Piece) → LeftSince memory (length memory.calls) image pieces → IsLeft (state_of memory) image × IsSaid (Some []) pieces
 only_now_lem memory image pieces since =
     let now : since.number ≡ length memory.calls = omega (arith, since.not_before, since.made) in
-    (subst (λ number. IsLeft (state_after memory number) image) now since.left, since.silent)
+    (subst (λ number. IsLeft (state_after memory number) image) now since.left, λ told is. let none : [] ≡ told = cc in since.silent ∙ none)
 
 pub reads_may_be_left_lem : (memory : Memory) (image : Image) → Some (reads (state_of memory)) ≡ Some image → IsLeft (state_of memory) image
 reads_may_be_left_lem memory image given =

@@ -3,7 +3,7 @@ use Rattle.std.specs.Prelude.{◌≡◌, ◌⊎◌, ℕ, zero, suc, ◌+◌, ◌
 use Rattle.swf_store.specs.declared.call.Call.{Call}
 use Rattle.swf_store.specs.declared.image.Image.{Image}
 use Rattle.swf_store.specs.Replay.{Writing, IsLeft, replay, is_in}
-use Rattle.swf_store.specs.Said.{Piece}
+use Rattle.swf_store.specs.declared.said.Piece.{Piece}
 
 pub record Memory : Type 0 where
   pub first : Image

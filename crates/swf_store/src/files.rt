@@ -125,11 +125,12 @@ impl<R: Files> Store for FileStore<R>
 where
     R::File: FileExt + AsRawFd,
 {
-    ghost use Rattle.std.specs.Prelude.{◌≡◌, None, [], refl};
+    ghost use Rattle.std.specs.Prelude.{None};
+    ghost use Rattle.swf_store.specs.Said.{untold};
 
     ghost seen = { λ _. None };
 
-    ghost said = { λ _. [] };
+    ghost said = { λ _. None };
 
     ghost calls = { λ _. None };
 
@@ -139,11 +140,15 @@ where
 
     ghost may_leave = { λ _ _. Unit {0} };
 
-    ghost left_since = { λ _ _ _ pieces. pieces ≡ [] };
+    ghost left_since = { λ _ _ _ _. Unit {0} };
 
-    ghost counts_now = { λ _ _ _ _ _. refl };
+    ghost Beside = { Unit {0} };
 
-    ghost only_now = { λ _ _ _ silent. (tt, silent) };
+    ghost beside = { λ _. tt };
+
+    ghost counts_now = { λ _ _ _ _ _ _ _. tt };
+
+    ghost only_now = { λ _ _ pieces _. (tt, untold pieces) };
 
     ghost reads_may_be_left = { λ _ _ _. tt };
 

@@ -1,62 +1,95 @@
-// The bytes of a file, and the three files of a store as a read gives them or a stop leaves them.
+// The three files of a store, as a read gives them or a stop leaves them.
 ghost use Rattle.std.specs.Prelude.{◌≡◌, ◌≤◌, ◌+◌, ◌-◌, ◌++◌, [], length, take, drop, replicate, IfOk, OnOk, OnErr};
 ghost use Rattle.swf_store.specs.Put.{put};
 ghost use Rattle.swf_store.specs.Files.{bytes_of, with_bytes};
 
+use crate::Bytes;
 use std::alloc::{AllocError, Global};
-use std::marker::Model;
+use std::mem;
 
-/// The bytes of a file. A contract sees their list.
+/// One of the three files of a store.
+#[derive(Clone, Copy, Debug, PartialEq, Eq)]
+pub enum File {
+    Journal,
+    Snap0,
+    Snap1,
+}
+
+/// The bytes of the three files.
 #[derive(Drop)]
-pub struct Bytes {
-    items: Vec<u8>,
+pub struct Image {
+    pub journal: Bytes,
+    pub snap0: Bytes,
+    pub snap1: Bytes,
 }
 
-impl Model for Bytes {
-    ghost use Rattle.std.specs.Prelude.{List, ℕ};
-
-    ghost Value = { List ℕ };
-
-    ghost view = { λ bytes. bytes.items.items };
-}
-
-impl Bytes {
-    pub fn new(items: Vec<u8>) -> Bytes
-        ensures { result ≡ items.items }
+impl Image {
+    /// The image of a store that was never written.
+    pub fn empty(alloc: Global) -> Image
+        ensures { (result.journal ≡ []) × (result.snap0 ≡ []) × (result.snap1 ≡ []) }
     {
-        Bytes { items }
+        Image {
+            journal: Bytes::of(Vec::new(alloc)),
+            snap0: Bytes::of(Vec::new(alloc)),
+            snap1: Bytes::of(Vec::new(alloc)),
+        }
     }
 
-    pub fn into_vec(self) -> Vec<u8>
-        ensures { result.items ≡ self }
+    pub fn copy(&self, alloc: Global) -> Result<Image, AllocError>
+        ensures { IfOk result (λ image. image ≡ self.now) }
     {
-        let Bytes { items } = self;
-        items
+        Ok(Image {
+            journal: self.journal.copy(alloc)?,
+            snap0: self.snap0.copy(alloc)?,
+            snap1: self.snap1.copy(alloc)?,
+        })
     }
 
-    pub fn as_slice(&self) -> &[u8]
-        ensures { result.now ≡ self.now }
+    pub fn file(&self, file: File) -> &[u8]
+        ensures { result.now ≡ bytes_of self.now file }
     {
-        self.items.as_slice()
+        match file {
+            File::Journal => self.journal.as_slice(),
+            File::Snap0 => self.snap0.as_slice(),
+            File::Snap1 => self.snap1.as_slice(),
+        }
     }
 
-    pub fn copy(&self, alloc: Global) -> Result<Bytes, AllocError>
-        ensures { IfOk result (λ bytes. bytes ≡ self.now) }
-    {
-        let items = self.items.to_vec(alloc)?;
-        Ok(Bytes { items })
-    }
-
-    /// Writes over what is there and past the end. A gap gets zeros.
-    pub(crate) fn put(&mut self, at: usize, piece: &[u8]) -> Result<(), AllocError>
-        ensures ok { OnOk result (self.new ≡ put self.old at piece.now) }
+    /// Writes over what a file holds and past its end. A gap gets zeros.
+    pub(crate) fn put(
+        &mut self,
+        alloc: Global,
+        file: File,
+        at: usize,
+        piece: &[u8],
+    ) -> Result<(), AllocError>
+        ensures ok { OnOk result (self.new ≡ with_bytes self.old file (put (bytes_of self.old file) at piece.now)) }
         ensures err { OnErr result (self.new ≡ self.old) }
     {
-        put_into(&mut self.items, at, piece)
+        match file {
+            File::Journal => put_into(alloc, &mut self.journal, at, piece),
+            File::Snap0 => put_into(alloc, &mut self.snap0, at, piece),
+            File::Snap1 => put_into(alloc, &mut self.snap1, at, piece),
+        }
     }
 }
 
-fn put_into(items: &mut Vec<u8>, at: usize, piece: &[u8]) -> Result<(), AllocError>
+fn put_into(
+    alloc: Global,
+    bytes: &mut Bytes,
+    at: usize,
+    piece: &[u8],
+) -> Result<(), AllocError>
+    ensures ok { OnOk result (bytes.new ≡ put bytes.old at piece.now) }
+    ensures err { OnErr result (bytes.new ≡ bytes.old) }
+{
+    let mut items = mem::replace(bytes, Bytes::of(Vec::new(alloc))).into_vec();
+    let result = put_items(&mut items, at, piece);
+    *bytes = Bytes::of(items);
+    result
+}
+
+fn put_items(items: &mut Vec<u8>, at: usize, piece: &[u8]) -> Result<(), AllocError>
     ensures ok { OnOk result (items.new.items ≡ put items.old.items at piece.now) }
     ensures err { OnErr result (items.new.items ≡ items.old.items) }
 {
@@ -82,64 +115,4 @@ fn overwrite(bytes: &mut [u8], at: usize, piece: &[u8])
     ensures { bytes.new ≡ take at bytes.old ++ piece.now ++ drop (at + length piece.now) bytes.old }
 {
     bytes[at..at + piece.len()].copy_from_slice(piece);
-}
-
-/// One of the three files of a store.
-#[derive(Clone, Copy, Debug, PartialEq, Eq)]
-pub enum File {
-    Journal,
-    Snap0,
-    Snap1,
-}
-
-/// The bytes of the three files.
-#[derive(Drop)]
-pub struct Image {
-    pub journal: Bytes,
-    pub snap0: Bytes,
-    pub snap1: Bytes,
-}
-
-impl Image {
-    /// The image of a store that was never written.
-    pub fn empty(alloc: Global) -> Image
-        ensures { (result.journal ≡ []) × (result.snap0 ≡ []) × (result.snap1 ≡ []) }
-    {
-        Image {
-            journal: Bytes::new(Vec::new(alloc)),
-            snap0: Bytes::new(Vec::new(alloc)),
-            snap1: Bytes::new(Vec::new(alloc)),
-        }
-    }
-
-    pub fn copy(&self, alloc: Global) -> Result<Image, AllocError>
-        ensures { IfOk result (λ image. image ≡ self.now) }
-    {
-        Ok(Image {
-            journal: self.journal.copy(alloc)?,
-            snap0: self.snap0.copy(alloc)?,
-            snap1: self.snap1.copy(alloc)?,
-        })
-    }
-
-    pub fn file(&self, file: File) -> &[u8]
-        ensures { result.now ≡ bytes_of self.now file }
-    {
-        match file {
-            File::Journal => self.journal.as_slice(),
-            File::Snap0 => self.snap0.as_slice(),
-            File::Snap1 => self.snap1.as_slice(),
-        }
-    }
-
-    pub(crate) fn put(&mut self, file: File, at: usize, piece: &[u8]) -> Result<(), AllocError>
-        ensures ok { OnOk result (self.new ≡ with_bytes self.old file (put (bytes_of self.old file) at piece.now)) }
-        ensures err { OnErr result (self.new ≡ self.old) }
-    {
-        match file {
-            File::Journal => self.journal.put(at, piece),
-            File::Snap0 => self.snap0.put(at, piece),
-            File::Snap1 => self.snap1.put(at, piece),
-        }
-    }
 }

@@ -1,6 +1,7 @@
 //! The store of the engine: three files, what a read of them gives, and what a stop may leave of them.
 #![tactic(auto)]
 
+mod bytes;
 mod call;
 mod failed;
 mod files;
@@ -8,13 +9,14 @@ mod image;
 mod memory;
 mod opened;
 mod replay;
+mod said;
 mod store;
-#[cfg(test)]
-mod tests;
 
+pub use bytes::Bytes;
 pub use call::Call;
 pub use failed::{Failed, OutOfMemory, StoreFault};
 pub use files::FileStore;
-pub use image::{Bytes, File, Image};
+pub use image::{File, Image};
 pub use memory::MemoryStore;
+pub use said::Piece;
 pub use store::Store;

@@ -59,7 +59,7 @@ fn write_into(
         None => first.copy(alloc)?,
     };
     let (file, at, bytes) = change;
-    let result = image.put(file, at as usize, bytes);
+    let result = image.put(alloc, file, at as usize, bytes);
     *written = Some(image);
     result
 }
@@ -78,10 +78,10 @@ fn copy_from(bytes: &[u8], at: u64, into: &mut [u8]) -> usize
 }
 
 impl MemoryStore {
-    ghost use Rattle.std.specs.Prelude.{All, [], ◌∷◌, true, false, Ok};
+    ghost use Rattle.std.specs.Prelude.{All, Bool, [], ◌∷◌, true, false, Ok};
     ghost use Rattle.swf_store.specs.Images.{images_of};
     ghost use Rattle.swf_store.specs.Memory.{Takes, state_of, state_after, and_listed, fails_next};
-    ghost use Rattle.swf_store.specs.Replay.{Writing, IsLeft, reads, after_call};
+    ghost use Rattle.swf_store.specs.Replay.{Writing, IsLeft, reads, step};
 
     /// A store with these files, of which the calls with these numbers fail.
     pub fn new(alloc: Global, image: Image, failing: Vec<u64>) -> MemoryStore
@@ -124,8 +124,9 @@ impl MemoryStore {
         }
     }
 
-    /// What a stop may leave after so many calls: the image with all unsynced writes whole, and for each of them those
-    /// with it absent, cut in its middle and filled with 0xA5, and the others whole. A gap holds zeros.
+    /// What a stop may leave after so many calls: the image that reads give, and for each unsynced write those with it
+    /// absent or, where it failed, whole, with it cut in its middle, and with it filled with 0xA5, and the others as reads
+    /// give them. A gap holds zeros.
     pub fn images(&self, alloc: Global, after: u64) -> Result<Vec<Image>, OutOfMemory>
         ensures images { IfOk result (λ images. images.items ≡ images_of (state_after self.now after)) }
         ensures left { IfOk result (λ images. All (IsLeft (state_after self.now after)) images.items) }
@@ -143,7 +144,7 @@ impl MemoryStore {
 
     /// Takes a call that changes nothing that a read gives.
     pub fn list(&mut self, call: Call) -> Result<(), Failed>
-        requires { (writing : Writing) → reads (after_call call writing) ≡ reads writing }
+        requires { (fails : Bool) (writing : Writing) → reads (step fails call writing) ≡ reads writing }
         ensures takes { Takes call self.old self.new result }
         ensures same { reads (state_of self.new) ≡ reads (state_of self.old) }
     {
@@ -161,7 +162,7 @@ impl MemoryStore {
         ensures done { IfOk result (λ done. done ≡ not (fails_next self.old)) }
         ensures err { OnErr result (self.new ≡ self.old) }
     {
-        let copy = Bytes::new(bytes.to_vec(self.alloc)?);
+        let copy = Bytes::of(bytes.to_vec(self.alloc)?);
         self.calls.reserve(1)?;
         let fails = fails(&self.failing, self.calls.len());
         let change = (file, at, bytes);
@@ -212,7 +213,7 @@ impl Store for MemoryStore {
 
     ghost seen = { λ memory. Some (reads (state_of memory)) };
 
-    ghost said = { λ _. [] };
+    ghost said = { λ _. Some [] };
 
     ghost calls = { λ memory. Some memory.calls };
 
@@ -223,6 +224,10 @@ impl Store for MemoryStore {
     ghost may_leave = { λ memory image. IsLeft (state_of memory) image };
 
     ghost left_since = { LeftSince };
+
+    ghost Beside = { Unit {0} };
+
+    ghost beside = { λ _. tt };
 
     ghost counts_now = { counts_now_lem };
 

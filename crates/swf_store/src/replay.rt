@@ -1,19 +1,20 @@
 // The files after some calls, computed again from the first of them, and the images that a stop may leave then.
 ghost use Rattle.std.specs.Prelude.{◌≡◌, ◌++◌, [], IfOk, OnOk};
 ghost use Rattle.swf_store.specs.Images.{images_of, harmed_by, with_harm, harms, harmed};
-ghost use Rattle.swf_store.specs.Replay.{step, replay as replayed, whole};
+ghost use Rattle.swf_store.specs.Replay.{step, replay as replayed, and_write, whole};
 
 use crate::memory::fails;
 use crate::{Bytes, Call, File, Image};
 use std::alloc::{AllocError, Global};
 use std::marker::Model;
 
-/// A write of a file.
+/// A write of a file, and whether it was done. One that failed may have reached the file in part.
 #[derive(Drop)]
 pub struct Change {
     pub file: File,
     pub at: u64,
     pub bytes: Bytes,
+    pub done: bool,
 }
 
 /// The files as the last sync left them, and the writes since.
@@ -31,19 +32,21 @@ impl Model for Files {
     ghost view = { λ files. record { synced = files.synced; unsynced = files.unsynced.items } };
 }
 
-// How one write is harmed by a stop.
+// How one write is harmed by a stop: absent where it was done and whole where it failed, cut, or filled.
 #[derive(Clone, Copy)]
 enum Harm {
-    Absent,
+    Turned,
     Cut,
     Filled,
 }
 
-fn write_all(image: &mut Image, changes: &[Change]) -> Result<(), AllocError>
+fn write_all(alloc: Global, image: &mut Image, changes: &[Change]) -> Result<(), AllocError>
     ensures { OnOk result (image.new ≡ whole image.old changes.now) }
 {
     for change in changes {
-        image.put(change.file, change.at as usize, change.bytes.as_slice())?;
+        if change.done {
+            image.put(alloc, change.file, change.at as usize, change.bytes.as_slice())?;
+        }
     }
     Ok(())
 }
@@ -54,21 +57,22 @@ fn write_harmed(
     change: &Change,
     harm: Harm,
 ) -> Result<(), AllocError>
-    ensures { OnOk result (image.new ≡ whole image.old (harmed_by harm change.now)) }
+    ensures { OnOk result (image.new ≡ and_write image.old (harmed_by harm change.now)) }
 {
     let bytes = change.bytes.as_slice();
     let at = change.at as usize;
     match harm {
-        Harm::Absent => Ok(()),
-        Harm::Cut => image.put(change.file, at, &bytes[..bytes.len() / 2]),
+        Harm::Turned if change.done => Ok(()),
+        Harm::Turned => image.put(alloc, change.file, at, bytes),
+        Harm::Cut => image.put(alloc, change.file, at, &bytes[..bytes.len() / 2]),
         Harm::Filled => {
             let filled = vec![in alloc; 0xA5; bytes.len()]?;
-            image.put(change.file, at, filled.as_slice())
+            image.put(alloc, change.file, at, filled.as_slice())
         }
     }
 }
 
-// The files with one write harmed, and the writes before and after it whole.
+// The files with one write harmed, and the writes before and after it as reads give them.
 fn harmed_image(
     alloc: Global,
     synced: &Image,
@@ -80,9 +84,9 @@ fn harmed_image(
     ensures { IfOk result (λ image. image ≡ with_harm synced.now before.now change.now after.now harm) }
 {
     let mut image = synced.copy(alloc)?;
-    write_all(&mut image, before)?;
+    write_all(alloc, &mut image, before)?;
     write_harmed(alloc, &mut image, change, harm)?;
-    write_all(&mut image, after)?;
+    write_all(alloc, &mut image, after)?;
     Ok(image)
 }
 
@@ -96,7 +100,7 @@ fn push_harmed(
 ) -> Result<(), AllocError>
     ensures { OnOk result (images.new.items ≡ images.old.items ++ harms synced.now before.now change.now after.now) }
 {
-    images.push(harmed_image(alloc, synced, before, change, after, Harm::Absent)?)?;
+    images.push(harmed_image(alloc, synced, before, change, after, Harm::Turned)?)?;
     images.push(harmed_image(alloc, synced, before, change, after, Harm::Cut)?)?;
     images.push(harmed_image(alloc, synced, before, change, after, Harm::Filled)?)?;
     Ok(())
@@ -121,34 +125,34 @@ fn push_all_harmed(
 }
 
 impl Files {
-    // A call that is done, or fails and changes nothing.
+    // A call that is done, or fails.
     fn take(&mut self, alloc: Global, call: &Call, fails: bool) -> Result<(), AllocError>
         ensures { OnOk result (self.new ≡ step fails call.now self.old) }
     {
-        if fails {
-            return Ok(());
-        }
         match call {
             Call::Size(_) | Call::Read(_, _, _) => {}
             Call::Write(file, at, bytes) => self.unsynced.push(Change {
                 file: *file,
                 at: *at,
                 bytes: bytes.copy(alloc)?,
+                done: !fails,
             })?,
             Call::Sync => {
-                write_all(&mut self.synced, &self.unsynced)?;
-                self.unsynced.clear();
+                if !fails {
+                    write_all(alloc, &mut self.synced, &self.unsynced)?;
+                    self.unsynced.clear();
+                }
             }
         }
         Ok(())
     }
 
-    /// With all writes whole, and with one of them harmed.
+    /// As reads give them, and with one of the writes harmed.
     pub(crate) fn images(&self, alloc: Global) -> Result<Vec<Image>, AllocError>
         ensures { IfOk result (λ images. images.items ≡ images_of self.now) }
     {
         let mut whole = self.synced.copy(alloc)?;
-        write_all(&mut whole, &self.unsynced)?;
+        write_all(alloc, &mut whole, &self.unsynced)?;
         let mut images = Vec::new(alloc);
         images.push(whole)?;
         push_all_harmed(alloc, &mut images, &self.synced, &self.unsynced)?;

@@ -5,10 +5,10 @@ use Rattle.swf_store.proofs.Clauses.{takes_goes, takes_listed, takes_cause, take
 use Rattle.swf_store.proofs.memory.MemoryStoreStore.size.Goals as goal
 
 pub returns-clause-seen : goal.returns-clause-seen
-returns-clause-seen c = ap (λ (i : Image). Some i) (takes_reads (Size c.args.file) _ _ _ c.measure.ensures.takes (λ w. refl))
+returns-clause-seen c = ap (λ (i : Image). Some i) (takes_reads (Size c.args.file) _ _ _ c.measure.ensures.takes (λ fails w. refl))
 
 pub returns-clause-stop : goal.returns-clause-stop
-returns-clause-stop c = takes_nothing_new (Size c.args.file) _ _ _ c.measure.ensures.takes (λ w image left. left)
+returns-clause-stop c = takes_nothing_new (Size c.args.file) _ _ _ c.measure.ensures.takes (λ fails w image left. left)
 
 pub returns-clause-time : goal.returns-clause-time
 returns-clause-time c = takes_goes (Size c.args.file) _ _ _ c.measure.ensures.takes

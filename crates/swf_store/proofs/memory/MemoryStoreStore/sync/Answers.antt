@@ -1,11 +1,11 @@
-use Rattle.std.proofs.Common.{ap, Some, refl}
+use Rattle.std.proofs.Common.{ap, Some}
 use Rattle.swf_store.specs.declared.call.Call.TheVariants.{Sync}
 use Rattle.swf_store.specs.declared.image.Image.{Image}
-use Rattle.swf_store.proofs.Clauses.{takes_goes, takes_listed, takes_cause, takes_reads, takes_nothing_new, takes_durable, sync_is_calm}
+use Rattle.swf_store.proofs.Clauses.{takes_goes, takes_listed, takes_cause, takes_reads, takes_nothing_new, takes_durable, sync_is_look, sync_is_calm}
 use Rattle.swf_store.proofs.memory.MemoryStoreStore.sync.Goals as goal
 
 pub returns-clause-seen : goal.returns-clause-seen
-returns-clause-seen c = ap (λ (i : Image). Some i) (takes_reads Sync _ _ _ c.list.ensures.takes (λ w. refl))
+returns-clause-seen c = ap (λ (i : Image). Some i) (takes_reads Sync _ _ _ c.list.ensures.takes sync_is_look)
 
 pub returns-clause-stop : goal.returns-clause-stop
 returns-clause-stop c = takes_nothing_new Sync _ _ _ c.list.ensures.takes sync_is_calm

@@ -1,7 +1,7 @@
 use Rattle.std.proofs.Common.{◌≡◌, ◌∙◌, ◌+◌, length, rules}
 use Rattle.std.proofs.lemmas.List.{take_at}
 use Rattle.swf_store.proofs.PutLemmas.{put_widened}
-use Rattle.swf_store.proofs.image.put_into.Goals as goal
+use Rattle.swf_store.proofs.image.put_items.Goals as goal
 
 pub returns-clause-ok : goal.returns-clause-ok
 returns-clause-ok c =
