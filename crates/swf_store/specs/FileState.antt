@@ -5,6 +5,7 @@ use Rattle.swf_store.specs.declared.files.State.{State}
 use Rattle.swf_store.specs.declared.files.State.TheVariants.{Open, Closed}
 use Rattle.swf_store.specs.declared.image.File.{File}
 use Rattle.swf_store.specs.declared.image.File.TheVariants.{Journal, Snap0, Snap1}
+use Rattle.swf_store.specs.declared.image.Image.{Image}
 use Rattle.swf_store.specs.declared.opened.Opened.{Opened}
 
 -- the call that closed the files, and those since
@@ -26,3 +27,7 @@ AllSynced folder = (folder.journal.unsynced ≡ false) × (folder.snap0.unsynced
 abbrev pub IsSynced : {F : Type 0} → State F → Type 0
 IsSynced (Open folder) = AllSynced folder
 IsSynced (Closed _) = Unit {0}
+
+-- what a stop may leave, where nothing is told of it
+abbrev pub AnyImage : Image → Type 0
+AnyImage image = Unit {0}

@@ -1,7 +1,8 @@
 // A store over three files of a folder. It tells nothing of what they hold.
 ghost use Rattle.std.specs.Prelude.{◌≡◌, ◌<◌, ◌≤◌, false, length, IfOk, IsErr, Ok, OnOk};
+ghost use Rattle.swf_store.specs.Disk.{TornIn, Follows};
 ghost use Rattle.swf_store.specs.Faults.{HasCause};
-ghost use Rattle.swf_store.specs.FileState.{faults_of, opened_as, AllSynced, IsSynced};
+ghost use Rattle.swf_store.specs.FileState.{faults_of, opened_as, AllSynced, IsSynced, AnyImage};
 
 use crate::opened::Opened;
 use crate::{Failed, File, Store, StoreFault};
@@ -138,7 +139,7 @@ where
 
     ghost moment = { λ _. 0 };
 
-    ghost may_leave = { λ _ _. Unit {0} };
+    ghost may_leave = { λ _. AnyImage };
 
     ghost left_since = { λ _ _ _ _. Unit {0} };
 
@@ -176,6 +177,7 @@ where
     }
 
     fn write_at(&mut self, file: File, at: u64, bytes: &[u8]) -> Result<(), Failed>
+        ensures stop { Follows (TornIn file at (length bytes.now)) AnyImage AnyImage }
         ensures cause { HasCause (faults_of self.old.state) (faults_of self.new.state) result }
         ensures ended { 0 < faults_of self.old.state → IsErr result }
     {
