@@ -98,9 +98,11 @@ fn files_become_the_owners_alone(rt: HostRuntime) -> Result<(), Fail> {
 
 #[test]
 fn no_file_stands_at_a_standard_stream(rt: HostRuntime) -> Result<(), Fail> {
-    assert_eq!(rt; libc::close(0), 0);
-    let store = FileStore::in_folder(rt, rt.alloc(), ".")?;
-    assert_eq!(rt; libc::close(0), -1);
-    drop(store);
+    for stream in [2, 0] {
+        assert_eq!(rt; libc::close(stream), 0);
+        let store = FileStore::in_folder(rt, rt.alloc(), ".")?;
+        assert_eq!(rt; libc::close(stream), -1);
+        drop(store);
+    }
     Ok(())
 }

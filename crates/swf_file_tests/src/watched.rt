@@ -1,10 +1,13 @@
 // The real file system, watched: which files hold what no sync made sure of, and which call fails.
-use std::alloc::Allocator;
+ghost use Rattle.std.specs.Prelude.{◌≤◌};
+
+use std::alloc::{AllocError, Allocator};
 use std::cell::Cell;
 use std::fs::{self, Files, Metadata, OpenFile, OpenOptions, Permissions};
 use std::io::{self, Empty, ErrorKind, Read, Seek, SeekFrom, Write};
 use std::os::fd::{AsRawFd, RawFd};
 use std::os::unix::fs::FileExt;
+use std::rc::Rc;
 
 // What becomes of the calls of open files.
 #[derive(Clone, Copy, PartialEq, Eq)]
@@ -13,6 +16,29 @@ pub(crate) enum Manner {
     FailAt(u64),
     // Every other call is interrupted, and a read or a write takes one byte.
     Grudging,
+}
+
+// What of a store is opened.
+#[derive(Clone, Copy)]
+enum Place {
+    Journal,
+    Snap0,
+    Snap1,
+    Folder,
+}
+
+impl Place {
+    fn of(path: &str) -> Place {
+        if path.ends_with("/swf.journal") {
+            Place::Journal
+        } else if path.ends_with("/swf.snap0") {
+            Place::Snap0
+        } else if path.ends_with("/swf.snap1") {
+            Place::Snap1
+        } else {
+            Place::Folder
+        }
+    }
 }
 
 // Which files may hold what no sync has made sure of. What an earlier run wrote is such.
@@ -43,6 +69,15 @@ impl Watch {
         !(self.journal.get() || self.snap0.get() || self.snap1.get() || self.folder.get())
     }
 
+    fn unsynced(&self, place: Place) -> &Cell<bool> {
+        match place {
+            Place::Journal => &self.journal,
+            Place::Snap0 => &self.snap0,
+            Place::Snap1 => &self.snap1,
+            Place::Folder => &self.folder,
+        }
+    }
+
     // The call was made that was to fail.
     pub(crate) fn has_failed(&self) -> bool {
         match self.manner {
@@ -62,7 +97,9 @@ impl Watch {
     }
 
     // How many of so many bytes a read or a write takes.
-    fn share(&self, len: usize) -> usize {
+    fn share(&self, len: usize) -> usize
+        ensures { result ≤ len }
+    {
         if self.manner == Manner::Grudging {
             len.min(1)
         } else {
@@ -71,20 +108,27 @@ impl Watch {
     }
 }
 
-#[derive(Clone, Copy)]
-pub(crate) struct Watched<'a> {
-    pub(crate) host: HostRuntime,
-    pub(crate) watch: &'a Watch,
+#[derive(Drop)]
+pub(crate) struct Watched {
+    host: HostRuntime,
+    watch: Rc<Watch>,
+}
+
+impl Watched {
+    pub(crate) fn new(host: HostRuntime, watch: &Rc<Watch>) -> Result<Watched, AllocError> {
+        let watch = Rc::clone(watch)?;
+        Ok(Watched { host, watch })
+    }
 }
 
 #[derive(Drop)]
-pub(crate) struct WatchedFile<'a> {
+pub(crate) struct WatchedFile {
     file: fs::File,
-    watch: &'a Watch,
-    unsynced: &'a Cell<bool>,
+    watch: Rc<Watch>,
+    place: Place,
 }
 
-impl<'a> FileExt for WatchedFile<'a> {
+impl FileExt for WatchedFile {
     fn read_at(&self, buf: &mut [u8], offset: u64) -> io::Result<usize> {
         self.watch.call()?;
         let share = self.watch.share(buf.len());
@@ -93,13 +137,13 @@ impl<'a> FileExt for WatchedFile<'a> {
 
     fn write_at(&self, buf: &[u8], offset: u64) -> io::Result<usize> {
         self.watch.call()?;
-        self.unsynced.set(true);
+        self.watch.unsynced(self.place).set(true);
         let share = self.watch.share(buf.len());
         self.file.write_at(&buf[..share], offset)
     }
 }
 
-impl<'a> OpenFile for WatchedFile<'a> {
+impl OpenFile for WatchedFile {
     fn metadata(&self) -> io::Result<Metadata> {
         self.watch.call()?;
         self.file.metadata()
@@ -113,7 +157,7 @@ impl<'a> OpenFile for WatchedFile<'a> {
         if self.watch.manner != Manner::Grudging {
             self.watch.call()?;
         }
-        self.unsynced.set(false);
+        self.watch.unsynced(self.place).set(false);
         self.file.sync_all()
     }
 
@@ -126,19 +170,19 @@ impl<'a> OpenFile for WatchedFile<'a> {
     }
 }
 
-impl<'a> AsRawFd for WatchedFile<'a> {
+impl AsRawFd for WatchedFile {
     fn as_raw_fd(&self) -> RawFd {
         self.file.as_raw_fd()
     }
 }
 
-impl<'a> Read for WatchedFile<'a> {
+impl Read for WatchedFile {
     fn read(&mut self, buf: &mut [u8]) -> io::Result<usize> {
         self.file.read(buf)
     }
 }
 
-impl<'a> Write for WatchedFile<'a> {
+impl Write for WatchedFile {
     fn write(&mut self, buf: &[u8]) -> io::Result<usize> {
         self.file.write(buf)
     }
@@ -148,32 +192,22 @@ impl<'a> Write for WatchedFile<'a> {
     }
 }
 
-impl<'a> Seek for WatchedFile<'a> {
+impl Seek for WatchedFile {
     fn seek(&mut self, to: SeekFrom) -> io::Result<u64> {
         self.file.seek(to)
     }
 }
 
-impl<'a> Files for Watched<'a> {
-    type File = WatchedFile<'a>;
+impl Files for Watched {
+    type File = WatchedFile;
 
     type Dir = Empty;
 
-    fn open_file(&self, how: &OpenOptions, path: &str) -> io::Result<WatchedFile<'a>> {
-        let watch = self.watch;
-        let unsynced = if path.ends_with("/swf.journal") {
-            &watch.journal
-        } else if path.ends_with("/swf.snap0") {
-            &watch.snap0
-        } else if path.ends_with("/swf.snap1") {
-            &watch.snap1
-        } else {
-            &watch.folder
-        };
+    fn open_file(&self, how: &OpenOptions, path: &str) -> io::Result<WatchedFile> {
         Ok(WatchedFile {
             file: self.host.open_file(how, path)?,
-            watch,
-            unsynced,
+            watch: Rc::clone(&self.watch)?,
+            place: Place::of(path),
         })
     }
 
