@@ -1,4 +1,5 @@
 // A store in a real folder: its files by name, who may have it, and what is no file of a store.
+use std::env;
 use std::fs::{self, Permissions};
 use std::os::unix::fs::{PermissionsExt, symlink};
 use std::test::Fail;
@@ -9,6 +10,16 @@ const NAMES: [(File, &str, &[u8]); 3] = [
     (File::Snap0, "swf.snap0", b"zero"),
     (File::Snap1, "swf.snap1", b"first"),
 ];
+
+// Makes a folder for a test, empty, and works in it.
+pub(crate) fn enter(rt: HostRuntime, name: &str) -> Result<(), Fail> {
+    let folder = format!(in rt.alloc(); "out/folders/{name}")?;
+    if fs::exists(&rt, folder.as_str())? {
+        fs::remove_dir_all(&rt, folder.as_str())?;
+    }
+    fs::create_dir_all(&rt, folder.as_str())?;
+    Ok(env::set_current_dir(&rt, folder.as_str())?)
+}
 
 fn mode(rt: HostRuntime, name: &str) -> Result<u32, Fail> {
     Ok(fs::metadata(&rt, name)?.permissions().mode() & 0o7777)
@@ -23,6 +34,7 @@ fn is_refused(rt: HostRuntime, folder: &str) -> bool {
 
 #[test]
 fn each_file_keeps_what_is_written(rt: HostRuntime) -> Result<(), Fail> {
+    enter(rt, "each_file_keeps_what_is_written")?;
     let mut store = FileStore::in_folder(rt, rt.alloc(), "")?;
     for (file, _, text) in NAMES {
         store.write_at(file, 0, text)?;
@@ -48,6 +60,7 @@ fn each_file_keeps_what_is_written(rt: HostRuntime) -> Result<(), Fail> {
 
 #[test]
 fn a_second_store_is_refused_and_changes_nothing(rt: HostRuntime) -> Result<(), Fail> {
+    enter(rt, "a_second_store_is_refused_and_changes_nothing")?;
     let mut store = FileStore::in_folder(rt, rt.alloc(), ".")?;
     store.write_at(File::Journal, 0, b"journal")?;
     fs::remove_file(&rt, "swf.snap1")?;
@@ -65,6 +78,7 @@ fn a_second_store_is_refused_and_changes_nothing(rt: HostRuntime) -> Result<(), 
 
 #[test]
 fn what_is_no_regular_file_is_refused(rt: HostRuntime) -> Result<(), Fail> {
+    enter(rt, "what_is_no_regular_file_is_refused")?;
     fs::write(&rt, "target", "kept")?;
     for (_, name, _) in NAMES {
         fs::create_dir(&rt, name)?;
@@ -84,6 +98,7 @@ fn what_is_no_regular_file_is_refused(rt: HostRuntime) -> Result<(), Fail> {
 
 #[test]
 fn files_become_the_owners_alone(rt: HostRuntime) -> Result<(), Fail> {
+    enter(rt, "files_become_the_owners_alone")?;
     for (_, name, text) in NAMES {
         fs::write(&rt, name, text)?;
         fs::set_permissions(&rt, name, Permissions::from_mode(0o666))?;
@@ -98,6 +113,7 @@ fn files_become_the_owners_alone(rt: HostRuntime) -> Result<(), Fail> {
 
 #[test]
 fn no_file_stands_at_a_standard_stream(rt: HostRuntime) -> Result<(), Fail> {
+    enter(rt, "no_file_stands_at_a_standard_stream")?;
     for stream in [2, 0] {
         assert_eq!(rt; libc::close(stream), 0);
         let store = FileStore::in_folder(rt, rt.alloc(), ".")?;

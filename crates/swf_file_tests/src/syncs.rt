@@ -1,4 +1,5 @@
 // A store over a file system that fails at one call, or is interrupted and does less than asked.
+use crate::folder::enter;
 use crate::watched::{Manner, Watch, Watched};
 use std::alloc::Global;
 use std::rc::Rc;
@@ -26,6 +27,7 @@ fn read<S: Store>(alloc: Global, store: &mut S, file: File) -> Result<Vec<u8>, F
 
 #[test]
 fn a_sync_makes_sure_of_every_file_and_of_the_names(rt: HostRuntime) -> Result<(), Fail> {
+    enter(rt, "a_sync_makes_sure_of_every_file_and_of_the_names")?;
     let watch = Rc::new(rt.alloc(), Watch::new(Manner::FailAt(u64::MAX)))?;
     let mut store = FileStore::in_folder(Watched::new(rt, &watch)?, rt.alloc(), ".")?;
     store.sync()?;
@@ -41,6 +43,7 @@ fn a_sync_makes_sure_of_every_file_and_of_the_names(rt: HostRuntime) -> Result<(
 
 #[test]
 fn interrupted_and_short_calls_go_on(rt: HostRuntime) -> Result<(), Fail> {
+    enter(rt, "interrupted_and_short_calls_go_on")?;
     let alloc = rt.alloc();
     let watch = Rc::new(alloc, Watch::new(Manner::Grudging))?;
     let mut store = FileStore::in_folder(Watched::new(rt, &watch)?, alloc, ".")?;
@@ -98,6 +101,7 @@ fn run(rt: HostRuntime, number: u64) -> Result<Ending, Fail> {
 
 #[test]
 fn a_store_ends_with_the_first_call_that_fails(rt: HostRuntime) -> Result<(), Fail> {
+    enter(rt, "a_store_ends_with_the_first_call_that_fails")?;
     for number in 0..100 {
         let ending = run(rt, number)?;
         assert!(rt; ending.is_right, "call {number}");
