@@ -44,8 +44,8 @@ frames_push (first ∷ frames) body rest =
     ∙ ap (λ (l : List ℕ). len ++ (first ++ l)) (frames_push frames body rest)
     ∙ sym (nested len first (frames_bytes frames) more))
 
-pub next_push : (frames : List (List ℕ)) (body : List ℕ) → next_gate (frames ++ body ∷ []) ≡ next_gate frames + 9 + length body
-next_push frames body =
+pub next_push : (front : List ℕ) (frames : List (List ℕ)) (body : List ℕ) → next_gate front (frames ++ body ∷ []) ≡ next_gate front frames + 9 + length body
+next_push front frames body =
     let all = frames_bytes (frames ++ body ∷ []) in
     let len = length_bytes (length body) in
     let frame = open_gate ∷ (len ++ (body ++ [])) in

@@ -1,6 +1,6 @@
 mod AppendLemmas
 pub mod FrameLemmas
 mod HeadLemmas
-pub mod Moments
+mod JournalCallLemmas
 pub mod OpenLemmas
 pub mod StandsLemmas

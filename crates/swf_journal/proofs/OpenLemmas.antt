@@ -1,21 +1,22 @@
 -- What opening makes of a journal, and what it finds at a gate.
-use Rattle.std.proofs.Common.{◌≡◌, ◌≢◌, inl, ⊎_elim, ℕ, ◌+◌, ◌<◌, ◌≤◌, max, Bool, true, false, Option, Some, List, [], ◌∷◌, ◌++◌, length, take, drop, get_or, refl, sym, ◌∙◌, ap, subst, arith, if◌then◌else◌, length-append, length-drop, length-take}
+use Rattle.std.proofs.Common.{◌≡◌, ◌≢◌, inl, inr, ⊎_elim, ℕ, ◌+◌, ◌<◌, ◌≤◌, max, Bool, true, false, Option, Some, List, [], ◌∷◌, ◌++◌, length, take, drop, get_or, refl, sym, ◌∙◌, ap, subst, arith, if◌then◌else◌, length-append, length-drop, length-take}
 use Rattle.std.specs.Prelude.{is_some}
 use Rattle.std.proofs.lemmas.Bool.{cases_lt, lt-ltb, le-ltb}
 use Rattle.std.proofs.lemmas.List.{append_assoc, take-append-drop, drop_more, take_all, drop-drop}
+use Rattle.swf_store.specs.declared.image.File.{File}
 use Rattle.swf_store.specs.declared.image.File.TheVariants.{Journal}
 use Rattle.swf_store.specs.declared.image.Image.{Image}
 use Rattle.swf_store.specs.Disk.{TornIn, Only}
-use Rattle.swf_store.specs.Files.{with_bytes}
+use Rattle.swf_store.specs.Files.{bytes_of, with_bytes}
 use Rattle.swf_store.specs.Put.{put}
-use Rattle.swf_journal.specs.declared.open.Head.TheVariants.{Shut, Cut, Open}
+use Rattle.swf_journal.specs.declared.reading.Head.TheVariants.{Shut, Cut, Open}
 use Rattle.swf_journal.specs.Frames.{header, open_gate, length_bytes, frames_bytes}
-use Rattle.swf_journal.specs.Opening.{begun, IsFrame, IsHead, IsDamage, KeepsFrames}
-use Rattle.swf_journal.specs.Place.{Place, HasRead, IsReady, IsReadingOf, IsJournalOf}
-use Rattle.swf_journal.specs.Stands.{StandsFor}
+use Rattle.swf_journal.specs.Opening.{begun, opened, IsFrame, IsHead, IsDamage, KeepsFrames}
+use Rattle.swf_journal.specs.Place.{Place, HasRead, IsReadingOf}
+use Rattle.swf_journal.specs.Stands.{IsShutAfter, StandsFor}
 use Rattle.swf_journal.proofs.FrameLemmas.{length-header, length-length_bytes, same_length, parts_are, frames_push, next_push, fit_push}
 use Rattle.swf_journal.proofs.AppendLemmas.{put_within, some_of}
-use Rattle.swf_journal.proofs.StandsLemmas.{behind_is, shut_stands, size_after}
+use Rattle.swf_journal.proofs.StandsLemmas.{behind_is}
 
 -- a gate that is not open
 pub shut_head : (behind : List ℕ) → IsHead (take 9 behind) Shut → (gate : ℕ) (rest : List ℕ) → behind ≡ gate ∷ rest → gate ≢ open_gate
@@ -69,34 +70,28 @@ whole_head behind body len head room is =
     }
 
 -- one frame more is read
-pub read_on : (journal : List ℕ) (place : Place) (frames : List (List ℕ)) (body after : List ℕ) → HasRead journal place frames → IsFrame (drop place.gate journal) body after
-    → HasRead journal (record { gate = place.gate + 9 + length body; size = place.size; ended = false }) (frames ++ body ∷ [])
-read_on journal place frames body [] read frame = absurd (omega (arith, frame.gate))
-read_on journal place frames body (y ∷ ys) read frame =
-    let behind = behind_is journal place frames read in
-    let here : read.gate ∷ read.rest ≡ open_gate ∷ (length_bytes (length body) ++ (body ++ y ∷ ys)) = sym behind ∙ frame.bytes in
+pub read_on : (bytes : List ℕ) (place : Place) (front : List ℕ) (frames : List (List ℕ)) (body after : List ℕ) → HasRead bytes place front frames → IsFrame (drop place.gate bytes) body after
+    → HasRead bytes (record place { gate = place.gate + 9 + length body; ended = false }) front (frames ++ body ∷ [])
+read_on bytes place front frames body [] read frame = absurd (omega (arith, frame.gate))
+read_on bytes place front frames body (y ∷ ys) read frame =
+    let here : read.gate ∷ read.rest ≡ open_gate ∷ (length_bytes (length body) ++ (body ++ y ∷ ys)) = sym (behind_is bytes place front frames read) ∙ frame.bytes in
     record {
       gate = y;
       rest = ys;
-      bytes = read.bytes ∙ ap (λ (l : List ℕ). header ++ (frames_bytes frames ++ l)) here ∙ ap (λ (l : List ℕ). header ++ l) (sym (frames_push frames body (y ∷ ys)));
+      laid = read.laid ∙ ap (λ (l : List ℕ). front ++ (frames_bytes frames ++ l)) here ∙ ap (λ (l : List ℕ). front ++ l) (sym (frames_push frames body (y ∷ ys)));
       fit = fit_push frames body read.fit frame.fits;
-      here = omega (arith, read.here, next_push frames body);
-      size = read.size;
+      here = omega (arith, read.here, next_push front frames body);
       ended = λ no. absurd (cc);
-      closed = λ short. absurd (omega (arith, short, read.here, size_after journal frames read.gate read.rest read.bytes, ap (λ (l : List ℕ). length l) here, length-length_bytes (length body), length-append (length_bytes (length body)) (body ++ y ∷ ys)));
     }
 
 -- the gate is not open, and the reading ends
-pub read_end : (journal : List ℕ) (place : Place) (frames : List (List ℕ)) → HasRead journal place frames → ((gate : ℕ) (rest : List ℕ) → drop place.gate journal ≡ gate ∷ rest → gate ≢ open_gate)
-    → HasRead journal (record { gate = place.gate; size = place.size; ended = true }) frames × StandsFor journal frames
-read_end journal place frames read shut =
-    let closed : read.gate ≢ open_gate = shut read.gate read.rest (behind_is journal place frames read) in (
-      record { gate = read.gate; rest = read.rest; bytes = read.bytes; fit = read.fit; here = read.here; size = read.size; ended = λ _. closed; closed = λ _. closed },
-      shut_stands journal frames (record { gate = read.gate; rest = read.rest; bytes = read.bytes; shut = closed; fit = read.fit }),
+pub read_end : (bytes : List ℕ) (place : Place) (front : List ℕ) (frames : List (List ℕ)) → HasRead bytes place front frames → ((gate : ℕ) (rest : List ℕ) → drop place.gate bytes ≡ gate ∷ rest → gate ≢ open_gate)
+    → HasRead bytes (record place { ended = true }) front frames × IsShutAfter front bytes frames
+read_end bytes place front frames read shut =
+    let closed : read.gate ≢ open_gate = shut read.gate read.rest (behind_is bytes place front frames read) in (
+      record { gate = read.gate; rest = read.rest; laid = read.laid; fit = read.fit; here = read.here; ended = λ _. closed },
+      record { gate = read.gate; rest = read.rest; laid = read.laid; shut = closed; fit = read.fit },
     )
-
-pub within : (journal : List ℕ) (place : Place) (frames : List (List ℕ)) → HasRead journal place frames → place.gate < length journal
-within journal place frames read = omega (arith, read.here, size_after journal frames read.gate read.rest read.bytes)
 
 -- a journal that is too short gets a header
 pub begun_short : (journal : List ℕ) → length journal < 25 → begun journal ≡ header ++ 0 ∷ [] ++ drop 17 journal
@@ -114,7 +109,7 @@ put_header journal short =
     ∙ ap (λ n. header ++ 0 ∷ [] ++ drop n journal) (let e : 0 + length (header ++ 0 ∷ []) ≡ 17 = omega (arith, length-new) in e)
     ∙ sym (begun_short journal short)
 
-length-begun : (journal : List ℕ) → length journal < 25 → length (begun journal) ≡ max (length journal) 17
+pub length-begun : (journal : List ℕ) → length journal < 25 → length (begun journal) ≡ max (length journal) 17
 length-begun journal short =
     omega (arith, ap (λ (l : List ℕ). length l) (begun_short journal short), length-new, length-append (header ++ 0 ∷ []) (drop 17 journal), length-drop 17 journal)
 
@@ -122,36 +117,47 @@ zero_is_shut : 0 ≢ open_gate
 zero_is_shut is = absurd (omega (arith, is))
 
 -- a reading that begins behind a header that was made anew
-pub read_new : (journal : List ℕ) (size : ℕ) → length journal < 25 → size ≡ max (length journal) 17 → HasRead (begun journal) (record { gate = 16; size = size; ended = false }) []
-read_new journal size short is = record {
+pub read_new : (journal : List ℕ) (place : Place) → length journal < 25 → place.gate ≡ 16 → place.ended ≡ false → HasRead (begun journal) place header []
+read_new journal place short here ended = record {
   gate = 0;
   rest = drop 17 journal;
-  bytes = begun_short journal short ∙ append_assoc header (0 ∷ []) (drop 17 journal);
+  laid = begun_short journal short ∙ append_assoc header (0 ∷ []) (drop 17 journal);
   fit = tt;
-  here = refl;
-  size = is ∙ sym (length-begun journal short);
+  here = omega (arith, here, length-header);
   ended = λ no. absurd (cc);
-  closed = λ _. zero_is_shut;
 }
 
 -- a reading that begins behind a header that was there
-pub read_old : (journal : List ℕ) → 25 ≤ length journal → take 16 journal ≡ header → HasRead (begun journal) (record { gate = 16; size = length journal; ended = false }) []
-read_old journal long right =
+pub read_old : (journal : List ℕ) (place : Place) → 25 ≤ length journal → take 16 journal ≡ header → place.gate ≡ 16 → place.ended ≡ false → HasRead (begun journal) place header []
+read_old journal place long right here ended =
     let same = begun_long journal long in
     let behind : drop 16 journal ≡ get_or journal 16 0 ∷ drop 17 journal = drop_more journal 16 0 (omega (arith, long)) in
     record {
       gate = get_or journal 16 0;
       rest = drop 17 journal;
-      bytes = same ∙ sym (take-append-drop 16 journal) ∙ ap (λ (l : List ℕ). l ++ drop 16 journal) right ∙ ap (λ (l : List ℕ). header ++ l) behind;
+      laid = same ∙ sym (take-append-drop 16 journal) ∙ ap (λ (l : List ℕ). l ++ drop 16 journal) right ∙ ap (λ (l : List ℕ). header ++ l) behind;
       fit = tt;
-      here = refl;
-      size = ap (λ (l : List ℕ). length l) (sym same);
+      here = omega (arith, here, length-header);
       ended = λ no. absurd (cc);
-      closed = λ short. absurd (omega (arith, short, long, ap (λ (l : List ℕ). length l) same));
     }
+
+-- what opening makes of a journal holds the frames that it stands for
+pub begun_holds : (journal : List ℕ) (frames : List (List ℕ)) → StandsFor journal frames → IsShutAfter header (begun journal) frames
+begun_holds journal frames (inl none) = subst (IsShutAfter header (begun journal)) (sym none.1) (record {
+  gate = 0;
+  rest = drop 17 journal;
+  laid = begun_short journal none.0 ∙ append_assoc header (0 ∷ []) (drop 17 journal);
+  shut = zero_is_shut;
+  fit = tt;
+})
+begun_holds journal frames (inr long) = subst (λ (l : List ℕ). IsShutAfter header l frames) (sym (begun_long journal long.0)) long.1
 
 pub keeps_itself : (image : Image) → KeepsFrames image image
 keeps_itself image = record { others = refl; stands = λ frames stands. stands }
+
+-- where a stop leaves the image alone
+pub only_keeps : (image : Image) (may_leave : Image → Type 0) → Only image may_leave → (left : Image) → may_leave left → KeepsFrames image left
+only_keeps image may_leave only left now = subst (KeepsFrames image) (sym (only left now)) (keeps_itself image)
 
 -- a journal that is too short stands for no frames, however its header is torn
 pub keeps_short : (image left : Image) → length image.journal < 25 → left ≡ with_bytes image Journal left.journal → length left.journal < 25 → KeepsFrames image left
@@ -166,20 +172,13 @@ keeps_begun image = ⊎_elim
     (λ long. subst (λ (l : List ℕ). KeepsFrames image (with_bytes image Journal l)) (sym (begun_long image.journal long)) (keeps_itself image))
     (cases_lt (length image.journal) 25)
 
--- a reading begins over what opening has made of the journal
-pub begun_reading : (old new : Option Image) (may_leave : Image → Type 0) (place : Place) → is_some new ≡ is_some old
-    → ((image : Image) → old ≡ Some image → HasRead (begun image.journal) place [])
-    → ((image : Image) → old ≡ Some image → new ≡ Some (with_bytes image Journal (begun image.journal)))
-    → ((image : Image) → old ≡ Some image → Only (with_bytes image Journal (begun image.journal)) may_leave) → IsReadingOf new may_leave place
-begun_reading old new may_leave place honest read is only = λ image seen.
+-- a reading stands in the file that opening has made
+pub begun_reading : (old new : Option Image) (place : Place) → is_some new ≡ is_some old → place.file ≡ Journal → place.gate ≡ 16
+    → ((image : Image) → old ≡ Some image → (new ≡ Some (opened image)) × (place.size ≡ length (begun image.journal)) × (17 ≤ place.size)) → IsReadingOf new place
+begun_reading old new place honest file gate made = λ image seen.
     let before = some_of old (sym honest ∙ ap is_some seen) in
-    let made = is before.0 before.1 in
-    let same : with_bytes before.0 Journal (begun before.0.journal) ≡ image = cc in
-    ([], subst (λ (i : Image). HasRead i.journal place []) same (read before.0 before.1), subst (λ (i : Image). Only i may_leave) same (only before.0 before.1))
-
--- a reading that has ended is a journal that is ready
-pub reading_ends : (seen : Option Image) (may_leave : Image → Type 0) (place : Place) (gate : ℕ) → IsReadingOf seen may_leave place
-    → ((journal : List ℕ) (frames : List (List ℕ)) → HasRead journal place frames → IsReady journal gate frames) → IsJournalOf seen may_leave gate
-reading_ends seen may_leave place gate reading ready = λ image is.
-    let has = reading image is in
-    (has.0, record { ready = ready image.journal has.0 has.1; durable = has.2 })
+    let is = made before.0 before.1 in
+    let same : opened before.0 ≡ image = cc in (
+      is.1 ∙ ap (λ (i : Image). length i.journal) same ∙ ap (λ (f : File). length (bytes_of image f)) (sym file),
+      omega (arith, gate, is.2),
+    )

@@ -46,35 +46,35 @@ stands_for_one journal f g (inr long) (inl short) = absurd (omega (arith, short.
 stands_for_one journal f g (inr long) (inr long') =
     let a = long.1 in
     let b = long'.1 in
-    one_run f g a.gate b.gate a.rest b.rest a.fit b.fit a.shut b.shut (append_cancel_left header _ _ (sym a.bytes ∙ b.bytes))
+    one_run f g a.gate b.gate a.rest b.rest a.fit b.fit a.shut b.shut (append_cancel_left header _ _ (sym a.laid ∙ b.laid))
 
-size_of : (frames : List (List ℕ)) (gate : ℕ) (rest : List ℕ) → length (header ++ (frames_bytes frames ++ gate ∷ rest)) ≡ next_gate frames + 1 + length rest
-size_of frames gate rest = omega (arith, length-header, length-append header (frames_bytes frames ++ gate ∷ rest), length-append (frames_bytes frames) (gate ∷ rest))
+size_of : (front : List ℕ) (frames : List (List ℕ)) (gate : ℕ) (rest : List ℕ) → length (front ++ (frames_bytes frames ++ gate ∷ rest)) ≡ next_gate front frames + 1 + length rest
+size_of front frames gate rest = omega (arith, length-append front (frames_bytes frames ++ gate ∷ rest), length-append (frames_bytes frames) (gate ∷ rest))
 
-pub size_after : (journal : List ℕ) (frames : List (List ℕ)) (gate : ℕ) (rest : List ℕ) → journal ≡ header ++ (frames_bytes frames ++ gate ∷ rest) → length journal ≡ next_gate frames + 1 + length rest
-size_after journal frames gate rest is = ap (λ (l : List ℕ). length l) is ∙ size_of frames gate rest
+pub size_after : (bytes front : List ℕ) (frames : List (List ℕ)) (gate : ℕ) (rest : List ℕ) → bytes ≡ front ++ (frames_bytes frames ++ gate ∷ rest) → length bytes ≡ next_gate front frames + 1 + length rest
+size_after bytes front frames gate rest is = ap (λ (l : List ℕ). length l) is ∙ size_of front frames gate rest
 
 -- a journal of fewer than 25 bytes has no frame
-none_if_short : (frames : List (List ℕ)) → next_gate frames + 1 < 25 → frames ≡ []
+none_if_short : (frames : List (List ℕ)) → next_gate header frames + 1 < 25 → frames ≡ []
 none_if_short [] short = refl
 none_if_short (f ∷ fs) short =
     let len = length_bytes (length f) in
-    absurd (omega (arith, short, length-append len (f ++ frames_bytes fs), length-length_bytes (length f)))
+    absurd (omega (arith, short, length-header, length-append len (f ++ frames_bytes fs), length-length_bytes (length f)))
 
--- frames, and then a gate that is not open
-pub shut_stands : (journal : List ℕ) (frames : List (List ℕ)) → IsShutAfter journal frames → StandsFor journal frames
+-- frames behind the header, and then a gate that is not open
+pub shut_stands : (journal : List ℕ) (frames : List (List ℕ)) → IsShutAfter header journal frames → StandsFor journal frames
 shut_stands journal frames shut = ⊎_elim
-    (λ short. inl (short, none_if_short frames (omega (arith, short, size_after journal frames shut.gate shut.rest shut.bytes))))
+    (λ short. inl (short, none_if_short frames (omega (arith, short, size_after journal header frames shut.gate shut.rest shut.laid))))
     (λ long. inr (long, shut))
     (cases_lt (length journal) 25)
 
 -- what stands behind the frames that were read
-pub behind_is : (journal : List ℕ) (place : Place) (frames : List (List ℕ)) → (read : HasRead journal place frames) → drop place.gate journal ≡ read.gate ∷ read.rest
-behind_is journal place frames read =
-    let front = header ++ frames_bytes frames in
-    let split : journal ≡ front ++ read.gate ∷ read.rest = read.bytes ∙ sym (append_assoc header (frames_bytes frames) (read.gate ∷ read.rest)) in
-    let size : length front ≡ place.gate = omega (arith, read.here, length-header, length-append header (frames_bytes frames)) in
-    ap (λ (l : List ℕ). drop place.gate l) split ∙ drop_at front (read.gate ∷ read.rest) place.gate size
+pub behind_is : (bytes : List ℕ) (place : Place) (front : List ℕ) (frames : List (List ℕ)) → (read : HasRead bytes place front frames) → drop place.gate bytes ≡ read.gate ∷ read.rest
+behind_is bytes place front frames read =
+    let ahead = front ++ frames_bytes frames in
+    let split : bytes ≡ ahead ++ read.gate ∷ read.rest = read.laid ∙ sym (append_assoc front (frames_bytes frames) (read.gate ∷ read.rest)) in
+    let size : length ahead ≡ place.gate = omega (arith, read.here, length-append front (frames_bytes frames)) in
+    ap (λ (l : List ℕ). drop place.gate l) split ∙ drop_at ahead (read.gate ∷ read.rest) place.gate size
 
 -- where a journal stands for frames, an open gate among them stands before a whole one
 walked : (fs h : List (List ℕ)) (g x : ℕ) (rest r : List ℕ) → AllByRecursion Fits fs → AllByRecursion Fits h → x ≢ open_gate → g ≡ open_gate → frames_bytes fs ++ g ∷ rest ≡ frames_bytes h ++ x ∷ r
@@ -96,18 +96,11 @@ walked (f ∷ fs) (b ∷ h) g x rest r fit fit' shut opened is =
     let both = first_is f b (frames_bytes fs ++ g ∷ rest) (frames_bytes h ++ x ∷ r) fit.0 fit'.0 (peeled f fs b h (g ∷ rest) (x ∷ r) is) in
     walked fs h g x rest r fit.1 fit'.1 shut opened both.rest
 
-pub no_damage : (journal : List ℕ) (place : Place) (frames h : List (List ℕ)) → HasRead journal place frames → IsShutAfter journal h → IsDamage (drop place.gate journal) → ⊥
-no_damage journal place frames h read shut damage =
-    let behind = behind_is journal place frames read in
+-- a reading meets no damage where the bytes hold frames behind what stands in front
+pub no_damage : (bytes : List ℕ) (place : Place) (front : List ℕ) (frames h : List (List ℕ)) → HasRead bytes place front frames → IsShutAfter front bytes h → IsDamage (drop place.gate bytes) → ⊥
+no_damage bytes place front frames h read shut damage =
+    let behind = behind_is bytes place front frames read in
     let same : read.gate ∷ read.rest ≡ open_gate ∷ damage.rest = sym behind ∙ damage.opened in
     let opened : read.gate ≡ open_gate = cc in
-    let found = walked frames h read.gate shut.gate read.rest shut.rest read.fit shut.fit shut.shut opened (append_cancel_left header _ _ (sym read.bytes ∙ shut.bytes)) in
+    let found = walked frames h read.gate shut.gate read.rest shut.rest read.fit shut.fit shut.shut opened (append_cancel_left front _ _ (sym read.laid ∙ shut.laid)) in
     damage.no_frame found.0 found.1 (record { bytes = behind ∙ found.2.bytes; gate = found.2.gate; fits = found.2.fits })
-
--- nor is there damage where the journal stands for frames
-pub no_damage_in : (journal : List ℕ) (place : Place) (frames h : List (List ℕ)) → HasRead journal place frames → StandsFor journal h → IsDamage (drop place.gate journal) → ⊥
-no_damage_in journal place frames h read (inr long) damage = no_damage journal place frames h read long.1 damage
-no_damage_in journal place frames h read (inl short) damage =
-    let same : read.gate ∷ read.rest ≡ open_gate ∷ damage.rest = sym (behind_is journal place frames read) ∙ damage.opened in
-    let opened : read.gate ≡ open_gate = cc in
-    read.closed short.0 opened

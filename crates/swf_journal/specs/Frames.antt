@@ -20,9 +20,9 @@ abbrev pub frames_bytes : List (List ℕ) → List ℕ
 frames_bytes [] = []
 frames_bytes (body ∷ frames) = open_gate ∷ (length_bytes (length body) ++ (body ++ frames_bytes frames))
 
--- the place of the gate behind them
-abbrev pub next_gate : List (List ℕ) → ℕ
-next_gate frames = 16 + length (frames_bytes frames)
+-- the place of the gate behind them, where these bytes stand in front
+abbrev pub next_gate : List ℕ → List (List ℕ) → ℕ
+next_gate front frames = length front + length (frames_bytes frames)
 
 -- what a frame's gate stands before, with a closed gate behind it
 abbrev pub frame_tail : List ℕ → List ℕ

@@ -1,19 +1,23 @@
--- What opening makes of a journal, what it finds at a gate, and what a stop leaves of it.
+-- What opening makes of a journal, what a reading finds at a gate, and what a stop of an opening leaves.
 use Rattle.std.specs.Prelude.{◌≡◌, ◌≢◌, ◌⊎◌, ℕ, ◌^◌, ◌<◌, Option, Some, None, List, [], ◌∷◌, ◌++◌, length, drop, nat_lt, if◌then◌else◌, Vec}
 use Rattle.std.specs.declared.alloc.Global.{Global}
 use Rattle.swf_store.specs.declared.image.File.TheVariants.{Journal}
 use Rattle.swf_store.specs.declared.image.Image.{Image}
-use Rattle.swf_store.specs.Said.{Piece}
+use Rattle.swf_store.specs.declared.said.Piece.{Piece}
 use Rattle.swf_store.specs.Stops.{LeavesOnly}
 use Rattle.swf_store.specs.Files.{with_bytes}
-use Rattle.swf_journal.specs.declared.open.Head.{Head}
-use Rattle.swf_journal.specs.declared.open.Head.TheVariants.{Shut, Cut, Open}
+use Rattle.swf_journal.specs.declared.reading.Head.{Head}
+use Rattle.swf_journal.specs.declared.reading.Head.TheVariants.{Shut, Cut, Open}
 use Rattle.swf_journal.specs.Frames.{header, open_gate, length_bytes}
 use Rattle.swf_journal.specs.Stands.{Stands, Fits}
 
 -- a journal of fewer than 25 bytes gets the header and a closed gate, and a longer one stays
 abbrev pub begun : List ℕ → List ℕ
 begun journal = if nat_lt (length journal) 25 then header ++ 0 ∷ [] ++ drop 17 journal else journal
+
+-- what opening makes of an image
+abbrev pub opened : Image → Image
+opened image = with_bytes image Journal (begun image.journal)
 
 -- what at most nine bytes from a gate on begin
 abbrev pub IsHead : List ℕ → Head → Type 0
@@ -43,13 +47,8 @@ pub record KeepsFrames (image left : Image) : Type 0 where
   pub others : left ≡ with_bytes image Journal left.journal
   pub stands : (frames : List (List ℕ)) → Stands image frames → Stands left frames
 
--- the other files stay, and the journal stands for these frames, or for one frame more
-pub record BeforeOrAfter (image : Image) (frames : List (List ℕ)) (body : List ℕ) (left : Image) : Type 0 where
-  pub others : left ≡ with_bytes image Journal left.journal
-  pub stands : Stands left frames ⊎ Stands left (frames ++ body ∷ [])
-
 -- Until a sync has succeeded a stop leaves what it might have left at first, and from then on a journal of the same frames.
-abbrev pub Opens : {S : Type 0} → (S → ℕ) → (S → ℕ → Image → List Piece → Type 0) → (S → List Piece) → (S → Image → Type 0) → S → S → Image → Type 0
+abbrev pub Opens : {S : Type 0} → (S → ℕ) → (S → ℕ → Image → List Piece → Type 0) → (S → Option (List Piece)) → (S → Image → Type 0) → S → S → Image → Type 0
 Opens {S} moment left_since said may_leave old new image =
     LeavesOnly moment left_since said old new (may_leave old)
     ⊎ ((synced : S) × LeavesOnly moment left_since said old synced (may_leave old) × LeavesOnly moment left_since said synced new (KeepsFrames image))

@@ -2,43 +2,51 @@
 use Rattle.std.specs.Prelude.{◌≡◌, ◌≢◌, ℕ, ◌<◌, Bool, true, Option, List, ◌∷◌, ◌++◌, length}
 use Rattle.std.specs.Option.{ForSome}
 use Rattle.std.specs.List.{AllByRecursion}
+use Rattle.swf_store.specs.declared.image.File.{File}
 use Rattle.swf_store.specs.declared.image.Image.{Image}
 use Rattle.swf_store.specs.Disk.{Only}
-use Rattle.swf_journal.specs.Frames.{header, open_gate, frames_bytes, next_gate}
+use Rattle.swf_store.specs.Files.{bytes_of}
+use Rattle.swf_journal.specs.Frames.{open_gate, frames_bytes, next_gate}
 use Rattle.swf_journal.specs.Stands.{Fits, IsShutAfter}
 
--- a reading: the place of the next gate, the size of the journal, and whether that gate was found not open
+-- a reading: the place of the next gate in a file, the file's size, the most bytes that it may have, and whether that gate
+-- was found not open
 pub record Place : Type 0 where
+  pub file : File
   pub gate : ℕ
   pub size : ℕ
+  pub limit : ℕ
   pub ended : Bool
 
--- these frames of the journal are read, and the reading stands at the gate behind them
-pub record HasRead (journal : List ℕ) (place : Place) (frames : List (List ℕ)) : Type 0 where
+-- a journal that is ready: the place of the next gate in a file, and the most bytes that the file may have
+pub record Gate : Type 0 where
+  pub file : File
+  pub at : ℕ
+  pub limit : ℕ
+
+-- these frames are read, behind what stands in front, and the reading stands at the gate behind them
+pub record HasRead (bytes : List ℕ) (place : Place) (front : List ℕ) (frames : List (List ℕ)) : Type 0 where
   pub gate : ℕ
   pub rest : List ℕ
-  pub bytes : journal ≡ header ++ (frames_bytes frames ++ gate ∷ rest)
+  pub laid : bytes ≡ front ++ (frames_bytes frames ++ gate ∷ rest)
   pub fit : AllByRecursion Fits frames
-  pub here : place.gate ≡ next_gate frames
-  pub size : place.size ≡ length journal
+  pub here : place.gate ≡ next_gate front frames
   pub ended : place.ended ≡ true → gate ≢ open_gate
-  -- opening has closed the gate of a journal that is too short for a frame
-  pub closed : length journal < 25 → gate ≢ open_gate
 
--- the journal holds these frames, and the gate at this place behind them is not open
-pub record IsReady (journal : List ℕ) (place : ℕ) (frames : List (List ℕ)) : Type 0 where
-  pub holds : IsShutAfter journal frames
-  pub here : place ≡ next_gate frames
+-- these bytes hold the frames behind what stands in front, and the gate at this place behind them is not open
+pub record IsReady (bytes : List ℕ) (at : ℕ) (front : List ℕ) (frames : List (List ℕ)) : Type 0 where
+  pub holds : IsShutAfter front bytes frames
+  pub here : at ≡ next_gate front frames
 
--- what reads give is ready at this place, and a stop leaves just that
-pub record IsSettled (image : Image) (may_leave : Image → Type 0) (place : ℕ) (frames : List (List ℕ)) : Type 0 where
-  pub ready : IsReady image.journal place frames
+-- what reads give is ready at this place of a file, and a stop leaves just that
+pub record IsSettled (image : Image) (may_leave : Image → Type 0) (file : File) (at : ℕ) (front : List ℕ) (frames : List (List ℕ)) : Type 0 where
+  pub ready : IsReady (bytes_of image file) at front frames
   pub durable : Only image may_leave
 
--- where the store is honest, this reading of it has read some frames, and a stop leaves what reads give
-abbrev pub IsReadingOf : Option Image → (Image → Type 0) → Place → Type 0
-IsReadingOf seen may_leave place = ForSome seen (λ image. (frames : List (List ℕ)) × HasRead image.journal place frames × Only image may_leave)
+-- where the store is honest, the reading knows the size of its file, and its gate lies in the file
+abbrev pub IsReadingOf : Option Image → Place → Type 0
+IsReadingOf seen place = ForSome seen (λ image. (place.size ≡ length (bytes_of image place.file)) × (place.gate < place.size))
 
--- where the store is honest, its journal is ready at this place
-abbrev pub IsJournalOf : Option Image → (Image → Type 0) → ℕ → Type 0
-IsJournalOf seen may_leave place = ForSome seen (λ image. (frames : List (List ℕ)) × IsSettled image may_leave place frames)
+-- where the store is honest, the gate lies in its file
+abbrev pub IsJournalOf : Option Image → Gate → Type 0
+IsJournalOf seen gate = ForSome seen (λ image. gate.at < length (bytes_of image gate.file))

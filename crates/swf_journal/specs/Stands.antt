@@ -8,18 +8,19 @@ use Rattle.swf_journal.specs.Frames.{header, open_gate, frames_bytes}
 abbrev pub Fits : List ℕ → Type 0
 Fits body = length body < 2 ^ 64
 
--- The header is right, these frames are whole and stand behind open gates, and then comes a gate that is not open.
+-- Behind what stands in front these frames are whole, each behind an open gate, and then comes a gate that is not open.
 -- Bytes behind that gate are free.
-pub record IsShutAfter (journal : List ℕ) (frames : List (List ℕ)) : Type 0 where
+pub record IsShutAfter (front bytes : List ℕ) (frames : List (List ℕ)) : Type 0 where
   pub gate : ℕ
   pub rest : List ℕ
-  pub bytes : journal ≡ header ++ (frames_bytes frames ++ gate ∷ rest)
+  pub laid : bytes ≡ front ++ (frames_bytes frames ++ gate ∷ rest)
   pub shut : gate ≢ open_gate
   pub fit : AllByRecursion Fits frames
 
--- a journal of fewer than 25 bytes stands for no frames, and a longer one for those before its first gate that is not open
+-- a journal of fewer than 25 bytes stands for no frames, and a longer one with a right header for those before its first
+-- gate that is not open
 abbrev pub StandsFor : List ℕ → List (List ℕ) → Type 0
-StandsFor journal frames = ((length journal < 25) × (frames ≡ [])) ⊎ ((25 ≤ length journal) × IsShutAfter journal frames)
+StandsFor journal frames = ((length journal < 25) × (frames ≡ [])) ⊎ ((25 ≤ length journal) × IsShutAfter header journal frames)
 
 -- an image stands for what its journal stands for
 abbrev pub Stands : Image → List (List ℕ) → Type 0

@@ -4,14 +4,14 @@
 mod append;
 mod fault;
 mod frame;
+mod header;
 mod law;
-mod open;
-#[cfg(test)]
-mod tests;
+mod reading;
 mod write;
 
 pub use append::Journal;
 pub use fault::{AppendFault, OpenFault};
 pub use frame::{FrameBytes, build};
+pub use header::begin;
 pub use law::stands_for_one_list;
-pub use open::{Reading, begin};
+pub use reading::Reading;

@@ -74,12 +74,7 @@ impl Image {
     }
 }
 
-fn put_into(
-    alloc: Global,
-    bytes: &mut Bytes,
-    at: usize,
-    piece: &[u8],
-) -> Result<(), AllocError>
+fn put_into(alloc: Global, bytes: &mut Bytes, at: usize, piece: &[u8]) -> Result<(), AllocError>
     ensures ok { OnOk result (bytes.new ≡ put bytes.old at piece.now) }
     ensures err { OnErr result (bytes.new ≡ bytes.old) }
 {

@@ -45,7 +45,12 @@ fn write_all(alloc: Global, image: &mut Image, changes: &[Change]) -> Result<(),
 {
     for change in changes {
         if change.done {
-            image.put(alloc, change.file, change.at as usize, change.bytes.as_slice())?;
+            image.put(
+                alloc,
+                change.file,
+                change.at as usize,
+                change.bytes.as_slice(),
+            )?;
         }
     }
     Ok(())

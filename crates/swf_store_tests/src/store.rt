@@ -1,9 +1,9 @@
-// What no clause says of the stores: that calls succeed, the images of an example, and a real folder.
-use crate::{Bytes, Failed, File, FileStore, Image, MemoryStore, Store, StoreFault};
+// The stores: that calls succeed, the images of examples, and a real folder.
 use std::alloc::Global;
 use std::fs;
 use std::os::unix::fs::PermissionsExt;
 use std::test::Fail;
+use swf_store::{Bytes, Failed, File, FileStore, Image, MemoryStore, Store, StoreFault};
 
 // Writes a piece at the start of the journal and syncs, and gives what a read of six bytes then gives.
 fn write_and_read<S: Store>(alloc: Global, store: &mut S) -> Result<Vec<u8>, Fail> {
@@ -36,10 +36,31 @@ fn a_write_is_read_and_torn_by_a_stop(rt: HostRuntime) -> Result<(), Fail> {
 }
 
 #[test]
+fn a_write_that_fails_may_have_reached_the_file(rt: HostRuntime) -> Result<(), Fail> {
+    let alloc = rt.alloc();
+    let mut store = MemoryStore::new(alloc, Image::empty(alloc), [0, 1].to_vec(alloc)?);
+    assert!(rt; store.write_at(File::Journal, 0, b"abcd") == Err(Failed));
+    assert!(rt; store.sync() == Err(Failed));
+    assert_eq!(rt; store.size(File::Journal)?, 0);
+    store.sync()?;
+    let wanted = [b"".as_slice(), b"abcd", b"ab", &[0xA5; 4]];
+    for after in 1..4 {
+        let images = store.images(alloc, after)?;
+        assert_eq!(rt; images.len(), wanted.len());
+        for (number, image) in images.iter().enumerate() {
+            assert!(rt; number < wanted.len());
+            assert_eq!(rt; image.file(File::Journal), wanted[number]);
+        }
+    }
+    assert_eq!(rt; store.images(alloc, 4)?.len(), 1);
+    Ok(())
+}
+
+#[test]
 fn a_gap_holds_zeros(rt: HostRuntime) -> Result<(), Fail> {
     let alloc = rt.alloc();
     let mut image = Image::empty(alloc);
-    image.journal = Bytes::new([1, 2].to_vec(alloc)?);
+    image.journal = Bytes::of([1, 2].to_vec(alloc)?);
     let mut store = MemoryStore::new(alloc, image.copy(alloc)?, Vec::new(alloc));
     store.write_at(File::Journal, 2, &[3, 4])?;
     store.write_at(File::Journal, 4, &[5])?;

@@ -1,6 +1,0 @@
-use Rattle.std.proofs.Common.{◌≡◌, ◌≤◌, length}
-use Rattle.swf_journal.specs.Place.{IsJournalOf}
-use Rattle.swf_journal.proofs.tests.append_frames.Given as goal
-
-abbrev pub invariant-loop-appended : goal.invariant-loop-appended
-invariant-loop-appended g l = IsJournalOf (g.S.Store.seen l.store) (g.S.Store.may_leave l.store) l.journal

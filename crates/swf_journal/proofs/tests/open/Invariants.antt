@@ -1,5 +1,0 @@
-use Rattle.swf_journal.specs.Place.{IsReadingOf}
-use Rattle.swf_journal.proofs.tests.open.Given as goal
-
-abbrev pub invariant-loop-frames : goal.invariant-loop-frames
-invariant-loop-frames g l = IsReadingOf (g.S.Store.seen l.store) (g.S.Store.may_leave l.store) l.reading
