@@ -6,9 +6,12 @@ use Rattle.std.proofs.lemmas.List.{append_assoc, take-append-drop, drop_more, ta
 use Rattle.swf_store.specs.declared.image.File.{File}
 use Rattle.swf_store.specs.declared.image.File.TheVariants.{Journal}
 use Rattle.swf_store.specs.declared.image.Image.{Image}
-use Rattle.swf_store.specs.Disk.{TornIn, Only}
+use Rattle.swf_store.specs.declared.said.Piece.{Piece}
+use Rattle.swf_store.specs.Disk.{TornIn, Only, NothingNew}
 use Rattle.swf_store.specs.Files.{bytes_of, with_bytes}
 use Rattle.swf_store.specs.Put.{put}
+use Rattle.swf_store.specs.Stops.{LeavesOnly}
+use Rattle.swf_store.proofs.Moments.{goes_on_only}
 use Rattle.swf_journal.specs.declared.reading.Head.TheVariants.{Shut, Cut, Open}
 use Rattle.swf_journal.specs.Frames.{header, open_gate, length_bytes, frames_bytes}
 use Rattle.swf_journal.specs.Opening.{begun, opened, IsFrame, IsHead, IsDamage, KeepsFrames}
@@ -171,6 +174,19 @@ keeps_begun image = ⊎_elim
     (λ short. keeps_short image (with_bytes image Journal (begun image.journal)) short refl (omega (arith, short, length-begun image.journal short)))
     (λ long. subst (λ (l : List ℕ). KeepsFrames image (with_bytes image Journal l)) (sym (begun_long image.journal long)) (keeps_itself image))
     (cases_lt (length image.journal) 25)
+
+module _ {S : Type 0} (moment : S → ℕ) (left_since : S → ℕ → Image → List Piece → Type 0) (said : S → Option (List Piece)) (may_leave : S → Image → Type 0) (image : Image) (old mid new : S)
+    (silent : said mid ≡ said old) (only : Only image (may_leave old)) (nothing : NothingNew (may_leave old) (may_leave mid)) (first : LeavesOnly moment left_since said old mid (may_leave old)) where
+  -- one look after another
+  pub looks_keep : LeavesOnly moment left_since said mid new (may_leave mid) → LeavesOnly moment left_since said old new (KeepsFrames image)
+  looks_keep second =
+      let keeps = only_keeps image (may_leave old) only in
+      goes_on_only moment left_since said old mid new _ _ (KeepsFrames image) silent first second keeps (λ left now. keeps left (nothing left now))
+
+  -- a header that is written after a look
+  pub header_keeps : length image.journal < 25 → (Only image (may_leave mid) → LeavesOnly moment left_since said mid new (TornIn Journal 0 17 image)) → LeavesOnly moment left_since said old new (KeepsFrames image)
+  header_keeps short second =
+      goes_on_only moment left_since said old mid new _ _ (KeepsFrames image) silent first (second (λ left now. only left (nothing left now))) (only_keeps image (may_leave old) only) (λ left torn. header_torn image left short torn)
 
 -- a reading stands in the file that opening has made
 pub begun_reading : (old new : Option Image) (place : Place) → is_some new ≡ is_some old → place.file ≡ Journal → place.gate ≡ 16

@@ -51,4 +51,4 @@ pub record KeepsFrames (image left : Image) : Type 0 where
 abbrev pub Opens : {S : Type 0} → (S → ℕ) → (S → ℕ → Image → List Piece → Type 0) → (S → Option (List Piece)) → (S → Image → Type 0) → S → S → Image → Type 0
 Opens {S} moment left_since said may_leave old new image =
     LeavesOnly moment left_since said old new (may_leave old)
-    ⊎ ((synced : S) × LeavesOnly moment left_since said old synced (may_leave old) × LeavesOnly moment left_since said synced new (KeepsFrames image))
+    ⊎ ((synced : S) × (said synced ≡ said old) × LeavesOnly moment left_since said old synced (may_leave old) × LeavesOnly moment left_since said synced new (KeepsFrames image))

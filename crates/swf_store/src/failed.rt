@@ -1,4 +1,7 @@
 // How a call of a store fails.
+ghost use Rattle.std.specs.Prelude.{◌≡◌};
+ghost use Rattle.swf_store.specs.declared.failed.StoreFault.TheVariants.{Failed as StoreFailed, OutOfMemory as StoreOutOfMemory};
+
 use std::alloc::{AllocError, AllocFailed};
 use std::io;
 use thiserror::Error;
@@ -35,12 +38,16 @@ pub enum StoreFault {
 }
 
 impl From<AllocError> for StoreFault {
+    ghost from_gives = { λ _ e. e ≡ StoreOutOfMemory };
+
     fn from(_: AllocError) -> Self {
         StoreFault::OutOfMemory
     }
 }
 
 impl From<io::Error> for StoreFault {
+    ghost from_gives = { λ _ e. e ≡ StoreFailed };
+
     fn from(_: io::Error) -> Self {
         StoreFault::Failed
     }

@@ -5,13 +5,13 @@ use Rattle.swf_store.specs.declared.image.File.TheVariants.{Journal}
 use Rattle.swf_store.specs.Disk.{Only}
 use Rattle.swf_store.specs.Files.{with_bytes}
 use Rattle.swf_store.proofs.CallLemmas.{begins_one, begins_after, begins_all, done_after}
-use Rattle.swf_store.proofs.Moments.{goes_on_only, weaker_only}
+use Rattle.swf_store.proofs.Moments.{weaker_only}
 use Rattle.swf_journal.specs.Frames.{header}
 use Rattle.swf_journal.specs.JournalCalls.{header_calls}
 use Rattle.swf_journal.specs.Opening.{KeepsFrames}
 use Rattle.swf_journal.specs.Place.{Place}
 use Rattle.swf_journal.proofs.JournalCallLemmas.{header_failed}
-use Rattle.swf_journal.proofs.OpenLemmas.{only_keeps, header_torn, put_header, begun_reading, length-begun, read_new, read_old}
+use Rattle.swf_journal.proofs.OpenLemmas.{only_keeps, looks_keep, header_keeps, put_header, begun_reading, length-begun, read_new, read_old}
 use Rattle.swf_journal.proofs.header.begin_synced.Goals as goal
 
 pub returns-in_err-size-clause-any_moment : goal.returns-in_err-size-clause-any_moment
@@ -22,11 +22,9 @@ returns-in_err-size-clause-any_moment g c = λ image seen.
 pub returns-in_err-write_header-clause-any_moment : goal.returns-in_err-write_header-clause-any_moment
 returns-in_err-write_header-clause-any_moment g c = λ image seen.
     let S = g.S.Store in
-    let only = c.requires image seen in
-    let only_then : Only image (S.may_leave c.journal_size.new.store) = λ left now. only left (c.journal_size.ensures.stop left now) in
     let short : length image.journal < 25 = omega (arith, c.in_ok-size.ensures.size image seen) in
-    goes_on_only S.moment S.left_since S.said c.args.store.now c.journal_size.new.store c.write_header.new.store _ _ (KeepsFrames image) c.journal_size.ensures.said c.journal_size.ensures.any_moment
-    (c.write_header.ensures.any_moment image (c.journal_size.ensures.seen ∙ seen) only_then) (only_keeps image _ only) (λ left torn. header_torn image left short torn)
+    header_keeps S.moment S.left_since S.said S.may_leave image c.args.store.now c.journal_size.new.store c.write_header.new.store c.journal_size.ensures.said (c.requires image seen) c.journal_size.ensures.stop c.journal_size.ensures.any_moment
+    short (c.write_header.ensures.any_moment image (c.journal_size.ensures.seen ∙ seen))
 
 pub returns-in_err-write_header-clause-calls : goal.returns-in_err-write_header-clause-calls
 returns-in_err-write_header-clause-calls g c =
@@ -36,11 +34,9 @@ returns-in_err-write_header-clause-calls g c =
 pub returns-then-size-lt-LEAST_SIZE-clause-any_moment : goal.returns-then-size-lt-LEAST_SIZE-clause-any_moment
 returns-then-size-lt-LEAST_SIZE-clause-any_moment g c = λ image seen.
     let S = g.S.Store in
-    let only = c.requires image seen in
-    let only_then : Only image (S.may_leave c.journal_size.new.store) = λ left now. only left (c.journal_size.ensures.stop left now) in
     let short : length image.journal < 25 = omega (arith, c.in_ok-size.ensures.size image seen) in
-    goes_on_only S.moment S.left_since S.said c.args.store.now c.journal_size.new.store c.write_header.new.store _ _ (KeepsFrames image) c.journal_size.ensures.said c.journal_size.ensures.any_moment
-    (c.write_header.ensures.any_moment image (c.journal_size.ensures.seen ∙ seen) only_then) (only_keeps image _ only) (λ left torn. header_torn image left short torn)
+    header_keeps S.moment S.left_since S.said S.may_leave image c.args.store.now c.journal_size.new.store c.write_header.new.store c.journal_size.ensures.said (c.requires image seen) c.journal_size.ensures.stop c.journal_size.ensures.any_moment
+    short (c.write_header.ensures.any_moment image (c.journal_size.ensures.seen ∙ seen))
 
 pub returns-then-size-lt-LEAST_SIZE-clause-reading : goal.returns-then-size-lt-LEAST_SIZE-clause-reading
 returns-then-size-lt-LEAST_SIZE-clause-reading g c = λ image seen.
@@ -72,9 +68,8 @@ returns-then-size-lt-LEAST_SIZE-clause-stands g c =
 pub returns-in_err-has_header-clause-any_moment : goal.returns-in_err-has_header-clause-any_moment
 returns-in_err-has_header-clause-any_moment g c = λ image seen.
     let S = g.S.Store in
-    let keeps = only_keeps image _ (c.requires image seen) in
-    goes_on_only S.moment S.left_since S.said c.args.store.now c.journal_size.new.store c.has_header.new.store _ _ (KeepsFrames image) c.journal_size.ensures.said c.journal_size.ensures.any_moment
-    c.has_header.ensures.any_moment keeps (λ left now. keeps left (c.journal_size.ensures.stop left now))
+    looks_keep S.moment S.left_since S.said S.may_leave image c.args.store.now c.journal_size.new.store c.has_header.new.store c.journal_size.ensures.said (c.requires image seen) c.journal_size.ensures.stop c.journal_size.ensures.any_moment
+    c.has_header.ensures.any_moment
 
 pub returns-in_err-has_header-clause-calls : goal.returns-in_err-has_header-clause-calls
 returns-in_err-has_header-clause-calls g c =
@@ -84,9 +79,8 @@ returns-in_err-has_header-clause-calls g c =
 pub returns-then-not-branch-clause-any_moment : goal.returns-then-not-branch-clause-any_moment
 returns-then-not-branch-clause-any_moment g c = λ image seen.
     let S = g.S.Store in
-    let keeps = only_keeps image _ (c.requires image seen) in
-    goes_on_only S.moment S.left_since S.said c.args.store.now c.journal_size.new.store c.has_header.new.store _ _ (KeepsFrames image) c.journal_size.ensures.said c.journal_size.ensures.any_moment
-    c.has_header.ensures.any_moment keeps (λ left now. keeps left (c.journal_size.ensures.stop left now))
+    looks_keep S.moment S.left_since S.said S.may_leave image c.args.store.now c.journal_size.new.store c.has_header.new.store c.journal_size.ensures.said (c.requires image seen) c.journal_size.ensures.stop c.journal_size.ensures.any_moment
+    c.has_header.ensures.any_moment
 
 pub returns-then-not-branch-clause-calls : goal.returns-then-not-branch-clause-calls
 returns-then-not-branch-clause-calls g c =
@@ -95,9 +89,8 @@ returns-then-not-branch-clause-calls g c =
 pub returns-clause-any_moment : goal.returns-clause-any_moment
 returns-clause-any_moment g c = λ image seen.
     let S = g.S.Store in
-    let keeps = only_keeps image _ (c.requires image seen) in
-    goes_on_only S.moment S.left_since S.said c.args.store.now c.journal_size.new.store c.has_header.new.store _ _ (KeepsFrames image) c.journal_size.ensures.said c.journal_size.ensures.any_moment
-    c.has_header.ensures.any_moment keeps (λ left now. keeps left (c.journal_size.ensures.stop left now))
+    looks_keep S.moment S.left_since S.said S.may_leave image c.args.store.now c.journal_size.new.store c.has_header.new.store c.journal_size.ensures.said (c.requires image seen) c.journal_size.ensures.stop c.journal_size.ensures.any_moment
+    c.has_header.ensures.any_moment
 
 pub returns-clause-reading : goal.returns-clause-reading
 returns-clause-reading g c = λ image seen.
