@@ -1,6 +1,7 @@
 pub mod Calls
 pub mod Disk
 pub mod Faults
+pub mod FileState
 pub mod Files
 pub mod Images
 pub mod Laws

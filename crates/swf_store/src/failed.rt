@@ -1,5 +1,9 @@
 // How a call of a store fails.
+ghost use Rattle.std.specs.Prelude.{◌≡◌};
+ghost use Rattle.swf_store.specs.declared.failed.StoreFault.TheVariants.{Failed as StoreFailed, OutOfMemory as StoreOutOfMemory};
+
 use std::alloc::{AllocError, AllocFailed};
+use std::io;
 use thiserror::Error;
 
 /// A call of a store that was not done. The store's count of faults tells that there was one.
@@ -34,7 +38,17 @@ pub enum StoreFault {
 }
 
 impl From<AllocError> for StoreFault {
+    ghost from_gives = { λ _ e. e ≡ StoreOutOfMemory };
+
     fn from(_: AllocError) -> Self {
         StoreFault::OutOfMemory
+    }
+}
+
+impl From<io::Error> for StoreFault {
+    ghost from_gives = { λ _ e. e ≡ StoreFailed };
+
+    fn from(_: io::Error) -> Self {
+        StoreFault::Failed
     }
 }

@@ -1,116 +1,96 @@
 // A store over three files of a folder. It tells nothing of what they hold.
-ghost use Rattle.std.specs.Prelude.{◌≡◌, ◌≤◌, length, IfOk, Ok};
+ghost use Rattle.std.specs.Prelude.{◌≡◌, ◌<◌, ◌≤◌, false, length, IfOk, IsErr, Ok, OnOk};
+ghost use Rattle.swf_store.specs.Disk.{TornIn, Follows};
 ghost use Rattle.swf_store.specs.Faults.{HasCause};
+ghost use Rattle.swf_store.specs.FileState.{faults_of, opened_as, AllSynced, IsSynced, AnyImage};
 
+use crate::opened::Opened;
 use crate::{Failed, File, Store, StoreFault};
 use std::alloc::Global;
 use std::fs::{Files, OpenFile, OpenOptions};
-use std::io::{self, Read, Seek, SeekFrom, Write};
-use std::os::unix::fs::OpenOptionsExt;
+use std::io::{self, ErrorKind};
+use std::os::fd::AsRawFd;
+use std::os::unix::fs::FileExt;
 
-// A file, and whether it may hold what no sync has made sure of.
+// The three files.
 #[derive(Drop)]
-struct Opened<F> {
-    file: F,
-    unsynced: bool,
+struct Folder<F> {
+    journal: Opened<F>,
+    snap0: Opened<F>,
+    snap1: Opened<F>,
 }
 
-impl<F: Read + Write + Seek + OpenFile> Opened<F> {
-    fn size(&self) -> io::Result<u64> {
-        Ok(self.file.metadata()?.len())
-    }
-
-    fn read_at(&mut self, at: u64, into: &mut [u8]) -> io::Result<usize>
-        ensures { IfOk result (λ n. n ≤ length into.old) }
-    {
-        self.file.seek(SeekFrom::Start(at))?;
-        let mut count = 0;
-        while count < into.len() {
-            let got = self.file.read(&mut into[count..])?;
-            if got == 0 {
-                break;
-            }
-            count += got;
-        }
-        Ok(count)
-    }
-
-    fn write_at(&mut self, at: u64, bytes: &[u8]) -> io::Result<()> {
-        self.unsynced = true;
-        self.file.seek(SeekFrom::Start(at))?;
-        self.file.write_all(bytes)
-    }
-
-    fn sync(&mut self) -> io::Result<()> {
-        if self.unsynced {
-            self.file.sync_data()?;
-            self.unsynced = false;
-        }
-        Ok(())
-    }
+// A call that fails closes the files; then so many calls have failed since.
+#[derive(Drop)]
+enum State<F> {
+    Open(Folder<F>),
+    Closed(u64),
 }
 
-fn open_file<R: Files>(
-    rt: &R,
-    alloc: Global,
-    folder: &str,
-    name: &str,
-) -> Result<Opened<R::File>, StoreFault> {
-    let path = format!(in alloc; "{folder}/{name}")?;
-    let opened = OpenOptions::new()
-        .read(true)
-        .write(true)
-        .create(true)
-        .mode(0o600)
-        .open(rt, path.as_str());
-    match opened {
-        // What an earlier run wrote may not be on the disk.
-        Ok(file) => Ok(Opened {
-            file,
-            unsynced: true,
-        }),
-        Err(_) => Err(StoreFault::Failed),
-    }
-}
-
-// Makes sure of the names of the files.
-fn sync_folder<R: Files>(rt: &R, folder: &str) -> io::Result<()> {
-    OpenOptions::new().read(true).open(rt, folder)?.sync_all()
-}
-
-/// Three files of a folder: `swf.journal`, `swf.snap0` and `swf.snap1`.
+/// Three files of a folder, `swf.journal`, `swf.snap0` and `swf.snap1`, which no other process has as a store. After a
+/// call that failed they are closed, and each later call fails: a folder is opened again by another store.
 #[derive(Drop)]
 pub struct FileStore<R: Files> {
-    alloc: Global,
-    journal: Opened<R::File>,
-    snap0: Opened<R::File>,
-    snap1: Opened<R::File>,
-    faults: u64,
+    state: State<R::File>,
 }
 
-impl<R: Files> FileStore<R> {
-    /// Opens the files of a folder, and makes those that are missing for the owner alone.
+impl<R: Files> FileStore<R>
+where
+    R::File: FileExt + AsRawFd,
+{
+    /// Opens the files of a folder, the working one where it is empty, and makes those that are missing. All are for the
+    /// owner alone, and the folder has their names. `Failed` where another store has them, or a name stands for anything
+    /// but a regular file.
     pub fn in_folder(rt: R, alloc: Global, folder: &str) -> Result<FileStore<R>, StoreFault>
     where
         R: Drop,
+        ensures open { IfOk result (λ store. faults_of store.state ≡ 0) }
+        ensures synced { IfOk result (λ store. IsSynced store.state) }
     {
-        let journal = open_file(&rt, alloc, folder, "swf.journal")?;
-        let snap0 = open_file(&rt, alloc, folder, "swf.snap0")?;
-        let snap1 = open_file(&rt, alloc, folder, "swf.snap1")?;
-        if sync_folder(&rt, folder).is_err() {
-            return Err(StoreFault::Failed);
-        }
+        let folder = if folder.is_empty() { "." } else { folder };
+        let files = Folder {
+            journal: open_in(&rt, alloc, folder, "swf.journal")?,
+            snap0: open_in(&rt, alloc, folder, "swf.snap0")?,
+            snap1: open_in(&rt, alloc, folder, "swf.snap1")?,
+        };
+        sync_names(&rt, folder)?;
         Ok(FileStore {
-            alloc,
-            journal,
-            snap0,
-            snap1,
-            faults: 0,
+            state: State::Open(files),
         })
     }
 
-    fn sync_all(&mut self) -> io::Result<()>
-        ensures { self.new.faults ≡ self.old.faults }
+    // What a call of the system gave. One that failed closes the files.
+    fn settle<T: Drop>(&mut self, outcome: io::Result<T>) -> Result<T, Failed>
+        ensures cause { HasCause (faults_of self.old.state) (faults_of self.new.state) result }
+        ensures value { IfOk result (λ value. outcome ≡ Ok value) }
+        ensures kept { OnOk result (self.new.state ≡ self.old.state) }
+    {
+        match outcome {
+            Ok(value) => Ok(value),
+            Err(_) => {
+                self.state = State::Closed(match self.state {
+                    State::Open(_) => 0,
+                    State::Closed(later) => later.saturating_add(1),
+                });
+                Err(Failed)
+            }
+        }
+    }
+}
+
+impl<F: OpenFile + FileExt + AsRawFd + Drop> Folder<F> {
+    fn file(&mut self, file: File) -> &mut Opened<F>
+        ensures { result.now ≡ opened_as self.old file }
+    {
+        match file {
+            File::Journal => &mut self.journal,
+            File::Snap0 => &mut self.snap0,
+            File::Snap1 => &mut self.snap1,
+        }
+    }
+
+    fn sync(&mut self) -> io::Result<()>
+        ensures { OnOk result (AllSynced self.new) }
     {
         self.journal.sync()?;
         self.snap0.sync()?;
@@ -118,21 +98,34 @@ impl<R: Files> FileStore<R> {
     }
 }
 
-// What a call of the system gave, with the fault counted.
-fn counted<T: Drop>(faults: &mut u64, outcome: io::Result<T>) -> Result<T, Failed>
-    ensures cause { HasCause faults.old faults.new result }
-    ensures value { IfOk result (λ value. outcome ≡ Ok value) }
-{
-    match outcome {
-        Ok(value) => Ok(value),
-        Err(_) => {
-            *faults = faults.saturating_add(1);
-            Err(Failed)
-        }
-    }
+// What a call of a closed store gives.
+fn closed() -> io::Error {
+    ErrorKind::NotConnected.into()
 }
 
-impl<R: Files> Store for FileStore<R> {
+fn open_in<R: Files>(
+    rt: &R,
+    alloc: Global,
+    folder: &str,
+    name: &str,
+) -> Result<Opened<R::File>, StoreFault>
+where
+    R::File: FileExt + AsRawFd,
+    ensures { IfOk result (λ opened. opened.unsynced ≡ false) }
+{
+    let path = format!(in alloc; "{folder}/{name}")?;
+    Ok(Opened::at(rt, path.as_str())?)
+}
+
+// Makes sure of the names in a folder.
+fn sync_names<R: Files>(rt: &R, folder: &str) -> io::Result<()> {
+    OpenOptions::new().read(true).open(rt, folder)?.sync_all()
+}
+
+impl<R: Files> Store for FileStore<R>
+where
+    R::File: FileExt + AsRawFd,
+{
     ghost use Rattle.std.specs.Prelude.{None};
     ghost use Rattle.swf_store.specs.Said.{untold};
 
@@ -142,11 +135,11 @@ impl<R: Files> Store for FileStore<R> {
 
     ghost calls = { λ _. None };
 
-    ghost store_faults = { λ store. store.faults };
+    ghost store_faults = { λ store. faults_of store.state };
 
     ghost moment = { λ _. 0 };
 
-    ghost may_leave = { λ _ _. Unit {0} };
+    ghost may_leave = { λ _. AnyImage };
 
     ghost left_since = { λ _ _ _ _. Unit {0} };
 
@@ -160,35 +153,50 @@ impl<R: Files> Store for FileStore<R> {
 
     ghost reads_may_be_left = { λ _ _ _. tt };
 
-    fn size(&mut self, file: File) -> Result<u64, Failed> {
-        let result = match file {
-            File::Journal => self.journal.size(),
-            File::Snap0 => self.snap0.size(),
-            File::Snap1 => self.snap1.size(),
+    fn size(&mut self, file: File) -> Result<u64, Failed>
+        ensures cause { HasCause (faults_of self.old.state) (faults_of self.new.state) result }
+        ensures ended { 0 < faults_of self.old.state → IsErr result }
+    {
+        let outcome = match &mut self.state {
+            State::Open(folder) => folder.file(file).size(),
+            State::Closed(_) => Err(closed()),
         };
-        counted(&mut self.faults, result)
+        self.settle(outcome)
     }
 
-    fn read_at(&mut self, file: File, at: u64, into: &mut [u8]) -> Result<usize, Failed> {
-        let result = match file {
-            File::Journal => self.journal.read_at(at, into),
-            File::Snap0 => self.snap0.read_at(at, into),
-            File::Snap1 => self.snap1.read_at(at, into),
+    fn read_at(&mut self, file: File, at: u64, into: &mut [u8]) -> Result<usize, Failed>
+        ensures bound { IfOk result (λ n. n ≤ length into.old) }
+        ensures cause { HasCause (faults_of self.old.state) (faults_of self.new.state) result }
+        ensures ended { 0 < faults_of self.old.state → IsErr result }
+    {
+        let outcome = match &mut self.state {
+            State::Open(folder) => folder.file(file).read_at(at, into),
+            State::Closed(_) => Err(closed()),
         };
-        counted(&mut self.faults, result)
+        self.settle(outcome)
     }
 
-    fn write_at(&mut self, file: File, at: u64, bytes: &[u8]) -> Result<(), Failed> {
-        let result = match file {
-            File::Journal => self.journal.write_at(at, bytes),
-            File::Snap0 => self.snap0.write_at(at, bytes),
-            File::Snap1 => self.snap1.write_at(at, bytes),
+    fn write_at(&mut self, file: File, at: u64, bytes: &[u8]) -> Result<(), Failed>
+        ensures stop { Follows (TornIn file at (length bytes.now)) AnyImage AnyImage }
+        ensures cause { HasCause (faults_of self.old.state) (faults_of self.new.state) result }
+        ensures ended { 0 < faults_of self.old.state → IsErr result }
+    {
+        let outcome = match &mut self.state {
+            State::Open(folder) => folder.file(file).write_at(at, bytes),
+            State::Closed(_) => Err(closed()),
         };
-        counted(&mut self.faults, result)
+        self.settle(outcome)
     }
 
-    fn sync(&mut self) -> Result<(), Failed> {
-        let result = self.sync_all();
-        counted(&mut self.faults, result)
+    fn sync(&mut self) -> Result<(), Failed>
+        ensures synced { OnOk result (IsSynced self.new.state) }
+        ensures cause { HasCause (faults_of self.old.state) (faults_of self.new.state) result }
+        ensures ended { 0 < faults_of self.old.state → IsErr result }
+    {
+        let outcome = match &mut self.state {
+            State::Open(folder) => folder.sync(),
+            State::Closed(_) => Err(closed()),
+        };
+        self.settle(outcome)
     }
 }

@@ -7,6 +7,7 @@ mod failed;
 mod files;
 mod image;
 mod memory;
+mod opened;
 mod replay;
 mod said;
 mod store;

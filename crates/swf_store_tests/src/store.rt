@@ -1,9 +1,7 @@
-// The stores: that calls succeed, the images of examples, and a real folder.
+// The store in memory: that calls succeed, and the images of examples.
 use std::alloc::Global;
-use std::fs;
-use std::os::unix::fs::PermissionsExt;
 use std::test::Fail;
-use swf_store::{Bytes, Failed, File, FileStore, Image, MemoryStore, Store, StoreFault};
+use swf_store::{Bytes, Failed, File, Image, MemoryStore, Store};
 
 // Writes a piece at the start of the journal and syncs, and gives what a read of six bytes then gives.
 fn write_and_read<S: Store>(alloc: Global, store: &mut S) -> Result<Vec<u8>, Fail> {
@@ -82,21 +80,5 @@ fn a_call_whose_number_is_listed_fails(rt: HostRuntime) -> Result<(), Fail> {
     store.write_at(File::Snap0, 0, b"x")?;
     assert!(rt; store.sync() == Err(Failed));
     assert_eq!(rt; store.size(File::Snap0)?, 1);
-    Ok(())
-}
-
-#[test]
-fn a_folder_keeps_what_is_written(rt: HostRuntime) -> Result<(), Fail> {
-    let alloc = rt.alloc();
-    let mut store = FileStore::in_folder(rt, alloc, ".")?;
-    let read = write_and_read(alloc, &mut store)?;
-    assert_eq!(rt; read.as_slice(), b"abcd".as_slice());
-    let mut again = FileStore::in_folder(rt, alloc, ".")?;
-    assert_eq!(rt; again.size(File::Journal)?, 4);
-    assert_eq!(rt; again.size(File::Snap1)?, 0);
-    let mode = fs::metadata(&rt, "swf.journal")?.permissions().mode();
-    assert_eq!(rt; mode & 0o777, 0o600);
-    let missing = FileStore::in_folder(rt, alloc, "missing");
-    assert!(rt; matches!(missing, Err(StoreFault::Failed)));
     Ok(())
 }

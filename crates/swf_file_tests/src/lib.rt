@@ -1,0 +1,9 @@
+//! Tests of the store over files, in real folders and over a file system that fails, is interrupted, and does less than asked.
+#![tactic(auto)]
+
+#[cfg(test)]
+mod folder;
+#[cfg(test)]
+mod syncs;
+#[cfg(test)]
+mod watched;
