@@ -25,7 +25,7 @@ const LONG_FRAME: [u8; 27] = *b"SWFJRNL1\0\0\0\0\0\0\0\0\xA5\0\0\0\0\0\0\0\x02x\
 const LONGEST_FRAME: [u8; 27] = *b"SWFJRNL1\0\0\0\0\0\0\0\0\xA5\xFF\xFF\xFF\xFF\xFF\xFF\xFF\xFFx\0";
 
 // The journal of a store, and how many frames it has.
-fn open<S: Store>(alloc: Global, store: &mut S) -> Result<(Journal, u64), OpenFault>
+pub(crate) fn open<S: Store>(alloc: Global, store: &mut S) -> Result<(Journal, u64), OpenFault>
     ensures { IfOk result (λ opened. IsJournalOf (S.seen store.new) opened.0) }
 {
     let mut reading = begin(store)?;

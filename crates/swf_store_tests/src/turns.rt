@@ -1,8 +1,9 @@
 // Turns over a host in memory: that calls succeed, and that nothing is said of a frame that is not acknowledged.
+use crate::journal::open;
 use std::alloc::Global;
 use std::test::Fail;
 use swf_host::{Host, Input, ScriptHost, TurnFault, two_turns};
-use swf_journal::{AppendFault, OpenFault, begin, build};
+use swf_journal::{AppendFault, build};
 use swf_store::{Bytes, Image, MemoryStore};
 
 type MemoryHost = ScriptHost<MemoryStore>;
@@ -19,11 +20,7 @@ fn host_of(alloc: Global, failing: &[u64]) -> Result<MemoryHost, Fail> {
 // Opens the journal of the host, and takes two turns.
 fn turns<H: Host>(alloc: Global, host: &mut H) -> Result<Result<(), TurnFault>, Fail> {
     let frame = build(alloc, b"body".as_slice())?;
-    let mut reading = begin(host)?;
-    if reading.next_frame(alloc, host)?.is_some() {
-        return Err(OpenFault::OutOfMemory.into());
-    }
-    let mut journal = reading.finish();
+    let (mut journal, _) = open(alloc, host)?;
     let replies = (b"one".as_slice(), b"two".as_slice());
     Ok(two_turns(host, &mut journal, (&frame, &frame), 7, replies))
 }
