@@ -1,3 +1,4 @@
+pub mod Grown
 pub mod TextLemmas
 pub mod Weights
 pub mod Rests

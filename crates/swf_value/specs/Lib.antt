@@ -1,8 +1,10 @@
 pub mod Value
 pub mod ValueCode
+pub mod Weight
 pub mod Node
 pub mod NodeFalls
 pub mod Members
+pub mod Grow
 pub mod Written
 pub mod Read
 pub mod Builtin

@@ -2,11 +2,11 @@
 #![tactic(auto)]
 
 mod builtin;
-mod copy;
 mod expr;
 mod fault;
+mod list;
+mod map;
 mod measure;
-mod members;
 mod name;
 mod op;
 mod order;
@@ -22,6 +22,8 @@ mod write;
 pub use builtin::Builtin;
 pub use expr::{Expr, ExprMember, ExprNode};
 pub use fault::ValueFault;
+pub use list::JsonList;
+pub use map::JsonMap;
 pub use measure::{depth, size};
 pub use name::Name;
 pub use op::Op;
@@ -30,7 +32,7 @@ pub use read::{read_json, read_json_within};
 pub use same::{is_word, same_texts};
 pub use strand::Strand;
 pub use text::Text;
-pub use value::{Json, Member, Node};
+pub use value::{Json, Member, JsonNode};
 pub use words::{member, word};
 pub use write::write_json;
 

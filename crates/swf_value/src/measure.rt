@@ -4,7 +4,7 @@ ghost use Rattle.swf_value.specs.Value.{depth, depth_items, depth_members};
 ghost use Rattle.swf_value.specs.Node.{node_value, items_of, members_of};
 ghost use Rattle.swf_value.specs.Size.{size, size_items, size_members};
 
-use crate::value::{Json, Member, Node};
+use crate::value::{Json, Member, JsonNode};
 
 /// One for each list, object and other value inside, and one for each byte of the texts and names;
 /// the greatest number where that is greater still. It takes no memory.
@@ -13,10 +13,10 @@ pub fn size(value: &Json) -> u64
     ensures { result ≡ min (size value.now) (2 ^ 64 - 1) }
 {
     match value.node() {
-        Node::Null | Node::Bool(_) | Node::Int(_) => 1,
-        Node::Text(text) => (text.as_str().len() as u64).saturating_add(1),
-        Node::List(items) => size_of_items(items).saturating_add(1),
-        Node::Object(members) => size_of_members(members).saturating_add(1),
+        JsonNode::Null | JsonNode::Bool(_) | JsonNode::Int(_) => 1,
+        JsonNode::Text(text) => (text.as_str().len() as u64).saturating_add(1),
+        JsonNode::List(items) => size_of_items(items.as_slice()).saturating_add(1),
+        JsonNode::Object(members) => size_of_members(members.as_slice()).saturating_add(1),
     }
 }
 

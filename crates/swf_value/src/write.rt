@@ -9,7 +9,7 @@ ghost use Rattle.swf_value.specs.Written.{written, comma, written_items, written
 ghost use Rattle.swf_value.specs.Read.{read_within};
 
 use crate::text::Text;
-use crate::value::{Json, Member, Node};
+use crate::value::{Json, Member, JsonNode};
 use std::alloc::{AllocError, Global};
 
 /// Appends the compact text of a value. After an `Err` nothing was appended.
@@ -36,13 +36,13 @@ fn write_value(alloc: Global, value: &Json, out: &mut Vec<u8>) -> Result<(), All
     ensures kept { Extends out.old.items out.new.items }
 {
     match value.node() {
-        Node::Null => out.extend_from_slice(b"null"),
-        Node::Bool(true) => out.extend_from_slice(b"true"),
-        Node::Bool(false) => out.extend_from_slice(b"false"),
-        Node::Int(number) => out.extend_from_slice(number.to_string(alloc)?.as_bytes()),
-        Node::Text(text) => write_text(text, out),
-        Node::List(items) => write_list(alloc, items, out),
-        Node::Object(members) => write_object(alloc, members, out),
+        JsonNode::Null => out.extend_from_slice(b"null"),
+        JsonNode::Bool(true) => out.extend_from_slice(b"true"),
+        JsonNode::Bool(false) => out.extend_from_slice(b"false"),
+        JsonNode::Int(number) => out.extend_from_slice(number.to_string(alloc)?.as_bytes()),
+        JsonNode::Text(text) => write_text(text, out),
+        JsonNode::List(items) => write_list(alloc, items.as_slice(), out),
+        JsonNode::Object(members) => write_object(alloc, members.as_slice(), out),
     }
 }
 
