@@ -16,3 +16,4 @@ pub mod ExprFalls
 pub mod Order
 pub mod Size
 pub mod Same
+pub mod Ascii

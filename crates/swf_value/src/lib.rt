@@ -1,7 +1,10 @@
 //! JSON values with whole numbers, their text, and the small types that every layer shares.
 #![tactic(auto)]
 
+mod ascii;
+mod builder;
 mod builtin;
+mod bytes;
 mod expr;
 mod fault;
 mod list;
@@ -19,12 +22,15 @@ mod whole;
 mod words;
 mod write;
 
+pub use ascii::{all_digits, is_digit, is_letter, is_lower, is_upper};
+pub use builder::TextBuilder;
 pub use builtin::Builtin;
+pub use bytes::Bytes;
 pub use expr::{Expr, ExprMember, ExprNode};
 pub use fault::ValueFault;
 pub use list::JsonList;
 pub use map::JsonMap;
-pub use measure::{depth, size};
+pub use measure::{depth, size, size_within};
 pub use name::Name;
 pub use op::Op;
 pub use order::{compare, order_laws};

@@ -1,5 +1,5 @@
 // The order of values.
-ghost use Rattle.std.specs.Prelude.{◌≡◌, length, slice_index};
+ghost use Rattle.std.specs.Prelude.{◌≡◌, chars, length, slice_index};
 ghost use Rattle.std.specs.Ordering.{nat_cmp};
 ghost use Rattle.std.specs.Cmp.Lexicographic.{slice_cmp};
 ghost use Rattle.swf_value.specs.Node.{node_value, items_of, members_of};
@@ -53,7 +53,14 @@ fn rank_of(node: &JsonNode) -> u8
 fn compare_texts(a: &Text, b: &Text) -> Ordering
     ensures { result ≡ slice_cmp nat_cmp a.now b.now }
 {
-    a.as_str().chars().cmp(b.as_str().chars())
+    compare_strs(a.as_str(), b.as_str())
+}
+
+/// The order of two texts as `std` has them, by their characters.
+pub(crate) fn compare_strs(a: &str, b: &str) -> Ordering
+    ensures { result ≡ slice_cmp nat_cmp (chars a.now) (chars b.now) }
+{
+    a.cmp(b)
 }
 
 /// The order of two lists, item by item.
