@@ -5,6 +5,7 @@ pub mod Rests
 pub mod OrderLaws
 pub mod ExprLemmas
 pub mod Writing
+pub mod PlainRuns
 pub mod Escapes
 pub mod Utf8Order
 pub mod Wholes

@@ -1,5 +1,5 @@
 // Writing a value as text.
-ghost use Rattle.std.specs.Prelude.{◌≡◌, ◌++◌, ◌<◌, ◌≤◌, ◌∷◌, List, ℕ, [], Ok, OnOk, OnErr, OnTrue, true, false};
+ghost use Rattle.std.specs.Prelude.{◌≡◌, ◌++◌, ◌<◌, ◌≤◌, ◌∷◌, List, ℕ, [], Ok, OnOk, OnErr, IsTrue, true, false};
 ghost use Rattle.std.specs.Char.{digit_char};
 ghost use Rattle.std.specs.Fmt.{signed_decimal};
 ghost use Rattle.std.specs.List.{flat_map};
@@ -132,18 +132,19 @@ fn write_bytes(bytes: &[u8], out: &mut Vec<u8>) -> Result<(), AllocError>
 {
     let mut start = 0;
     for (index, byte) in bytes.iter().enumerate() {
-        if !is_plain(*byte) {
-            out.extend_from_slice(&bytes[start..index])?;
-            write_byte(*byte, out)?;
-            start = index + 1;
+        if is_plain(*byte) {
+            continue;
         }
+        out.extend_from_slice(&bytes[start..index])?;
+        write_byte(*byte, out)?;
+        start = index + 1;
     }
     out.extend_from_slice(&bytes[start..])
 }
 
 /// Whether a byte stands for itself in a text.
 fn is_plain(byte: u8) -> bool
-    ensures { OnTrue result (escaped_byte byte ≡ byte ∷ []) }
+    ensures { IsTrue result → escaped_byte byte ≡ byte ∷ [] }
 {
     byte >= 0x20 && byte != b'"' && byte != b'\\'
 }
