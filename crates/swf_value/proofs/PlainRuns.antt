@@ -3,7 +3,6 @@ use Rattle.std.proofs.Common.{◌≡◌, ◌∙◌, ap, sym, refl, ℕ, suc, ◌
 use Rattle.std.proofs.lemmas.List.{take_at}
 use Rattle.swf_value.specs.Written.{escaped_byte}
 
-
 byte_at : (bs : List ℕ) (i : ℕ) → i < length bs → drop i bs ≡ get_or bs i 0 ∷ drop (i + 1) bs
 byte_at bs i h = rw add-one (drop-cons bs i 0 h)
 
@@ -11,7 +10,7 @@ byte_at bs i h = rw add-one (drop-cons bs i 0 h)
 pub run_on : (bs run out whole : List ℕ) (s i : ℕ) → i < length bs → drop s bs ≡ run ++ drop i bs → s + length run ≡ i
     → escaped_byte (get_or bs i 0) ≡ get_or bs i 0 ∷ [] → out ++ (run ++ flat_map escaped_byte (drop i bs)) ≡ whole
     → (drop s bs ≡ (run ++ get_or bs i 0 ∷ []) ++ drop (i + 1) bs) × (s + length (run ++ get_or bs i 0 ∷ []) ≡ i + 1)
-      × (out ++ ((run ++ get_or bs i 0 ∷ []) ++ flat_map escaped_byte (drop (i + 1) bs)) ≡ whole)
+    × (out ++ ((run ++ get_or bs i 0 ∷ []) ++ flat_map escaped_byte (drop (i + 1) bs)) ≡ whole)
 run_on bs run out whole s i h from size plain e =
     let b = get_or bs i 0 in
     let rest = drop (i + 1) bs in

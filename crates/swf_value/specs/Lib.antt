@@ -5,6 +5,7 @@ pub mod Node
 pub mod NodeFalls
 pub mod Members
 pub mod Grow
+pub mod Place
 pub mod Written
 pub mod Read
 pub mod Builtin

@@ -38,7 +38,7 @@ pub use read::{read_json, read_json_within};
 pub use same::{is_word, same_texts};
 pub use strand::Strand;
 pub use text::Text;
-pub use value::{Json, Member, JsonNode};
+pub use value::{Json, JsonNode, Member};
 pub use words::{member, word};
 pub use write::write_json;
 

@@ -4,7 +4,7 @@ ghost use Rattle.swf_value.specs.Value.{depth, depth_items, depth_members};
 ghost use Rattle.swf_value.specs.Node.{items_of, members_of};
 ghost use Rattle.swf_value.specs.Size.{size, size_items, size_members};
 
-use crate::value::{Json, Member, JsonNode};
+use crate::value::{Json, JsonNode, Member};
 
 /// One for each list, object and other value inside, and one for each byte of the texts and names;
 /// the greatest number where that is greater still. It takes no memory.

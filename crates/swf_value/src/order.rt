@@ -6,7 +6,7 @@ ghost use Rattle.swf_value.specs.Node.{node_value, items_of, members_of};
 ghost use Rattle.swf_value.specs.Order.{rank, value_cmp, items_cmp, members_cmp, names_cmp, OrderLaws};
 
 use crate::text::Text;
-use crate::value::{Json, Member, JsonNode};
+use crate::value::{Json, JsonNode, Member};
 use std::cmp::Ordering;
 
 /// The order of two values: null, false, true, numbers, texts by their characters, lists by their
@@ -27,7 +27,10 @@ fn compare_nodes(a: &JsonNode, b: &JsonNode) -> Ordering
         (JsonNode::Int(x), JsonNode::Int(y)) => x.cmp(y),
         (JsonNode::Text(x), JsonNode::Text(y)) => compare_texts(x, y),
         (JsonNode::List(x), JsonNode::List(y)) => compare_items(x.as_slice(), y.as_slice()),
-        (JsonNode::Object(x), JsonNode::Object(y)) => match compare_names(x.as_slice(), y.as_slice()) {
+        (JsonNode::Object(x), JsonNode::Object(y)) => match compare_names(
+            x.as_slice(),
+            y.as_slice(),
+        ) {
             Ordering::Equal => compare_members(x.as_slice(), y.as_slice()),
             other => other,
         },

@@ -1,7 +1,8 @@
 // A JSON value: one level is a `JsonNode`, and the `Json` round it keeps what holds of each level.
-ghost use Rattle.std.specs.Prelude.{◌≡◌, ◌↔◌, IfOk, IfErr, IsTrue, option_map, chars};
+ghost use Rattle.std.specs.Prelude.{◌≡◌, ◌↔◌, ◌-◌, ◌^◌, min, IfOk, IfErr, IsTrue, option_map, chars};
 ghost use Rattle.swf_value.specs.Node.{node_value};
-ghost use Rattle.swf_value.specs.Grow.{IsList, with_item};
+ghost use Rattle.swf_value.specs.Grow.{IsList, IsObject, with_item, with_put};
+ghost use Rattle.swf_value.specs.Value.{IsLevel, depth};
 
 use crate::list::JsonList;
 use crate::map::JsonMap;
@@ -192,6 +193,19 @@ impl Json {
         self.depth = self.depth.max(depth);
         Ok(())
     }
+
+    /// Puts a member into an object, where it replaces one of the same name: in place where this
+    /// is the object's only owner.
+    #[tactic(auto, using(crate::proofs::Grown::level_with_put))]
+    pub fn put(&mut self, name: Text, value: Json) -> Result<(), AllocError>
+        requires { IsObject self.old }
+        ensures ok { IfOk result (λ _. self.new ≡ with_put self.old name value) }
+        ensures err { IfErr result (λ _. self.new ≡ self.old) }
+    {
+        put_member(&mut self.node, name, value)?;
+        self.depth = depth_of_node(&self.node);
+        Ok(())
+    }
 }
 
 impl Clone for Json {
@@ -223,4 +237,35 @@ fn push_item(node: &mut JsonNode, item: Json) -> Result<(), AllocError>
         JsonNode::List(items) => items.push(item),
         _ => Err(AllocError),
     }
+}
+
+/// Puts a member into an object.
+fn put_member(node: &mut JsonNode, name: Text, value: Json) -> Result<(), AllocError>
+    requires object { IsObject (node_value node.old) }
+    requires level { IsLevel (node_value node.old) }
+    ensures ok { IfOk result (λ _. node_value node.new ≡ with_put (node_value node.old) name value) }
+    ensures err { IfErr result (λ _. node_value node.new ≡ node_value node.old) }
+{
+    match node {
+        JsonNode::Object(members) => members.insert(name, value),
+        _ => Err(AllocError),
+    }
+}
+
+/// How deep lists and objects nest in a level; the greatest number where that is greater still.
+fn depth_of_node(node: &JsonNode) -> u32
+    ensures { result ≡ min (depth (node_value node.now)) (2 ^ 32 - 1) }
+{
+    match node {
+        JsonNode::Null | JsonNode::Bool(_) | JsonNode::Int(_) | JsonNode::Text(_) => 0,
+        JsonNode::List(items) => depth_of_items(items.as_slice()).saturating_add(1),
+        JsonNode::Object(members) => depth_of_members(members.as_slice()).saturating_add(1),
+    }
+}
+
+fn crosses<T: Send + Sync>(_value: &T) {}
+
+/// A value may be moved to another thread, and be looked at by several at once.
+pub fn may_cross(value: &Json) {
+    crosses(value);
 }

@@ -10,7 +10,7 @@ ghost use Rattle.swf_value.specs.Written.{written, comma, written_items, written
 ghost use Rattle.swf_value.specs.Read.{read_within};
 
 use crate::text::Text;
-use crate::value::{Json, Member, JsonNode};
+use crate::value::{Json, JsonNode, Member};
 use itoa::Buffer;
 use std::alloc::AllocError;
 

@@ -17,7 +17,11 @@ loop-index-preserved c =
     let inv = c.loop-index.invariant in
     let bs = c.args.bytes.now in
     let i = c.loop-index.index in
-    let more : c.write_byte.new.out.items ≡ _ = c.in_ok-write_byte.ensures.ok ∙ ap (λ l. l ++ escaped_byte (get_or bs i 0)) c.in_ok-extend_from_slice.ensures.items in
-    ([], refl, omega arith, omega (arith, c.loop-index-test.true),
+    let more : c.write_byte.new.out.items ≡ _ = c.in_ok-write_byte.ensures.ok ∙ ap (λ l. l ++ escaped_byte (get_or bs i 0)) c.in_ok-extend_from_slice.ensures.items in (
+      [],
+      refl,
+      omega arith,
+      omega (arith, c.loop-index-test.true),
       run_written bs inv.0 c.loop-index.out.items c.write_byte.new.out.items _ c.loop-index.start i c.loop-index-test.true inv.1 inv.2 more inv.4,
-      Extends-more _ _ _ _ (Extends-more _ _ _ _ inv.5 c.in_ok-extend_from_slice.ensures.items) c.in_ok-write_byte.ensures.ok)
+      Extends-more _ _ _ _ (Extends-more _ _ _ _ inv.5 c.in_ok-extend_from_slice.ensures.items) c.in_ok-write_byte.ensures.ok,
+    )
