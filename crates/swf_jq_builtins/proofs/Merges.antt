@@ -1,5 +1,5 @@
 -- Members put among others.
-use Rattle.std.proofs.Common.{◌≡◌, ◌∙◌, ℕ, ◌+◌, ◌<◌, ◌≤◌, List, [], ◌∷◌, ◌++◌, length, get_or, refl, ap, sym, subst, arith}
+use Rattle.std.proofs.Common.{◌≡◌, ◌∙◌, ℕ, List, [], ◌∷◌, ◌++◌, refl, ap, sym, subst}
 use Rattle.std.proofs.lemmas.Cmp.{nat_list_cmp_total}
 use Rattle.std.proofs.lemmas.Map.Lookups.{exact_bytes}
 use Rattle.std.specs.Ordering.{nat_cmp, ordering_reverse}
@@ -9,12 +9,12 @@ use Rattle.std.specs.declared.cmp.Ordering.TheVariants.{Less, Equal, Greater}
 use Rattle.std.specs.BTreeMap.{insert_entry}
 use Rattle.std.specs.List.Sorted.{IsStrictlySortedBy}
 use Rattle.std.specs.Map.{keys_of}
-use Rattle.swf_value.specs.Value.{Value, null, Members, no_members, member, IsBefore, LeadsMembers, Ascending}
+use Rattle.swf_value.specs.Value.{Value, Members, no_members, member, IsBefore, LeadsMembers, Ascending}
 use Rattle.swf_jq_builtins.specs.MapMembers.{entries_members}
-use Rattle.swf_jq_builtins.specs.Operations.{member_names, member_values, put, merged}
-use Rattle.swf_jq_builtins.specs.Shared.{fields_of}
-use Rattle.swf_jq_builtins.specs.declared.shared.Field.{Field}
-use Rattle.swf_jq_builtins.proofs.Lists.{members_from, members_step, members_end}
+use Rattle.swf_value.specs.Members.{put}
+use Rattle.swf_jq_builtins.specs.Operations.{merged}
+use Rattle.swf_value.specs.Node.{members_of}
+use Rattle.swf_value.specs.declared.value.Member.{Member}
 
 abbrev Entry : Type 0
 Entry = List ℕ × Value
@@ -56,13 +56,6 @@ merged_onto ms (member k d ns) up =
 pub merged_with_none : (ms : Members) → Ascending ms → merged no_members ms ≡ ms
 merged_with_none ms up = merged_onto no_members ms up
 
--- one more of the members is put
-pub merged_step : (ms ns : Members) (i : ℕ) → i < length (member_values ns) → merged ms (members_from i ns) ≡ merged (put (get_or (member_names ns) i []) (get_or (member_values ns) i null) ms) (members_from (i + 1) ns)
-merged_step ms ns i h = ap (merged ms) (members_step ns i h)
-
-pub merged_done : (ms ns : Members) (i : ℕ) → length (member_values ns) ≤ i → merged ms (members_from i ns) ≡ ms
-merged_done ms ns i h = ap (merged ms) (members_end ns i (omega arith))
-
 -- an insert in a map puts a member
 inserted_by : (k : List ℕ) (v : Value) (e : Entry) (es : List Entry) (r : Ordering) → slice_cmp nat_cmp k e.0 ≡ r → entries_members (insert_entry (slice_cmp nat_cmp) es k v) ≡ put k v (entries_members es) → entries_members (insert_entry (slice_cmp nat_cmp) (e ∷ es) k v) ≡ put k v (entries_members (e ∷ es))
 inserted_by k v e es Less h i = rw h refl
@@ -73,18 +66,18 @@ pub insert_puts : (k : List ℕ) (v : Value) (es : List Entry) → entries_membe
 insert_puts k v [] = refl
 insert_puts k v (e ∷ es) = inserted_by k v e es (slice_cmp nat_cmp k e.0) refl (insert_puts k v es)
 
--- the fields that some entries are
-abbrev pub as_fields : List Entry → List Field
-as_fields [] = []
-as_fields (e ∷ es) = record { name = e.0; value = e.1 } ∷ as_fields es
+-- the members that some entries are
+abbrev pub as_members : List Entry → List Member
+as_members [] = []
+as_members (e ∷ es) = record { name = e.0; value = e.1 } ∷ as_members es
 
-pub fields_of-as_fields : (es : List Entry) → fields_of (as_fields es) ≡ entries_members es
-fields_of-as_fields [] = refl
-fields_of-as_fields (e ∷ es) = ap (member e.0 e.1) (fields_of-as_fields es)
+pub members_of-as_members : (es : List Entry) → members_of (as_members es) ≡ entries_members es
+members_of-as_members [] = refl
+members_of-as_members (e ∷ es) = ap (member e.0 e.1) (members_of-as_members es)
 
-pub as_fields-push : (es : List Entry) (e : Entry) → as_fields (es ++ e ∷ []) ≡ as_fields es ++ record { name = e.0; value = e.1 } ∷ []
-as_fields-push [] e = refl
-as_fields-push (d ∷ es) e = ap (λ fs. record { name = d.0; value = d.1 } ∷ fs) (as_fields-push es e)
+pub as_members-push : (es : List Entry) (e : Entry) → as_members (es ++ e ∷ []) ≡ as_members es ++ record { name = e.0; value = e.1 } ∷ []
+as_members-push [] e = refl
+as_members-push (d ∷ es) e = ap (λ fs. record { name = d.0; value = d.1 } ∷ fs) (as_members-push es e)
 
 -- the entries of a map ascend
 pub ascending : (es : List Entry) → IsStrictlySortedBy (slice_cmp nat_cmp) (keys_of es) → Ascending (entries_members es)

@@ -1,5 +1,5 @@
 -- What the built-in functions make of values (jq 1.7 manual, «Builtin operators and functions»).
-use Rattle.std.specs.Prelude.{ℕ, ◌+◌, ◌-◌, ◌*◌, ℤ, pos, negsuc, zero, suc, ◌+ℤ◌, ◌-ℤ◌, nat_abs, int_le, int_lt, List, [], ◌∷◌, ◌++◌, length, map, reverse, Bool, true, false, not, ◌&&◌, ◌==◌, codes, chars, fold, nat_le, Option, Some, None, unwrap_or, option_map, option_and_then, Result, Ok, Err, if◌then◌else◌}
+use Rattle.std.specs.Prelude.{ℕ, ◌+◌, ◌-◌, ◌*◌, ℤ, pos, negsuc, zero, suc, ◌+ℤ◌, ◌-ℤ◌, nat_abs, int_le, int_lt, List, [], ◌∷◌, ◌++◌, length, map, reverse, Bool, true, false, not, ◌&&◌, ◌==◌, codes, chars, fold, Option, Some, None, unwrap_or, option_map, option_and_then, Result, Ok, Err, if◌then◌else◌}
 use Rattle.std.specs.Char.{to_ascii_lowercase, to_ascii_uppercase}
 use Rattle.std.specs.List.{list_any, list_all, starts_with, ends_with, join_by}
 use Rattle.std.specs.Ordering.{is_lt, is_gt}

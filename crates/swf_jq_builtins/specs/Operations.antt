@@ -1,15 +1,12 @@
 -- What operators make of values (jq 1.7 manual, «Basic filters», «Builtin operators and functions» and «Conditionals and Comparisons»).
-use Rattle.std.specs.Prelude.{ℕ, ◌-◌, ℤ, pos, negsuc, zero, suc, ◌+ℤ◌, ◌-ℤ◌, ◌*ℤ◌, neg_ℤ, int_div, int_rem, List, [], ◌∷◌, ◌++◌, length, filter, Bool, true, false, not, codes, unwrap_or, Result, Ok, Err, nat_lt, slice_index_or, if◌then◌else◌}
+use Rattle.std.specs.Prelude.{ℕ, ◌-◌, ℤ, pos, negsuc, zero, suc, ◌+ℤ◌, ◌-ℤ◌, ◌*ℤ◌, neg_ℤ, int_div, int_rem, List, ◌++◌, length, filter, Bool, true, false, not, codes, unwrap_or, Result, Ok, Err, nat_lt, slice_index_or, if◌then◌else◌}
 use Rattle.std.specs.List.{list_any}
-use Rattle.std.specs.Ordering.{nat_cmp, is_eq, is_ne, is_lt, is_le, is_gt, is_ge}
-use Rattle.std.specs.declared.cmp.Ordering.{Ordering}
-use Rattle.std.specs.declared.cmp.Ordering.TheVariants.{Less, Equal, Greater}
-use Rattle.std.specs.Cmp.Lexicographic.{slice_cmp}
+use Rattle.std.specs.Ordering.{is_eq, is_ne, is_lt, is_le, is_gt, is_ge}
 use Rattle.swf_value.specs.Members.{at, put, values_of, member_values}
 use Rattle.swf_value.specs.Node.{items_of}
 use Rattle.swf_value.specs.Order.{value_cmp}
 use Rattle.swf_value.specs.Read.{in_range}
-use Rattle.swf_value.specs.Value.{Value, null, boolean, int, text, list, object, Items, no_items, item, Members, no_members, member}
+use Rattle.swf_value.specs.Value.{Value, null, boolean, int, text, list, object, Members, no_members, member}
 use Rattle.swf_value.specs.declared.op.Op.{Op}
 use Rattle.swf_value.specs.declared.op.Op.TheVariants as ops
 

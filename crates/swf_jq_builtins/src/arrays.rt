@@ -27,7 +27,7 @@ pub fn is_true(value: &Json) -> bool
     }
 }
 
-#[tactic(auto, using(crate::proofs::Lists::values_of_items_of))]
+#[tactic(auto, using(crate::proofs::Lists::values_of_items_of, crate::proofs::Lists::length_members))]
 pub fn length(alloc: Global, value: &Json) -> Result<Outcome, AllocError>
     ensures { IfOk result (λ o. outcome_of o ≡ length_of value.now) }
 {
@@ -203,16 +203,15 @@ fn greater<'v>(a: &'v Json, b: &'v Json) -> &'v Json
 }
 
 #[tactic(auto, using(crate::proofs::Lists::values_of_items_of))]
-pub fn has(
-    alloc: Global,
-    value: &Json,
-    key: &Json,
-) -> Result<Outcome, AllocError>
+pub fn has(alloc: Global, value: &Json, key: &Json) -> Result<Outcome, AllocError>
     ensures { IfOk result (λ o. outcome_of o ≡ has value.now key.now) }
 {
     match (value.node(), key.node()) {
         (JsonNode::Object(members), JsonNode::Text(name)) => Ok(truth(is_member(members, name))),
-        (JsonNode::List(items), JsonNode::Int(place)) => Ok(truth(is_place(*place, items.as_slice().len()))),
+        (JsonNode::List(items), JsonNode::Int(place)) => Ok(truth(is_place(
+            *place,
+            items.as_slice().len(),
+        ))),
         _ => cannot(alloc, Builtin::Has),
     }
 }

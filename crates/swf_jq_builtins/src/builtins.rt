@@ -11,11 +11,7 @@ use std::alloc::{AllocError, Global};
 use swf_value::{Builtin, Json, JsonNode};
 
 /// What a built-in without argument that gives one value makes of its input.
-pub fn plain(
-    alloc: Global,
-    builtin: Builtin,
-    value: &Json,
-) -> Result<Outcome, AllocError>
+pub fn plain(alloc: Global, builtin: Builtin, value: &Json) -> Result<Outcome, AllocError>
     ensures { IfOk result (λ o. outcome_of o ≡ plain builtin value.now) }
 {
     match builtin {
@@ -133,11 +129,7 @@ fn count_between(a: i64, b: i64) -> u64
 }
 
 /// The numbers from the first up to below the second.
-pub fn range(
-    alloc: Global,
-    from: &Json,
-    to: &Json,
-) -> Result<Several, AllocError>
+pub fn range(alloc: Global, from: &Json, to: &Json) -> Result<Several, AllocError>
     ensures { IfOk result (λ s. several_of s ≡ range_of from.now to.now) }
 {
     match (from.node(), to.node()) {

@@ -11,19 +11,15 @@ ghost use Rattle.swf_value.specs.Value.{Value, null, list, object, Ascending};
 ghost use Rattle.swf_jq_builtins.specs.Operations.{is_same, is_zero, item_at, index_of, parts_of, operate, negated, sum_of, difference_of, product_of, quotient_of, rest_of, without, merged};
 ghost use Rattle.swf_jq_builtins.specs.Outcome.{outcome_of, several_of, put_in};
 
+use crate::fields;
 use crate::outcome::{Outcome, Several, copies, error, fails, text, truth, whole};
 use crate::sorting::{is_among, sort_values};
-use crate::fields;
 use std::alloc::{AllocError, Global};
 use std::collections::BTreeMap;
 use swf_value::{Json, JsonMap, JsonNode, Member, Op, Text, TextBuilder, compare};
 
 /// The value at a key.
-pub fn index(
-    alloc: Global,
-    value: &Json,
-    key: &Json,
-) -> Result<Outcome, AllocError>
+pub fn index(alloc: Global, value: &Json, key: &Json) -> Result<Outcome, AllocError>
     ensures { IfOk result (λ o. outcome_of o ≡ index_of value.now key.now) }
 {
     match (value.node(), key.node()) {
@@ -91,12 +87,7 @@ pub fn parts(alloc: Global, value: &Json) -> Result<Several, AllocError>
 }
 
 /// What an operator makes of its left and its right operand.
-pub fn operate(
-    alloc: Global,
-    op: Op,
-    left: &Json,
-    right: &Json,
-) -> Result<Outcome, AllocError>
+pub fn operate(alloc: Global, op: Op, left: &Json, right: &Json) -> Result<Outcome, AllocError>
     ensures { IfOk result (λ o. outcome_of o ≡ operate op left.now right.now) }
 {
     match op {
@@ -115,11 +106,7 @@ pub fn operate(
 }
 
 #[tactic(auto, using(crate::proofs::Lists::values_of_items_of))]
-pub fn sum(
-    alloc: Global,
-    left: &Json,
-    right: &Json,
-) -> Result<Outcome, AllocError>
+pub fn sum(alloc: Global, left: &Json, right: &Json) -> Result<Outcome, AllocError>
     ensures { IfOk result (λ o. outcome_of o ≡ sum_of left.now right.now) }
 {
     match (left.node(), right.node()) {
@@ -144,11 +131,7 @@ fn joined_texts(alloc: Global, left: &Text, right: &Text) -> Result<Text, AllocE
 }
 
 /// One list after another.
-fn joined_lists(
-    alloc: Global,
-    left: &[Json],
-    right: &[Json],
-) -> Result<Outcome, AllocError>
+fn joined_lists(alloc: Global, left: &[Json], right: &[Json]) -> Result<Outcome, AllocError>
     ensures { IfOk result
         (λ o. outcome_of o ≡ Ok (list (items_of (left.now ++ right.now)))) }
 {
@@ -159,11 +142,7 @@ fn joined_lists(
 }
 
 /// The members of both, where those of the second replace equal names.
-fn merged_objects(
-    alloc: Global,
-    left: &JsonMap,
-    right: &JsonMap,
-) -> Result<Outcome, AllocError>
+fn merged_objects(alloc: Global, left: &JsonMap, right: &JsonMap) -> Result<Outcome, AllocError>
     requires { Ascending left.now }
     ensures { IfOk result
         (λ o. outcome_of o ≡ Ok (object (merged left.now right.now))) }
@@ -175,26 +154,22 @@ fn merged_objects(
 }
 
 #[tactic(auto, using(crate::proofs::Lists::values_of_items_of))]
-fn difference(
-    alloc: Global,
-    left: &Json,
-    right: &Json,
-) -> Result<Outcome, AllocError>
+fn difference(alloc: Global, left: &Json, right: &Json) -> Result<Outcome, AllocError>
     ensures { IfOk result (λ o. outcome_of o ≡ difference_of left.now right.now) }
 {
     match (left.node(), right.node()) {
         (JsonNode::Int(x), JsonNode::Int(y)) => whole(alloc, *x as i128 - *y as i128),
-        (JsonNode::List(x), JsonNode::List(y)) => remaining_items(alloc, x.as_slice(), y.as_slice()),
+        (JsonNode::List(x), JsonNode::List(y)) => remaining_items(
+            alloc,
+            x.as_slice(),
+            y.as_slice(),
+        ),
         _ => fails(alloc, "cannot subtract"),
     }
 }
 
 /// The items that equal none of the others.
-fn remaining_items(
-    alloc: Global,
-    left: &[Json],
-    right: &[Json],
-) -> Result<Outcome, AllocError>
+fn remaining_items(alloc: Global, left: &[Json], right: &[Json]) -> Result<Outcome, AllocError>
     ensures { IfOk result
         (λ o. outcome_of o ≡ Ok (list (items_of (without left.now right.now)))) }
 {
@@ -205,11 +180,7 @@ fn remaining_items(
 }
 
 /// The items that equal none of some ascending values.
-fn remaining(
-    alloc: Global,
-    items: &[Json],
-    others: &[Json],
-) -> Result<Vec<Json>, AllocError>
+fn remaining(alloc: Global, items: &[Json], others: &[Json]) -> Result<Vec<Json>, AllocError>
     requires { IsSortedBy (λ v w. is_lt (value_cmp v w)) others.now }
     ensures { IfOk result (λ v. v.items ≡ without items.now others.now) }
 {
@@ -221,11 +192,7 @@ fn remaining(
 }
 
 /// Keeps a value that equals none of some ascending values.
-fn keep_other(
-    kept: &mut Vec<Json>,
-    value: &Json,
-    others: &[Json],
-) -> Result<(), AllocError>
+fn keep_other(kept: &mut Vec<Json>, value: &Json, others: &[Json]) -> Result<(), AllocError>
     requires { IsSortedBy (λ v w. is_lt (value_cmp v w)) others.now }
     ensures { OnOk result
         (kept.new.items
@@ -240,11 +207,7 @@ fn keep_other(
     Ok(())
 }
 
-fn product(
-    alloc: Global,
-    left: &Json,
-    right: &Json,
-) -> Result<Outcome, AllocError>
+fn product(alloc: Global, left: &Json, right: &Json) -> Result<Outcome, AllocError>
     ensures { IfOk result (λ o. outcome_of o ≡ product_of left.now right.now) }
 {
     match (left.node(), right.node()) {
@@ -259,11 +222,7 @@ fn times(x: i64, y: i64) -> i128
     x as i128 * y as i128
 }
 
-fn quotient(
-    alloc: Global,
-    left: &Json,
-    right: &Json,
-) -> Result<Outcome, AllocError>
+fn quotient(alloc: Global, left: &Json, right: &Json) -> Result<Outcome, AllocError>
     ensures { IfOk result (λ o. outcome_of o ≡ quotient_of left.now right.now) }
 {
     match (left.node(), right.node()) {

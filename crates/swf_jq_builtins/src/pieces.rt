@@ -23,7 +23,12 @@ pub fn join(
         (λ r. outcome_of r ≡ join value.now separator.now)) }
 {
     match (value.node(), separator.node()) {
-        (JsonNode::List(items), JsonNode::Text(separator)) => join_items(alloc, items.as_slice(), separator, room),
+        (JsonNode::List(items), JsonNode::Text(separator)) => join_items(
+            alloc,
+            items.as_slice(),
+            separator,
+            room,
+        ),
         _ => Ok(Some(cannot(alloc, Builtin::Join)?)),
     }
 }
@@ -115,11 +120,7 @@ fn joined(
 }
 
 #[tactic(auto, using(crate::proofs::Lists::values_of_items_of))]
-pub fn split(
-    alloc: Global,
-    value: &Json,
-    separator: &Json,
-) -> Result<Outcome, AllocError>
+pub fn split(alloc: Global, value: &Json, separator: &Json) -> Result<Outcome, AllocError>
     ensures { IfOk result (λ o. outcome_of o ≡ split value.now separator.now) }
 {
     match (value.node(), separator.node()) {
@@ -156,7 +157,7 @@ fn each_character(alloc: Global, letters: &[char]) -> Result<Vec<Json>, AllocErr
     for character in letters {
         let mut draft = TextBuilder::new(alloc);
         draft.push(*character)?;
-        texts.push(Json::text(alloc, draft.into_text())?)?;
+        texts.push(Json::text(draft.into_text(alloc)?))?;
     }
     Ok(texts)
 }

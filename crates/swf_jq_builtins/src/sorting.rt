@@ -82,11 +82,7 @@ fn once(alloc: Global, values: &[Json]) -> Result<Vec<Json>, AllocError>
 }
 
 /// Keeps the value at a place, unless it equals the one before.
-fn keep_other(
-    kept: &mut Vec<Json>,
-    values: &[Json],
-    place: usize,
-) -> Result<(), AllocError>
+fn keep_other(kept: &mut Vec<Json>, values: &[Json], place: usize) -> Result<(), AllocError>
     requires later { 0 < place }
     requires within { place < length values.now }
     ensures { OnOk result

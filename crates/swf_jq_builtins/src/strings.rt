@@ -98,11 +98,7 @@ fn raise_text(alloc: Global, text: &Text) -> Result<Text, AllocError>
     draft.into_text(alloc)
 }
 
-pub fn begins(
-    alloc: Global,
-    value: &Json,
-    start: &Json,
-) -> Result<Outcome, AllocError>
+pub fn begins(alloc: Global, value: &Json, start: &Json) -> Result<Outcome, AllocError>
     ensures { IfOk result (λ o. outcome_of o ≡ text_begins value.now start.now) }
 {
     match (value.node(), start.node()) {
@@ -115,11 +111,7 @@ pub fn begins(
     }
 }
 
-pub fn ends(
-    alloc: Global,
-    value: &Json,
-    end: &Json,
-) -> Result<Outcome, AllocError>
+pub fn ends(alloc: Global, value: &Json, end: &Json) -> Result<Outcome, AllocError>
     ensures { IfOk result (λ o. outcome_of o ≡ text_ends value.now end.now) }
 {
     match (value.node(), end.node()) {

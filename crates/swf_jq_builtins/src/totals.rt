@@ -7,10 +7,9 @@ ghost use Rattle.swf_jq_builtins.specs.MapMembers.{entries_members};
 ghost use Rattle.swf_jq_builtins.specs.Operations.{sum_of, fails};
 ghost use Rattle.swf_jq_builtins.specs.Outcome.{outcome_of};
 
-use crate::operations::sum;
-use crate::operations::{append, values_of};
-use crate::outcome::{Outcome, cannot, fails, text};
 use crate::fields;
+use crate::operations::{append, sum, values_of};
+use crate::outcome::{Outcome, cannot, fails, text};
 use std::alloc::{AllocError, Global};
 use std::collections::BTreeMap;
 use swf_value::{Builtin, Json, JsonNode, Text, TextBuilder};
@@ -21,9 +20,7 @@ pub fn total(alloc: Global, value: &Json) -> Result<Outcome, AllocError>
     ensures { IfOk result (λ o. outcome_of o ≡ total_of value.now) }
 {
     match value.node() {
-        JsonNode::List(items) => {
-            sum_of_all(alloc, items.as_slice())
-        }
+        JsonNode::List(items) => { sum_of_all(alloc, items.as_slice()) }
         JsonNode::Object(members) => {
             let values = values_of(alloc, members.as_slice())?;
             sum_of_all(alloc, &values)
@@ -144,10 +141,7 @@ fn sum_of_objects(alloc: Global, values: &[Json]) -> Result<Outcome, AllocError>
 }
 
 /// Adds an object or null, and says whether it is one of them.
-fn add_object(
-    map: &mut BTreeMap<Text, Json>,
-    value: &Json,
-) -> Result<bool, AllocError>
+fn add_object(map: &mut BTreeMap<Text, Json>, value: &Json) -> Result<bool, AllocError>
     ensures { IfOk result
         (λ b. sum_of (object (entries_members map.old.entries)) (value.now)
         ≡ (if b then Ok (object (entries_members map.new.entries)) else fails (codes "cannot add"))) }

@@ -4,5 +4,5 @@ use Rattle.swf_jq_builtins.specs.Builtins.{gathered}
 use Rattle.swf_jq_builtins.specs.MapMembers.{entries_members}
 use Rattle.swf_jq_builtins.proofs.entries.gathered.Given as goal
 
-abbrev pub invariant-loop-i : goal.invariant-loop-i
-invariant-loop-i l = gathered (entries_members l.map.entries) (drop l.i l.items) ≡ gathered no_members l.items
+abbrev pub invariant-loop-item : goal.invariant-loop-item
+invariant-loop-item l = gathered (entries_members l.map.entries) (drop l.item-index l.items) ≡ gathered no_members l.items

@@ -1,6 +1,6 @@
 use Rattle.std.proofs.Common.{◌≡◌, drop}
 use Rattle.std.specs.List.{list_all}
-use Rattle.swf_jq_builtins.specs.Builtins.{is_digit}
+use Rattle.swf_value.specs.Ascii.{is_digit}
 use Rattle.swf_jq_builtins.proofs.numbers.each_digit.Given as goal
 
 abbrev pub invariant-loop-character : goal.invariant-loop-character
