@@ -9,3 +9,4 @@ pub mod Joins
 pub mod Onces
 pub mod Searches
 pub mod StableSorts
+pub mod Keys

@@ -1,5 +1,5 @@
 -- What the built-in functions make of values (jq 1.7 manual, «Builtin operators and functions»).
-use Rattle.std.specs.Prelude.{ℕ, ◌+◌, ◌-◌, ◌*◌, ℤ, pos, negsuc, zero, suc, ◌+ℤ◌, ◌-ℤ◌, nat_abs, int_le, int_lt, List, [], ◌∷◌, ◌++◌, length, map, reverse, Bool, true, false, not, ◌&&◌, ◌==◌, codes, chars, fold, Option, Some, None, unwrap_or, option_map, option_and_then, Result, Ok, Err, if◌then◌else◌}
+use Rattle.std.specs.Prelude.{ℕ, ◌+◌, ◌-◌, ◌*◌, ℤ, pos, negsuc, zero, suc, ◌+ℤ◌, ◌-ℤ◌, nat_abs, int_le, int_lt, List, [], ◌∷◌, ◌++◌, length, map, reverse, zip, Bool, true, false, not, ◌&&◌, ◌==◌, codes, chars, fold, Option, Some, None, unwrap_or, option_map, option_and_then, Result, Ok, Err, if◌then◌else◌}
 use Rattle.std.specs.Char.{to_ascii_lowercase, to_ascii_uppercase}
 use Rattle.std.specs.List.{list_any, list_all, starts_with, ends_with, join_by}
 use Rattle.std.specs.Ordering.{is_lt, is_gt}
@@ -178,6 +178,10 @@ sorted key (x ∷ xs) = inserted key x (sorted key xs)
 
 abbrev pub sorted_values : List Value → List Value
 sorted_values vs = sorted (λ v. v) vs
+
+-- the values in the order of their keys
+abbrev pub by_keys : List Value → List Value → List Value
+by_keys vs ks = map (λ p. p.1) (sorted (λ p. p.0) (zip ks vs))
 
 -- without those that equal the one before
 abbrev pub once_after : Value → List Value → List Value

@@ -1,11 +1,11 @@
 // Sorting values.
-ghost use Rattle.std.specs.Prelude.{◌≡◌, ◌<◌, ◌-◌, ◌++◌, ◌∷◌, [], if◌then◌else◌, length, slice_index_or, IfOk, OnOk};
+ghost use Rattle.std.specs.Prelude.{◌≡◌, ◌<◌, ◌-◌, ◌++◌, ◌∷◌, [], if◌then◌else◌, length, map, zip, slice_index_or, IfOk, OnOk};
 ghost use Rattle.std.specs.List.{list_any};
 ghost use Rattle.std.specs.List.Sorted.{IsSortedBy};
 ghost use Rattle.std.specs.Ordering.{is_lt};
 ghost use Rattle.swf_value.specs.Order.{value_cmp};
 ghost use Rattle.swf_value.specs.Value.{null};
-ghost use Rattle.swf_jq_builtins.specs.Builtins.{sorted, sorted_values, sort_of, unique_of, once};
+ghost use Rattle.swf_jq_builtins.specs.Builtins.{by_keys, sorted, sorted_values, sort_of, unique_of, once};
 ghost use Rattle.swf_jq_builtins.specs.Operations.{is_same};
 ghost use Rattle.swf_jq_builtins.specs.Outcome.{outcome_of};
 
@@ -13,19 +13,54 @@ use crate::outcome::{Outcome, cannot, copies};
 use std::alloc::{AllocError, Global};
 use swf_value::{Builtin, Json, JsonNode, compare};
 
-/// A value and the list that it is sorted by.
+/// A value and the key that it is sorted by.
 #[derive(Drop)]
-pub struct Keyed {
-    pub key: Json,
-    pub value: Json,
+struct Keyed {
+    key: Json,
+    value: Json,
 }
 
-/// Puts values by ascending key, where those of equal keys keep their order.
-pub fn sort_by_key(keyed: &mut Vec<Keyed>) -> Result<(), AllocError>
+/// The values in the order of their keys, where those of equal keys keep their order.
+#[tactic(auto, using(crate::proofs::Keys::by_keys_is))]
+pub fn sort_by_keys(
+    alloc: Global,
+    values: Vec<Json>,
+    keys: Vec<Json>,
+) -> Result<Vec<Json>, AllocError>
+    ensures { IfOk result (λ v. v.items ≡ by_keys values.items keys.items) }
+{
+    let mut keyed = with_keys(alloc, values, keys)?;
+    sort_by_key(&mut keyed)?;
+    without_keys(alloc, keyed)
+}
+
+fn sort_by_key(keyed: &mut Vec<Keyed>) -> Result<(), AllocError>
     ensures { OnOk result (keyed.new.items ≡ sorted (λ k. k.key) keyed.old.items) }
 {
     keyed.sort_by(|a, b| compare(&a.key, &b.key))?;
     Ok(())
+}
+
+/// Each value with its key.
+fn with_keys(alloc: Global, values: Vec<Json>, keys: Vec<Json>) -> Result<Vec<Keyed>, AllocError>
+    ensures { IfOk result (λ v. map (λ k. (k.key, k.value)) v.items ≡ zip keys.items values.items) }
+{
+    let mut keyed = Vec::with_capacity(alloc, keys.len())?;
+    for (key, value) in keys.into_iter().zip(values) {
+        keyed.push(Keyed { key, value })?;
+    }
+    Ok(keyed)
+}
+
+/// The values without their keys.
+fn without_keys(alloc: Global, keyed: Vec<Keyed>) -> Result<Vec<Json>, AllocError>
+    ensures { IfOk result (λ v. v.items ≡ map (λ k. k.value) keyed.items) }
+{
+    let mut values = Vec::with_capacity(alloc, keyed.len())?;
+    for pair in keyed {
+        values.push(pair.value)?;
+    }
+    Ok(values)
 }
 
 /// Puts values in order.
