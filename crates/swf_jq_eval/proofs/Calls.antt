@@ -1,13 +1,17 @@
 -- Built-ins by their number of arguments.
-use Rattle.std.proofs.Common.{◌≡◌, ◌<◌, List, [], ◌∷◌, length, get_or, refl, ap, arith}
+use Rattle.std.proofs.Common.{◌≡◌, ◌∙◌, ◌<◌, ℕ, List, [], ◌∷◌, length, get_or, drop, suc, refl, sym, ap, arith, Ok}
 use Rattle.swf_value.specs.declared.builtin.Builtin.{Builtin}
 use Rattle.swf_value.specs.declared.builtin.Builtin.TheVariants as builtins
 use Rattle.swf_value.specs.Expr.{Tree}
-use Rattle.swf_value.specs.ExprNode.{trees_of}
-use Rattle.swf_value.specs.Value.{Value}
-use Rattle.swf_jq_eval.specs.Builtins.{plain, with_one}
-use Rattle.swf_jq_eval.specs.Run.{Run, made_of, over}
-use Rattle.swf_jq_eval.specs.Outputs.{Scope, run, runs, alone, with_argument, applied, ranged}
+use Rattle.swf_value.specs.ExprNode.{trees_of, pairs_of, value_or_here}
+use Rattle.swf_value.specs.declared.expr.ExprMember.{ExprMember}
+use Rattle.swf_value.specs.Node.{items_of}
+use Rattle.swf_value.specs.Value.{Value, Items, list}
+use Rattle.swf_value.specs.Expr.{pair}
+use Rattle.swf_jq_builtins.proofs.Lists.{values_of_items_of}
+use Rattle.swf_jq_builtins.specs.Builtins.{plain, with_one}
+use Rattle.swf_jq_eval.specs.Run.{Run, made_of, over, across, each, spread, spend, clean, gave}
+use Rattle.swf_jq_eval.specs.Outputs.{Scope, run, runs, objects, alone, with_argument, applied, ranged, array_of}
 
 pub alone_other : (b : Builtin) (v : Value) → (b ≡ builtins.Empty → ⊥) → (b ≡ builtins.Error → ⊥) → made_of (plain b v) ≡ alone b v
 alone_other builtins.Empty v h k = absurd (h refl)
@@ -29,17 +33,22 @@ with_other builtins.RangeTo f v h1 h2 h3 h4 h5 h6 h7 h8 h9 = absurd (h8 refl)
 with_other builtins.FirstOf f v h1 h2 h3 h4 h5 h6 h7 h8 h9 = absurd (h9 refl)
 with_other b f v h1 h2 h3 h4 h5 h6 h7 h8 h9 = refl
 
-pub call_none : (b : Builtin) (es : List Tree) (v : Value) (r : Scope) → length es ≡ 0 → alone b v ≡ applied b (runs (trees_of es) r) v
-call_none b [] v r h = refl
-call_none b (e ∷ es) v r h = absurd (omega arith)
-
-pub call_one : (b : Builtin) (es : List Tree) (e : Tree) (v : Value) (r : Scope) → length es ≡ 1 → e ≡ get_or es 0 e → with_argument b (run e r) v ≡ applied b (runs (trees_of es) r) v
-call_one b [] e v r h q = absurd (omega arith)
-call_one b (d ∷ []) e v r h q = ap (λ (t : Tree). with_argument b (run t r) v) q
-call_one b (d ∷ c ∷ es) e v r h q = absurd (omega arith)
-
 pub call_two : (b : Builtin) (es : List Tree) (d e : Tree) (v : Value) (r : Scope) → 1 < length es → d ≡ get_or es 0 d → e ≡ get_or es 1 e
     → over (run d r v) (λ x. over (run e r v) (λ y. ranged x y)) ≡ applied b (runs (trees_of es) r) v
 call_two b [] d e v r h p q = absurd (omega arith)
 call_two b (c ∷ []) d e v r h p q = absurd (omega arith)
 call_two b (a ∷ c ∷ es) d e v r h p q = λ i. over (run (p i) r v) (λ x. over (run (q i) r v) (λ y. ranged x y))
+
+-- the items of a list, to which something is done
+pub across_list : (name : List ℕ) (v : Value) (items xs : List Value) (f : List Value → Run) → list (items_of items) ≡ v → xs ≡ items → f xs ≡ across (array_of name v) f
+across_list name v items xs f p q = ap f (q ∙ sym (values_of_items_of items)) ∙ ap (λ w. across (array_of name w) f) p
+
+-- a run for each of some values
+pub each_is_over : (vs : List Value) (g : Value → Run) → each g vs clean ≡ over (gave vs clean) g
+each_is_over vs g = let s = each g vs clean in let n : s.turns ≡ 0 + s.turns = omega arith in λ i. record { values = s.values; end = s.end; turns = n i }
+
+-- the first member of an expression and those behind it
+pub objects_first : (ms : List ExprMember) (m : ExprMember) (o : Value) (r : Scope) (v : Value) → 0 < length ms → m ≡ get_or ms 0 m
+    → objects (pair m.key (value_or_here m.key m.value) (pairs_of (drop 1 ms))) o r v ≡ objects (pairs_of ms) o r v
+objects_first [] m o r v h e = absurd (omega arith)
+objects_first (n ∷ ms) m o r v h e = λ i. objects (pair (e i).key (value_or_here (e i).key (e i).value) (pairs_of ms)) o r v

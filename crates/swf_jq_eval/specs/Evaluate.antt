@@ -1,18 +1,12 @@
 -- What an evaluation shows: nothing but the limit where it takes more turns than are allowed.
-use Rattle.std.specs.Prelude.{List, [], ◌∷◌, map, reverse, nat_lt, if◌then◌else◌}
+use Rattle.std.specs.Prelude.{List, [], ◌∷◌, nat_lt, if◌then◌else◌}
 use Rattle.swf_value.specs.Value.{Value, null}
-use Rattle.swf_jq_eval.specs.declared.vars.Variable.{Variable}
-use Rattle.swf_jq_eval.specs.declared.evaluate.End.{End}
-use Rattle.swf_jq_eval.specs.declared.evaluate.End.TheVariants as ends
-use Rattle.swf_jq_eval.specs.declared.evaluate.First.{First}
-use Rattle.swf_jq_eval.specs.declared.evaluate.First.TheVariants as firsts
+use Rattle.swf_jq_eval.specs.declared.answer.End.{End}
+use Rattle.swf_jq_eval.specs.declared.answer.End.TheVariants as ends
+use Rattle.swf_jq_eval.specs.declared.answer.First.{First}
+use Rattle.swf_jq_eval.specs.declared.answer.First.TheVariants as firsts
 use Rattle.swf_jq_eval.specs.Run.{Ending, clean, raised, Run}
-use Rattle.swf_jq_eval.specs.Outputs.{Scope}
-use Rattle.swf_jq_eval.specs.Frames.{limit}
-
--- the names and values that are given, of which the last of a name counts
-abbrev pub scope_from : List Variable → Scope
-scope_from vs = map (λ x. (x.name, x.value)) (reverse vs)
+use Rattle.swf_jq_eval.specs.Goes.{limit}
 
 abbrev pub end_for : Ending → End
 end_for clean = ends.Clean

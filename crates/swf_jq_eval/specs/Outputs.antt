@@ -5,8 +5,9 @@ use Rattle.swf_value.specs.declared.builtin.Builtin.TheVariants as builtins
 use Rattle.swf_value.specs.Expr.{Tree, here, lit, var, index, iterate, maybe, pipe, both, alt, or, and, binary, neg, empty_list, list_of, object_of, if_then, if_else, bind, apply, Trees, no_trees, tree, Pairs, no_pairs, pair}
 use Rattle.swf_value.specs.Same.{same}
 use Rattle.swf_value.specs.Value.{Value, null, boolean, int, text, list, object, no_items, no_members}
-use Rattle.swf_jq_eval.specs.Operations.{Answer, fails, is_true, values_of, index_of, parts_of, operate, negated, put}
-use Rattle.swf_jq_eval.specs.Builtins.{plain, with_one, range_of, sorted}
+use Rattle.swf_jq_builtins.specs.Operations.{Answer, fails, is_true, index_of, parts_of, operate, negated}
+use Rattle.swf_value.specs.Members.{put, values_of}
+use Rattle.swf_jq_builtins.specs.Builtins.{plain, with_one, range_of, by_keys}
 use Rattle.swf_jq_eval.specs.Run.{Run, clean, gave, gives, none, raises, spend, turn, too_deep, is_shallow, made, followed_by, over, caught, alternative, gathered, list_with, firsts, answered, made_of, spread, onward, across, until}
 
 -- names and their values, the innermost first
@@ -49,10 +50,6 @@ rebuilt vs = rebuilt_from (list_with vs)
 abbrev pub key_by : (Value → Run) → Value → Run
 key_by f x = gathered (f x) (λ ks. gives (list_with ks))
 
--- the values in the order of their keys
-abbrev pub by_keys : List Value → List Value → List Value
-by_keys vs ks = map (λ p. p.1) (sorted (λ p. p.0) (zip ks vs))
-
 abbrev pub sorted_by : (Value → Run) → List Value → Run
 sorted_by f vs = gathered (over (gave vs clean) (key_by f)) (λ ks. made (list_with (by_keys vs ks)))
 
@@ -82,33 +79,38 @@ applied b (f ∷ []) v = with_argument b f v
 applied b (f ∷ g ∷ gs) v = over (f v) (λ x. over (g v) (λ y. ranged x y))
 
 abbrev mutual
-  pub run : Tree → Scope → Value → Run
-  run here r v = turn (gives v)
-  run (lit w) r v = turn (gives w)
-  run (var x) r v = turn (gives (named x r))
-  run (index a k) r v = turn (over (run k r v) (λ y. over (run a r v) (λ x. answered (index_of x y))))
-  run (iterate a) r v = turn (over (run a r v) (λ x. spread (parts_of x)))
-  run (maybe a) r v = turn (caught (run a r v))
-  run (pipe a b) r v = turn (over (run a r v) (λ x. run b r x))
-  run (both a b) r v = turn (followed_by (run a r v) (run b r v))
-  run (alt a b) r v = turn (alternative (run a r v) (run b r v))
-  run (or a b) r v = turn (over (run a r v) (λ x. if is_true x then made (boolean true) else over (run b r v) (λ y. made (boolean (is_true y)))))
-  run (and a b) r v = turn (over (run a r v) (λ x. if is_true x then over (run b r v) (λ y. made (boolean (is_true y))) else made (boolean false)))
-  run (binary o a b) r v = turn (over (run b r v) (λ y. over (run a r v) (λ x. made_of (operate o x y))))
-  run (neg a) r v = turn (over (run a r v) (λ x. made_of (negated x)))
-  run empty_list r v = turn (made (list no_items))
-  run (list_of a) r v = turn (gathered (run a r v) (λ vs. made (list_with vs)))
-  run (object_of ps) r v = turn (objects ps (object no_members) r v)
-  run (if_then c a) r v = turn (over (run c r v) (λ x. if is_true x then run a r v else gives v))
-  run (if_else c a b) r v = turn (over (run c r v) (λ x. if is_true x then run a r v else run b r v))
-  run (bind a x b) r v = turn (over (run a r v) (λ y. run b ((x, y) ∷ r) v))
-  run (apply b es) r v = turn (applied b (runs es r) v)
+  -- what an expression gives, but for its own turn
+  pub node : Tree → Scope → Value → Run
+  node here r v = gives v
+  node (lit w) r v = gives w
+  node (var x) r v = gives (named x r)
+  node (index a k) r v = over (turn (node k r v)) (λ y. over (turn (node a r v)) (λ x. answered (index_of x y)))
+  node (iterate a) r v = over (turn (node a r v)) (λ x. spread (parts_of x))
+  node (maybe a) r v = caught (turn (node a r v))
+  node (pipe a b) r v = over (turn (node a r v)) (λ x. turn (node b r x))
+  node (both a b) r v = followed_by (turn (node a r v)) (turn (node b r v))
+  node (alt a b) r v = alternative (turn (node a r v)) (turn (node b r v))
+  node (or a b) r v = over (turn (node a r v)) (λ x. if is_true x then made (boolean true) else over (turn (node b r v)) (λ y. made (boolean (is_true y))))
+  node (and a b) r v = over (turn (node a r v)) (λ x. if is_true x then over (turn (node b r v)) (λ y. made (boolean (is_true y))) else made (boolean false))
+  node (binary o a b) r v = over (turn (node b r v)) (λ y. over (turn (node a r v)) (λ x. made_of (operate o x y)))
+  node (neg a) r v = over (turn (node a r v)) (λ x. made_of (negated x))
+  node empty_list r v = made (list no_items)
+  node (list_of a) r v = gathered (turn (node a r v)) (λ vs. made (list_with vs))
+  node (object_of ps) r v = objects ps (object no_members) r v
+  node (if_then c a) r v = over (turn (node c r v)) (λ x. if is_true x then turn (node a r v) else gives v)
+  node (if_else c a b) r v = over (turn (node c r v)) (λ x. if is_true x then turn (node a r v) else turn (node b r v))
+  node (bind a x b) r v = over (turn (node a r v)) (λ y. turn (node b ((x, y) ∷ r) v))
+  node (apply b es) r v = applied b (runs es r) v
 
   -- the objects that the pairs that are left make of an object; an earlier pair is the outer loop, and in a pair the key
   pub objects : Pairs → Value → Scope → Value → Run
   objects no_pairs o r v = made o
-  objects (pair k w ps) o r v = over (run k r v) (λ y. over (run w r v) (λ x. onward (with_member y x o) (λ p. objects ps p r v)))
+  objects (pair k w ps) o r v = over (turn (node k r v)) (λ y. over (turn (node w r v)) (λ x. onward (with_member y x o) (λ p. objects ps p r v)))
 
   pub runs : Trees → Scope → List (Value → Run)
   runs no_trees r = []
-  runs (tree e es) r = run e r ∷ runs es r
+  runs (tree e es) r = (λ v. turn (node e r v)) ∷ runs es r
+
+-- what an expression gives for an input: every expression takes a turn
+abbrev pub run : Tree → Scope → Value → Run
+run e r v = turn (node e r v)

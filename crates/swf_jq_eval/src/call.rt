@@ -1,327 +1,364 @@
-// Built-ins that are applied.
-ghost use Rattle.std.specs.Prelude.{◌≡◌, IfOk};
+// What the built-in functions give for an input.
+ghost use Rattle.std.specs.Prelude.{◌≡◌, pos, codes, true, false, IfOk, if◌then◌else◌};
 ghost use Rattle.swf_value.specs.ExprNode.{trees_of};
-ghost use Rattle.swf_jq_eval.specs.Operations.{parts_of};
-ghost use Rattle.swf_jq_eval.specs.Builtins.{plain, with_one};
-ghost use Rattle.swf_jq_eval.specs.Run.{clean, gave, gives, raises, made, made_of, over, spread, across, until, gathered, list_with};
-ghost use Rattle.swf_jq_eval.specs.Outputs.{run, runs, named, alone, with_argument, applied, array_of, parts_of_made, sorted_by, rebuilt, ranged};
-ghost use Rattle.swf_jq_eval.specs.Frames.{Comes, Goes, resume, body_run};
-ghost use Rattle.swf_jq_eval.specs.Outcome.{outcome_of, several_of};
-ghost use Rattle.swf_value.specs.declared.builtin.Builtin.TheVariants.{ToEntries};
+ghost use Rattle.swf_value.specs.Value.{int};
+ghost use Rattle.swf_jq_builtins.specs.Builtins.{plain, with_one};
+ghost use Rattle.swf_jq_builtins.specs.Operations.{is_true, parts_of};
+ghost use Rattle.swf_jq_builtins.specs.Outcome.{several_of};
+ghost use Rattle.swf_jq_eval.specs.Run.{made, made_of, list_with, none, spread, over, firsts, first_or, gathered, raises, across, until, ended};
+ghost use Rattle.swf_jq_eval.specs.Outputs.{run, runs, applied, alone, with_argument, array_of, ranged, parts_of_made, rebuilt, rebuilt_from, sorted_by};
+ghost use Rattle.swf_jq_eval.specs.Names.{scope_of};
+ghost use Rattle.swf_jq_eval.specs.Goes.{Goes, Comes, ending_of};
 
-use crate::frame::{Body, Control, Ending, Frame, Loop, Search, Step};
-use crate::machine::Machine;
-use crate::outcome::{Outcome, Several};
-use crate::settle::discard;
-use crate::shared::Shared;
-use crate::stop::Stop;
-use crate::{answers, builtins, operations, start, step};
+use crate::forms::{all, make_list};
+use crate::out::{Ending, Out, Outputs, Stop, count, make, make_of, over, raise, raise_text, room, spread};
+use crate::scope::Scope;
+use crate::search::{each_of, sorted, until};
 use std::alloc::{AllocError, Global};
-use swf_value::{Builtin, Expr, Text};
+use swf_jq_builtins::{Outcome, Several, error, is_true, parts, plain, range, range_len, with_one};
+use swf_value::{Builtin, Expr, Json, JsonNode, depth};
 
-/// A built-in without arguments.
-fn alone<'a>(
+/// The depth that a value which is made on the way may have.
+const DEEPEST: u32 = 64;
+
+/// What a built-in gives, by the number of its arguments.
+#[cycle(eval)]
+pub fn call(
     alloc: Global,
     builtin: Builtin,
-    input: &Shared<'a>,
-    room: u64,
-) -> Result<Step<'a>, Stop>
-    ensures { Comes room (λ _. alone builtin input.now) result }
+    arguments: &[Expr],
+    scope: &Scope<'_>,
+    input: &Json,
+    out: &mut Out,
+) -> Result<Ending, Stop>
+    ensures { Goes out.old (applied builtin (runs (trees_of arguments.now) (scope_of scope.now)) input.now) out.new result }
+{
+    match arguments {
+        [] => alone(alloc, builtin, input, out),
+        [of] => with_argument(alloc, builtin, of, scope, input, out),
+        [from, to, ..] => ranges(alloc, from, to, scope, input, out),
+    }
+}
+
+/// What a built-in without arguments gives.
+fn alone(alloc: Global, builtin: Builtin, input: &Json, out: &mut Out) -> Result<Ending, Stop>
+    ensures { Goes out.old (alone builtin input.now) out.new result }
 {
     match builtin {
-        Builtin::Empty => Ok(Step::Give(Vec::new(alloc), Ending::Clean, 0)),
-        Builtin::Error => Ok(step::raise(alloc, input.share()?)),
-        _ => {
-            let outcome = builtins::plain(alloc, builtin, input)?;
-            step::made_of(alloc, outcome, room)
-        }
+        Builtin::Empty => Ok(Ending::Clean),
+        Builtin::Error => raise(input, out),
+        _ => make_of(alloc, plain(alloc, builtin, input), out),
     }
 }
 
-/// The parts of a value that is made on the way.
-fn parts_of_made<'a>(alloc: Global, outcome: Outcome<'a>) -> Result<Several<'a>, AllocError>
-    ensures { IfOk result (λ o. several_of o ≡ parts_of_made (outcome_of outcome.entry)) }
+/// What a built-in with one argument gives.
+#[cycle(eval)]
+fn with_argument(
+    alloc: Global,
+    builtin: Builtin,
+    of: &Expr,
+    scope: &Scope<'_>,
+    input: &Json,
+    out: &mut Out,
+) -> Result<Ending, Stop>
+    ensures { Goes out.old (with_argument builtin (λ x. run of.now (scope_of scope.now) x) input.now) out.new result }
 {
-    match outcome {
-        Outcome::Value(value) => {
-            if answers::is_shallow(&value)? {
-                operations::parts(alloc, &value)
+    match builtin {
+        Builtin::AnyOf => any_of(alloc, of, scope, input, out),
+        Builtin::AllOf => all_of(alloc, of, scope, input, out),
+        Builtin::Map => map(alloc, of, scope, input, out),
+        Builtin::Select => select(alloc, of, scope, input, out),
+        Builtin::ErrorWith => error_with(alloc, of, scope, input, out),
+        Builtin::WithEntries => with_entries(alloc, of, scope, input, out),
+        Builtin::SortBy => sort_by(alloc, of, scope, input, out),
+        Builtin::RangeTo => range_to(alloc, of, scope, input, out),
+        Builtin::FirstOf => first_of(alloc, of, scope, input, out),
+        _ => apply_each(alloc, builtin, of, scope, input, out),
+    }
+}
+
+/// Whether an output for some item is true.
+#[cycle(eval)]
+#[inline(never)]
+fn any_of(
+    alloc: Global,
+    of: &Expr,
+    scope: &Scope<'_>,
+    input: &Json,
+    out: &mut Out,
+) -> Result<Ending, Stop>
+    ensures { Goes out.old (across (array_of (codes "cannot any") input.now) (until true (λ x. run of.now (scope_of scope.now) x))) out.new result }
+{
+    match input.node() {
+        JsonNode::List(items) => until(alloc, true, items.as_slice(), of, scope, out),
+        _ => raise_text(alloc, "cannot any", out),
+    }
+}
+
+/// Whether each output for each item is true.
+#[cycle(eval)]
+#[inline(never)]
+fn all_of(
+    alloc: Global,
+    of: &Expr,
+    scope: &Scope<'_>,
+    input: &Json,
+    out: &mut Out,
+) -> Result<Ending, Stop>
+    ensures { Goes out.old (across (array_of (codes "cannot all") input.now) (until false (λ x. run of.now (scope_of scope.now) x))) out.new result }
+{
+    match input.node() {
+        JsonNode::List(items) => until(alloc, false, items.as_slice(), of, scope, out),
+        _ => raise_text(alloc, "cannot all", out),
+    }
+}
+
+/// The list of all outputs for the items, or for the values of an object.
+#[cycle(eval)]
+#[inline(never)]
+fn map(
+    alloc: Global,
+    of: &Expr,
+    scope: &Scope<'_>,
+    input: &Json,
+    out: &mut Out,
+) -> Result<Ending, Stop>
+    ensures { Goes out.old (gathered (over (spread (parts_of input.now)) (λ x. run of.now (scope_of scope.now) x)) (λ vs. made (list_with vs))) out.new result }
+{
+    let mapped = each_of(alloc, parts(alloc, input), of, scope, out);
+    make_list(alloc, mapped, out)
+}
+
+/// The input, once for each true output.
+#[cycle(eval)]
+#[inline(never)]
+fn select(
+    alloc: Global,
+    of: &Expr,
+    scope: &Scope<'_>,
+    input: &Json,
+    out: &mut Out,
+) -> Result<Ending, Stop>
+    ensures { Goes out.old (over (run of.now (scope_of scope.now) input.now) (λ y. if is_true y then made input.now else none)) out.new result }
+{
+    over(
+        all(alloc, of, scope, input, out),
+        out,
+        |y, out|
+            ensures { Goes out.old (if is_true y.now then made input.entry.now else none) out.new result }
+        {
+            if is_true(y) {
+                make(alloc, input.copy()?, out)
             } else {
-                Ok(Several::Raised(answers::too_deep(alloc)?))
+                Ok(Ending::Clean)
             }
-        }
-        Outcome::Raised(value) => Ok(Several::Raised(value)),
-    }
+        },
+    )
 }
 
-/// The entries of an object.
-fn entries<'a>(alloc: Global, input: &Shared<'a>) -> Result<Several<'a>, AllocError>
-    ensures { IfOk result (λ o. several_of o ≡ parts_of_made (plain ToEntries input.now)) }
+/// The first output as an error.
+#[cycle(eval)]
+#[inline(never)]
+fn error_with(
+    alloc: Global,
+    of: &Expr,
+    scope: &Scope<'_>,
+    input: &Json,
+    out: &mut Out,
+) -> Result<Ending, Stop>
+    ensures { Goes out.old (over (run of.now (scope_of scope.now) input.now) raises) out.new result }
 {
-    let outcome = builtins::plain(alloc, Builtin::ToEntries, input)?;
-    parts_of_made(alloc, outcome)
+    over(
+        all(alloc, of, scope, input, out),
+        out,
+        |y, out|
+            ensures { Goes out.old (raises y.now) out.new result }
+        { raise(y, out) },
+    )
 }
 
-/// The same values once more.
-fn share_all<'a>(alloc: Global, values: &[Shared<'a>]) -> Result<Vec<Shared<'a>>, AllocError>
-    ensures { IfOk result (λ v. v.items ≡ values.now) }
+/// An object of the outputs for its entries.
+#[cycle(eval)]
+#[inline(never)]
+fn with_entries(
+    alloc: Global,
+    of: &Expr,
+    scope: &Scope<'_>,
+    input: &Json,
+    out: &mut Out,
+) -> Result<Ending, Stop>
+    ensures { Goes out.old (gathered (over (spread (parts_of_made (plain Builtin.ToEntries input.now))) (λ x. run of.now (scope_of scope.now) x)) rebuilt) out.new result }
 {
-    let mut copies = Vec::with_capacity(alloc, values.len())?;
-    for value in values {
-        copies.push(value.share()?)?;
-    }
-    Ok(copies)
+    let entries = entries_of(alloc, input);
+    let outer = each_of(alloc, entries, of, scope, out);
+    rebuild(alloc, outer, out)
 }
 
-impl<'a> Machine<'a> {
-    /// The value of a name.
-    pub fn variable(&mut self, alloc: Global, name: &Text) -> Result<Control<'a>, Stop>
-        ensures { Goes self.old (λ r. gives (named name.now r)) self.new result }
-    {
-        let value = start::named(&self.scope, name)?;
-        let step = step::one(alloc, value, 0)?;
-        self.perform(alloc, step)
-    }
-
-    /// What was raised.
-    fn raise(&mut self, alloc: Global, value: Shared<'a>) -> Result<Control<'a>, Stop>
-        ensures { Goes self.old (λ _. raises value.entry) self.new result }
-    {
-        let step = step::raise(alloc, value);
-        self.perform(alloc, step)
-    }
-
-    /// The outputs of an expression go to a frame.
-    fn await_outputs(
-        &mut self,
-        alloc: Global,
-        frame: Frame<'a>,
-        expr: &'a Expr,
-        input: Shared<'a>,
-    ) -> Result<Control<'a>, Stop>
-        ensures { Goes self.old (λ r. resume frame.entry r (run expr.now r input.entry)) self.new result }
-    {
-        self.under(alloc, frame, Step::Apply(expr, input))
-    }
-
-    /// What a loop gives goes to a frame.
-    fn gather(
-        &mut self,
-        alloc: Global,
-        frame: Frame<'a>,
-        body: Body<'a>,
-        values: Vec<Shared<'a>>,
-    ) -> Result<Control<'a>, Stop>
-        ensures { Goes self.old (λ r. resume frame.entry r (over (gave values.entry.items clean) (body_run body.entry r))) self.new result }
-    {
-        match self.push(alloc, frame) {
-            Ok(()) => self.over(alloc, body, values, Ending::Clean),
-            Err(stop) => {
-                discard(body);
-                Err(stop)
+/// The entries of an object, in a list that is made on the way.
+fn entries_of(alloc: Global, input: &Json) -> Result<Several, AllocError>
+    ensures { IfOk result (λ s. several_of s ≡ parts_of_made (plain Builtin.ToEntries input.now)) }
+{
+    match plain(alloc, Builtin::ToEntries, input)? {
+        Outcome::Value(entries) => {
+            if depth(&entries) > DEEPEST {
+                return Ok(Several::Raised(error(alloc, "too deep")?));
             }
+            parts(alloc, &entries)
         }
+        Outcome::Raised(error) => Ok(Several::Raised(error)),
     }
+}
 
-    /// Whether an item has an output of this truth.
-    fn find(
-        &mut self,
-        alloc: Global,
-        truth: bool,
-        items: Several<'a>,
-        test: &'a Expr,
-    ) -> Result<Control<'a>, Stop>
-        ensures { Goes self.old (λ r. across (several_of items.entry) (until truth (run test.now r))) self.new result }
-    {
-        match items {
-            Several::Values(values) => self.search(
-                alloc,
-                Search {
-                    truth,
-                    test,
-                    values,
-                    place: 0,
-                },
-            ),
-            Several::Raised(value) => self.raise(alloc, value),
+/// The object of some entries, where they end clean.
+#[tactic(auto, using(crate::proofs::Runs::made_from, crate::proofs::Runs::made_stop))]
+fn rebuild(alloc: Global, outer: Result<Outputs, Stop>, out: &mut Out) -> Result<Ending, Stop>
+    ensures { (old : _) (s : _) → Comes old s out.old outer → Goes old (gathered s rebuilt) out.new result }
+{
+    let Outputs { values, end } = outer?;
+    match end {
+        Ending::Clean => {
+            let list = Json::list(alloc, values)?;
+            if depth(&list) > DEEPEST {
+                return raise_text(alloc, "too deep", out);
+            }
+            make_of(alloc, plain(alloc, Builtin::FromEntries, &list), out)
         }
+        Ending::Raised(error) => Ok(Ending::Raised(error)),
     }
+}
 
-    /// The list of what an expression gives for the parts.
-    fn map(
-        &mut self,
-        alloc: Global,
-        parts: Several<'a>,
-        expr: &'a Expr,
-    ) -> Result<Control<'a>, Stop>
-        ensures { Goes self.old (λ r. gathered (over (spread (several_of parts.entry)) (run expr.now r)) (λ vs. made (list_with vs))) self.new result }
-    {
-        match parts {
-            Several::Values(values) => self.gather(alloc, Frame::Collect, Body::Pipe(expr), values),
-            Several::Raised(value) => self.raise(alloc, value),
-        }
+/// The items in the order of the keys that an expression makes of them.
+#[cycle(eval)]
+#[inline(never)]
+fn sort_by(
+    alloc: Global,
+    of: &Expr,
+    scope: &Scope<'_>,
+    input: &Json,
+    out: &mut Out,
+) -> Result<Ending, Stop>
+    ensures { Goes out.old (across (array_of (codes "cannot sort_by") input.now) (sorted_by (λ x. run of.now (scope_of scope.now) x))) out.new result }
+{
+    match input.node() {
+        JsonNode::List(items) => sorted(alloc, items.as_slice(), of, scope, out),
+        _ => raise_text(alloc, "cannot sort_by", out),
     }
+}
 
-    /// The object of what an expression gives for the entries.
-    fn with_entries(
-        &mut self,
-        alloc: Global,
-        entries: Several<'a>,
-        expr: &'a Expr,
-    ) -> Result<Control<'a>, Stop>
-        ensures { Goes self.old (λ r. gathered (over (spread (several_of entries.entry)) (run expr.now r)) rebuilt) self.new result }
-    {
-        match entries {
-            Several::Values(values) => self.gather(alloc, Frame::Rebuild, Body::Pipe(expr), values),
-            Several::Raised(value) => self.raise(alloc, value),
-        }
+/// The numbers from 0 to below each output.
+#[cycle(eval)]
+#[inline(never)]
+fn range_to(
+    alloc: Global,
+    of: &Expr,
+    scope: &Scope<'_>,
+    input: &Json,
+    out: &mut Out,
+) -> Result<Ending, Stop>
+    ensures { Goes out.old (over (run of.now (scope_of scope.now) input.now) (ranged (int (pos 0)))) out.new result }
+{
+    over(
+        all(alloc, of, scope, input, out),
+        out,
+        |y, out|
+            ensures { Goes out.old (ranged (int (pos 0)) y.now) out.new result }
+        { give_range(alloc, &Json::int(0), y, out) },
+    )
+}
+
+/// The numbers from each output of the first to below each of the second.
+#[cycle(eval)]
+#[inline(never)]
+fn ranges(
+    alloc: Global,
+    from: &Expr,
+    to: &Expr,
+    scope: &Scope<'_>,
+    input: &Json,
+    out: &mut Out,
+) -> Result<Ending, Stop>
+    ensures { Goes out.old (over (run from.now (scope_of scope.now) input.now) (λ x. over (run to.now (scope_of scope.now) input.now) (λ y. ranged x y))) out.new result }
+{
+    over(
+        all(alloc, from, scope, input, out),
+        out,
+        |x, out|
+            ensures { Goes out.old (over (run to.entry.now (scope_of scope.entry.now) input.entry.now) (λ y. ranged x.now y)) out.new result }
+        {
+            over(
+                all(alloc, to, scope, input, out),
+                out,
+                |y, out|
+                    ensures { Goes out.old (ranged x.entry.now y.now) out.new result }
+                { give_range(alloc, x, y, out) },
+            )
+        },
+    )
+}
+
+/// The numbers from one to below another, each of which takes a turn.
+#[tactic(auto, using(crate::proofs::Applied::range_turns))]
+fn give_range(alloc: Global, from: &Json, to: &Json, out: &mut Out) -> Result<Ending, Stop>
+    ensures { Goes out.old (ranged from.now to.now) out.new result }
+{
+    count(&mut out.turns, range_len(from, to))?;
+    spread(range(alloc, from, to), out)
+}
+
+/// The first output, which is made.
+#[cycle(eval)]
+#[inline(never)]
+fn first_of(
+    alloc: Global,
+    of: &Expr,
+    scope: &Scope<'_>,
+    input: &Json,
+    out: &mut Out,
+) -> Result<Ending, Stop>
+    ensures { Goes out.old (firsts (run of.now (scope_of scope.now) input.now)) out.new result }
+{
+    let outer = all(alloc, of, scope, input, out)?;
+    match outer.values.first() {
+        Some(value) => make(alloc, value.copy()?, out),
+        None => Ok(outer.end),
     }
+}
 
-    /// The list of the items in the order of what an expression gives for each.
-    fn sort_by(
-        &mut self,
-        alloc: Global,
-        items: Several<'a>,
-        expr: &'a Expr,
-    ) -> Result<Control<'a>, Stop>
-        ensures { Goes self.old (λ r. across (several_of items.entry) (sorted_by (run expr.now r))) self.new result }
-    {
-        match items {
-            Several::Values(values) => {
-                let sorted = share_all(alloc, &values)?;
-                self.gather(alloc, Frame::Sort(sorted), Body::KeyBy(expr), values)
-            }
-            Several::Raised(value) => self.raise(alloc, value),
-        }
-    }
+/// What a built-in makes of the input and each output.
+#[cycle(eval)]
+#[inline(never)]
+fn apply_each(
+    alloc: Global,
+    builtin: Builtin,
+    of: &Expr,
+    scope: &Scope<'_>,
+    input: &Json,
+    out: &mut Out,
+) -> Result<Ending, Stop>
+    ensures { Goes out.old (over (run of.now (scope_of scope.now) input.now) (λ y. made_of (with_one builtin input.now y))) out.new result }
+{
+    over(
+        all(alloc, of, scope, input, out),
+        out,
+        |y, out|
+            ensures { Goes out.old (made_of (with_one builtin input.entry.now y.now)) out.new result }
+        { apply_to(alloc, builtin, input, y, out) },
+    )
+}
 
-    /// A built-in that gives one value for each output of its argument.
-    fn call_each(
-        &mut self,
-        alloc: Global,
-        builtin: Builtin,
-        expr: &'a Expr,
-        input: Shared<'a>,
-    ) -> Result<Control<'a>, Stop>
-        ensures { Goes self.old (λ r. over (run expr.now r input.entry) (λ y. made_of (with_one builtin input.entry y))) self.new result }
-    {
-        let kept = input.share()?;
-        self.await_outputs(
-            alloc,
-            Frame::Over(Body::Argument(builtin, kept)),
-            expr,
-            input,
-        )
-    }
-
-    /// The list of what an expression gives for the parts of the input.
-    fn map_parts(
-        &mut self,
-        alloc: Global,
-        expr: &'a Expr,
-        input: &Shared<'a>,
-    ) -> Result<Control<'a>, Stop>
-        ensures { Goes self.old (λ r. gathered (over (spread (parts_of input.now)) (run expr.now r)) (λ vs. made (list_with vs))) self.new result }
-    {
-        let parts = operations::parts(alloc, input)?;
-        self.map(alloc, parts, expr)
-    }
-
-    /// The object of what an expression gives for the entries of the input.
-    fn map_entries(
-        &mut self,
-        alloc: Global,
-        expr: &'a Expr,
-        input: &Shared<'a>,
-    ) -> Result<Control<'a>, Stop>
-        ensures { Goes self.old (λ r. gathered (over (spread (parts_of_made (plain ToEntries input.now))) (run expr.now r)) rebuilt) self.new result }
-    {
-        let entries = entries(alloc, input)?;
-        self.with_entries(alloc, entries, expr)
-    }
-
-    /// A built-in with one argument.
-    fn call_with(
-        &mut self,
-        alloc: Global,
-        builtin: Builtin,
-        expr: &'a Expr,
-        input: Shared<'a>,
-    ) -> Result<Control<'a>, Stop>
-        ensures { Goes self.old (λ r. with_argument builtin (run expr.now r) input.entry) self.new result }
-    {
-        match builtin {
-            Builtin::AnyOf => {
-                let items = answers::array(alloc, "cannot any", &input)?;
-                self.find(alloc, true, items, expr)
-            }
-            Builtin::AllOf => {
-                let items = answers::array(alloc, "cannot all", &input)?;
-                self.find(alloc, false, items, expr)
-            }
-            Builtin::Map => self.map_parts(alloc, expr, &input),
-            Builtin::WithEntries => self.map_entries(alloc, expr, &input),
-            Builtin::SortBy => {
-                let items = answers::array(alloc, "cannot sort_by", &input)?;
-                self.sort_by(alloc, items, expr)
-            }
-            Builtin::Select => {
-                let frame = Frame::Over(Body::Select(input.share()?));
-                self.await_outputs(alloc, frame, expr, input)
-            }
-            Builtin::ErrorWith => {
-                self.await_outputs(alloc, Frame::Over(Body::Raise), expr, input)
-            }
-            Builtin::RangeTo => {
-                let frame = Frame::Over(Body::RangeFrom(Shared::int(0)));
-                self.await_outputs(alloc, frame, expr, input)
-            }
-            Builtin::FirstOf => self.await_outputs(alloc, Frame::First, expr, input),
-            _ => self.call_each(alloc, builtin, expr, input),
-        }
-    }
-
-    /// The range from each output of the first to each of the second.
-    fn call_range(
-        &mut self,
-        alloc: Global,
-        first: &'a Expr,
-        second: &'a Expr,
-        input: Shared<'a>,
-    ) -> Result<Control<'a>, Stop>
-        ensures { Goes self.old (λ r. over (run first.now r input.entry) (λ x. over (run second.now r input.entry) (λ y. ranged x y))) self.new result }
-    {
-        let kept = input.share()?;
-        self.await_outputs(
-            alloc,
-            Frame::Over(Body::RangeFor(second, kept)),
-            first,
-            input,
-        )
-    }
-
-    /// A built-in.
-    pub fn call(
-        &mut self,
-        alloc: Global,
-        builtin: Builtin,
-        arguments: &'a [Expr],
-        input: Shared<'a>,
-    ) -> Result<Control<'a>, Stop>
-        ensures { Goes self.old (λ r. applied builtin (runs (trees_of arguments.now) r) input.entry) self.new result }
-    {
-        let count = arguments.len();
-        if count == 0 {
-            let room = self.room();
-            let step = alone(alloc, builtin, &input, room);
-            self.go(alloc, step)
-        } else if count == 1 {
-            let only = &arguments[0];
-            self.call_with(alloc, builtin, only, input)
-        } else {
-            let first = &arguments[0];
-            let second = &arguments[1];
-            self.call_range(alloc, first, second, input)
-        }
+/// What a built-in makes of a value and its argument.
+#[tactic(auto, using(crate::proofs::Applied::size_made))]
+fn apply_to(
+    alloc: Global,
+    builtin: Builtin,
+    value: &Json,
+    argument: &Json,
+    out: &mut Out,
+) -> Result<Ending, Stop>
+    ensures { Goes out.old (made_of (with_one builtin value.now argument.now)) out.new result }
+{
+    match with_one(alloc, builtin, value, argument, room(out.turns))? {
+        Some(outcome) => make_of(alloc, Ok(outcome), out),
+        None => Err(Stop::Limit),
     }
 }

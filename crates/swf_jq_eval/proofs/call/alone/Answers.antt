@@ -1,10 +1,11 @@
--- What the built-in makes.
-use Rattle.std.proofs.Common.{◌∙◌, ap}
-use Rattle.swf_jq_eval.specs.Run.{made_of}
-use Rattle.swf_jq_eval.proofs.Settles.{comes}
+use Rattle.std.proofs.Common.{subst}
+use Rattle.swf_jq_builtins.specs.Builtins.{plain}
+use Rattle.swf_jq_eval.specs.Goes.{Goes}
 use Rattle.swf_jq_eval.proofs.Calls.{alone_other}
 use Rattle.swf_jq_eval.proofs.call.alone.Goals as goal
 
-pub returns-in_ok-outcome-in_default : goal.returns-in_ok-outcome-in_default
-returns-in_ok-outcome-in_default c =
-    comes c.args.room _ _ c.made_of.result (ap made_of c.in_ok-outcome-in_default.ensures ∙ alone_other c.args.builtin c.args.input.now c.in_default.not-Empty c.in_default.not-Error) c.made_of.ensures
+pub returns-in_default : goal.returns-in_default
+returns-in_default c =
+    let b = c.args.builtin in
+    let v = c.args.input.now in
+    subst (λ s. Goes c.args.out.now s c.make_of.new.out c.make_of.result) (alone_other b v c.in_default.not-Empty c.in_default.not-Error) (c.make_of.ensures (plain b v) c.plain.ensures)

@@ -1,0 +1,12 @@
+pub mod Lists
+pub mod Scans
+pub mod Names
+pub mod NumberRows
+pub mod NumberCaps
+pub mod Merges
+pub mod Sums
+pub mod Joins
+pub mod Onces
+pub mod Searches
+pub mod StableSorts
+pub mod Keys

@@ -1,0 +1,5 @@
+pub mod Operations
+pub mod Builtins
+pub mod Outcome
+pub mod MapMembers
+pub mod Caps

@@ -1,0 +1,26 @@
+-- Every expression weighs something.
+use Rattle.std.proofs.Common.{ℕ, ◌≤◌, ◌+◌, arith}
+use Rattle.swf_value.specs.Expr.{Tree, here, lit, var, index, iterate, maybe, pipe, both, alt, or, and, binary, neg, empty_list, list_of, object_of, if_then, if_else, bind, apply}
+use Rattle.swf_value.specs.ExprNode.{weight}
+
+pub positive : (e : Tree) → 1 ≤ weight e
+positive here = omega arith
+positive (lit v) = omega arith
+positive (var x) = omega arith
+positive (index a b) = omega arith
+positive (iterate a) = omega arith
+positive (maybe a) = omega arith
+positive (pipe a b) = omega arith
+positive (both a b) = omega arith
+positive (alt a b) = omega arith
+positive (or a b) = omega arith
+positive (and a b) = omega arith
+positive (binary o a b) = omega arith
+positive (neg a) = omega arith
+positive empty_list = omega arith
+positive (list_of a) = omega arith
+positive (object_of ps) = omega arith
+positive (if_then c a) = omega arith
+positive (if_else c a b) = omega arith
+positive (bind a x b) = omega arith
+positive (apply f es) = omega arith

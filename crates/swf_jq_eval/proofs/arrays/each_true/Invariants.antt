@@ -1,8 +1,0 @@
-use Rattle.std.proofs.Common.{◌≡◌, drop}
-use Rattle.swf_jq_eval.specs.Look.{list_values}
-use Rattle.std.specs.List.{list_all}
-use Rattle.swf_jq_eval.specs.Operations.{is_true}
-use Rattle.swf_jq_eval.proofs.arrays.each_true.Given as goal
-
-abbrev pub invariant-loop-i : goal.invariant-loop-i
-invariant-loop-i l = list_all is_true (drop l.i (list_values l.items)) ≡ list_all is_true (list_values l.items)

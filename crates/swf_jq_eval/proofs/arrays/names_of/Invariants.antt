@@ -1,8 +1,0 @@
-use Rattle.std.proofs.Common.{◌≡◌, ◌++◌, drop, map}
-use Rattle.swf_jq_eval.specs.Look.{object_members}
-use Rattle.swf_value.specs.Value.{text}
-use Rattle.swf_jq_eval.specs.Operations.{member_names}
-use Rattle.swf_jq_eval.proofs.arrays.names_of.Given as goal
-
-abbrev pub invariant-loop-i : goal.invariant-loop-i
-invariant-loop-i l = l.names.items ++ drop l.i (map text (member_names (object_members l.fields))) ≡ map text (member_names (object_members l.fields))

@@ -1,6 +1,0 @@
-use Rattle.std.proofs.Common.{◌≡◌, ◌++◌, ◌-◌, ◌+ℤ◌, pos}
-use Rattle.swf_jq_eval.specs.Builtins.{numbers_from}
-use Rattle.swf_jq_eval.proofs.arrays.numbers.Given as goal
-
-abbrev pub invariant-loop : goal.invariant-loop
-invariant-loop l = (l.values.items ++ numbers_from l.next (l.count - l.counter) ≡ numbers_from l.first l.count) × (l.next ≡ l.first +ℤ pos l.counter)

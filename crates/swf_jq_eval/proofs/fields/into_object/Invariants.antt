@@ -1,6 +1,0 @@
-use Rattle.std.proofs.Common.{◌≡◌, ◌++◌}
-use Rattle.swf_jq_eval.proofs.Merges.{as_fields}
-use Rattle.swf_jq_eval.proofs.fields.into_object.Given as goal
-
-abbrev pub invariant-loop-name : goal.invariant-loop-name
-invariant-loop-name l = l.fields.items ++ as_fields l.name-iterator ≡ as_fields l.fn.map.entries

@@ -1,7 +1,0 @@
-use Rattle.std.proofs.Common.{◌≡◌, take}
-use Rattle.swf_jq_eval.specs.Builtins.{decimal_value}
-use Rattle.swf_jq_eval.specs.Caps.{capped}
-use Rattle.swf_jq_eval.proofs.numbers.decimal_value.Given as goal
-
-abbrev pub invariant-loop-character : goal.invariant-loop-character
-invariant-loop-character l = l.value ≡ capped (decimal_value (take l.character-index l.characters))

@@ -1,7 +1,0 @@
-use Rattle.std.proofs.Common.{◌≡◌, ◌++◌, drop, option_map}
-use Rattle.swf_jq_eval.specs.Builtins.{pieces_of}
-use Rattle.swf_jq_eval.specs.Look.{list_values}
-use Rattle.swf_jq_eval.proofs.pieces.pieces_of.Given as goal
-
-abbrev pub invariant-loop-i : goal.invariant-loop-i
-invariant-loop-i l = option_map (λ ts. l.pieces.items ++ ts) (pieces_of (drop l.i (list_values l.items))) ≡ pieces_of (list_values l.items)

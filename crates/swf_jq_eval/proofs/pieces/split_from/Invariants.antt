@@ -1,6 +1,0 @@
-use Rattle.std.proofs.Common.{◌≡◌, ◌++◌, [], drop}
-use Rattle.swf_jq_eval.specs.Builtins.{split_from}
-use Rattle.swf_jq_eval.proofs.pieces.split_from.Given as goal
-
-abbrev pub invariant-loop-i : goal.invariant-loop-i
-invariant-loop-i l = l.parts.items ++ split_from l.separator l.skip l.part (drop l.i l.characters) ≡ split_from l.separator 0 [] l.characters

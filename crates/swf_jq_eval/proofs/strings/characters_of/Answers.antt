@@ -1,6 +1,0 @@
-use Rattle.std.proofs.Common.{rules, sym}
-use Rattle.std.proofs.lemmas.Str.{chars_from_encodes}
-use Rattle.swf_jq_eval.proofs.strings.characters_of.Goals as goal
-
-pub returns : goal.returns
-returns c = rw (sym c.as_str.ensures.chars) (search (rules, chars_from_encodes))

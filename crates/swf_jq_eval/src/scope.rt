@@ -1,0 +1,59 @@
+// The names that stand where an expression is evaluated.
+ghost use Rattle.std.specs.Prelude.{◌≡◌, option_map, unwrap_or};
+ghost use Rattle.swf_value.specs.Value.{null};
+ghost use Rattle.swf_jq_eval.specs.Names.{scope_from, scope_of};
+ghost use Rattle.swf_jq_eval.specs.Outputs.{named};
+ghost use Rattle.swf_jq_eval.specs.Run.{gives};
+ghost use Rattle.swf_jq_eval.specs.Goes.{Goes};
+
+use crate::out::{Ending, Out, Stop, give};
+use crate::vars::Variable;
+use swf_value::{Json, Text, same_texts};
+
+/// Names and their values, the innermost first.
+#[derive(Clone, Copy)]
+pub enum Scope<'a> {
+    /// Those that are given, of which the last of a name counts.
+    Given(&'a [Variable]),
+    Bind(&'a Text, &'a Json, &'a Scope<'a>),
+}
+
+/// The value of a name is one output; null where it has none.
+pub fn give_named(name: &Text, scope: &Scope<'_>, out: &mut Out) -> Result<Ending, Stop>
+    ensures { Goes out.old (gives (named name.now (scope_of scope.now))) out.new result }
+{
+    match find(name, scope) {
+        Some(value) => give(value, out),
+        None => give(&Json::null(), out),
+    }
+}
+
+/// The value of a name.
+fn find<'a>(name: &Text, scope: &Scope<'a>) -> Option<&'a Json>
+    ensures { unwrap_or (option_map (λ v. v.now) result) null ≡ named name.now (scope_of scope.now) }
+{
+    match scope {
+        Scope::Given(variables) => find_given(name, *variables),
+        Scope::Bind(bound, value, outer) => {
+            if same_texts(name, *bound) {
+                Some(*value)
+            } else {
+                find(name, *outer)
+            }
+        }
+    }
+}
+
+/// The value of the last of the names that are given.
+fn find_given<'a>(name: &Text, variables: &'a [Variable]) -> Option<&'a Json>
+    ensures { unwrap_or (option_map (λ v. v.now) result) null ≡ named name.now (scope_from variables.now) }
+{
+    let len = variables.len();
+    for i in 0..len {
+        let variable = &variables[len - 1 - i];
+        if same_texts(name, &variable.name) {
+            return Some(&variable.value);
+        }
+    }
+    None
+}
