@@ -9,10 +9,3 @@ mod session;
 mod words;
 
 pub use session::swf_run;
-
-#[cfg(test)]
-mod expression_tests;
-#[cfg(test)]
-mod parse_tests;
-#[cfg(test)]
-mod tests;

@@ -18,7 +18,7 @@ fn one(alloc: Global, name: &str, text: &str) -> Result<Json, AllocError>
 {
     let mut members = Vec::new(alloc);
     members.push(member(alloc, name, Json::text(word(alloc, text)?))?)?;
-    Ok(Json::object(members))
+    Json::object(alloc, members)
 }
 
 // An object of a text and another value.
@@ -32,7 +32,7 @@ fn two(alloc: Global, name: &str, text: &str, other: &str, value: Json) -> Resul
     let mut members = Vec::new(alloc);
     members.push(member(alloc, name, Json::text(word(alloc, text)?))?)?;
     members.push(member(alloc, other, value)?)?;
-    Ok(Json::object(members))
+    Json::object(alloc, members)
 }
 
 // An `ok` with a number.
@@ -68,7 +68,7 @@ fn refused(alloc: Global) -> Result<Json, AllocError>
     let fault = two(alloc, "kind", "not-in-profile", "place", place)?;
     let mut faults = Vec::new(alloc);
     faults.push(fault)?;
-    two(alloc, "error", "refused", "faults", Json::list(faults))
+    two(alloc, "error", "refused", "faults", Json::list(alloc, faults)?)
 }
 
 // The value that a reply's line is of.
@@ -105,7 +105,7 @@ pub fn reply_line(alloc: Global, reply: Reply) -> Result<Vec<u8>, AllocError>
 {
     let value = reply_json(alloc, reply)?;
     let mut line = Vec::new(alloc);
-    write_json(alloc, &value, &mut line)?;
+    write_json(&value, &mut line)?;
     line.push(b'\n')?;
     Ok(line)
 }

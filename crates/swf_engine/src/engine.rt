@@ -240,7 +240,7 @@ fn push_step(alloc: Global, labels: &mut Vec<Label>, id: &Text) -> Result<(), Al
     ensures ok { OnOk result (labels.new.items ≡ labels.old.items ++ Label.Step id.now [] ∷ []) }
     ensures err { OnErr result (labels.new.items ≡ labels.old.items) }
 {
-    let id = id.copy(alloc)?;
+    let id = id.copy()?;
     let strand = Strand::root(alloc);
     labels.push(Label::Step { id, strand })?;
     Ok(())

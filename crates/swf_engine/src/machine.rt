@@ -52,8 +52,8 @@ pub fn same_key(a: &DocKey, b: &DocKey) -> bool
 pub fn begin(alloc: Global, id: &Text, input: &Json) -> Result<Instance, AllocError>
     ensures { IfOk result (λ i. i ≡ record { id = id.now; input = input.now; progress = Progress.Fresh }) }
 {
-    let id = id.copy(alloc)?;
-    let input = input.copy(alloc)?;
+    let id = id.copy()?;
+    let input = input.copy()?;
     Ok(Instance {
         id,
         input,

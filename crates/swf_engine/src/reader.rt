@@ -11,7 +11,7 @@ ghost use Rattle.swf_engine.specs.ReadSmall.{document_or_fault, form_test, has_f
 use crate::forms;
 use std::alloc::{AllocError, Global};
 use swf_document::{DocKey, Document, Kind, Named, Task, Tasks, Template};
-use swf_value::{Json, Member, Node, Text, is_word, same_texts};
+use swf_value::{Json, JsonNode, Member, Text, is_word, same_texts};
 use thiserror::Error;
 
 /// How many tasks a document may have.
@@ -73,7 +73,7 @@ fn has_names(value: &Json, names: &[&str]) -> bool
     ensures { result ≡ has_names value.now (map (λ n. n.now) names.now) }
 {
     match value.node() {
-        Node::Object(members) => have_names(members, names),
+        JsonNode::Object(members) => have_names(members.as_slice(), names),
         _ => false,
     }
 }
@@ -105,7 +105,7 @@ fn text_of(value: &Json) -> Option<&Text>
     ensures { option_map (λ t. t.now) result ≡ text_of value.now }
 {
     match value.node() {
-        Node::Text(text) => Some(text),
+        JsonNode::Text(text) => Some(text),
         _ => None,
     }
 }
@@ -166,9 +166,9 @@ fn copy_key(
 ) -> Result<DocKey, AllocError>
     ensures { IfOk result (λ k. k ≡ record { namespace = namespace.now; name = name.now; version = version.now }) }
 {
-    let namespace = namespace.copy(alloc)?;
-    let name = name.copy(alloc)?;
-    let version = version.copy(alloc)?;
+    let namespace = namespace.copy()?;
+    let name = name.copy()?;
+    let version = version.copy()?;
     Ok(DocKey {
         namespace,
         name,
@@ -180,9 +180,10 @@ fn copy_key(
 fn list_of(alloc: Global, list: &Json) -> Result<Option<Tasks>, AllocError>
     ensures { IfOk result (λ t. t ≡ list_of list.now) }
 {
-    let Node::List(items) = list.node() else {
+    let JsonNode::List(items) = list.node() else {
         return Ok(None);
     };
+    let items = items.as_slice();
     if items.len() > MOST_TASKS {
         return Ok(None);
     }
@@ -212,7 +213,7 @@ fn tasks_of(alloc: Global, items: &[Json]) -> Result<Option<Vec<Named>>, AllocEr
 fn task_of(alloc: Global, value: &Json) -> Result<Option<Named>, AllocError>
     ensures { IfOk result (λ t. t ≡ task_of value.now) }
 {
-    let Node::Object(members) = value.node() else {
+    let JsonNode::Object(members) = value.node() else {
         return Ok(None);
     };
     let [member] = members.as_slice() else {
@@ -232,8 +233,8 @@ fn task_of(alloc: Global, value: &Json) -> Result<Option<Named>, AllocError>
 fn copy_task(alloc: Global, name: &Text, set: &Json) -> Result<Named, AllocError>
     ensures { IfOk result (λ t. t ≡ record { name = name.now; task = record { kind = Kind.Set (Template.Const set.now) } }) }
 {
-    let name = name.copy(alloc)?;
-    let value = set.copy(alloc)?;
+    let name = name.copy()?;
+    let value = set.copy()?;
     let kind = Kind::Set(Template::Const(value));
     Ok(Named {
         name,
@@ -267,7 +268,7 @@ fn is_object(value: &Json) -> bool
     ensures { result ≡ is_object value.now }
 {
     match value.node() {
-        Node::Object(_) => true,
+        JsonNode::Object(_) => true,
         _ => false,
     }
 }
@@ -278,10 +279,10 @@ fn is_constant(value: &Json) -> bool
     ensures { result ≡ is_constant value.now }
 {
     match value.node() {
-        Node::Null | Node::Bool(_) | Node::Int(_) => true,
-        Node::Text(text) => !forms::is_expression(text.as_str().as_bytes()),
-        Node::List(items) => are_constant(items),
-        Node::Object(members) => have_constants(members),
+        JsonNode::Null | JsonNode::Bool(_) | JsonNode::Int(_) => true,
+        JsonNode::Text(text) => !forms::is_expression(text.as_str().as_bytes()),
+        JsonNode::List(items) => are_constant(items.as_slice()),
+        JsonNode::Object(members) => have_constants(members.as_slice()),
     }
 }
 
@@ -331,95 +332,4 @@ fn all_different(tasks: &[Named]) -> bool
         }
     }
     true
-}
-
-#[cfg(test)]
-mod tests {
-    use super::*;
-    use std::test::Fail;
-    use swf_value::read_json;
-
-    const KEY: &str =
-        "{\"dsl\":\"1.0.0\",\"name\":\"order\",\"namespace\":\"shop\",\"version\":\"0.10.0\"}";
-
-    #[test]
-    fn reads_documents(rt: HostRuntime) -> Result<(), Fail> {
-        let alloc = rt.alloc();
-        for (key, tasks, is_read) in [
-            (
-                KEY,
-                "[{\"first\":{\"set\":{\"a\":[1,{\"b\":\"${\"}]}}}]",
-                true,
-            ),
-            (
-                KEY,
-                "[{\"a\":{\"set\":{}}},{\"b\":{\"set\":{}}},{\"c\":{\"set\":{}}}]",
-                true,
-            ),
-            (
-                "{\"dsl\":\"1.0.12\",\"name\":\"a\",\"namespace\":\"0-z\",\"version\":\"999999999.0.1\"}",
-                "[{\"\":{\"set\":{}}}]",
-                true,
-            ),
-            (
-                "{\"dsl\":\"1.0.0\",\"name\":\"order\",\"namespace\":\"shop\",\"version\":\"0.01.0\"}",
-                "[{\"a\":{\"set\":{}}}]",
-                false,
-            ),
-            (
-                "{\"dsl\":\"1.0.0\",\"name\":\"order\",\"namespace\":\"shop\",\"version\":\"1.0\"}",
-                "[{\"a\":{\"set\":{}}}]",
-                false,
-            ),
-            (
-                "{\"dsl\":\"1.0.\",\"name\":\"order\",\"namespace\":\"shop\",\"version\":\"1.0.0\"}",
-                "[{\"a\":{\"set\":{}}}]",
-                false,
-            ),
-            (
-                "{\"dsl\":\"1.0.0\",\"name\":\"Order\",\"namespace\":\"shop\",\"version\":\"1.0.0\"}",
-                "[{\"a\":{\"set\":{}}}]",
-                false,
-            ),
-            (
-                "{\"dsl\":\"1.0.0\",\"name\":\"order-\",\"namespace\":\"shop\",\"version\":\"1.0.0\"}",
-                "[{\"a\":{\"set\":{}}}]",
-                false,
-            ),
-            (
-                "{\"dsl\":\"1.0.0\",\"name\":\"order\",\"version\":\"1.0.0\"}",
-                "[{\"a\":{\"set\":{}}}]",
-                false,
-            ),
-            (
-                "{\"dsl\":\"1.0.0\",\"name\":\"order\",\"namespace\":\"shop\",\"title\":\"\",\"version\":\"1.0.0\"}",
-                "[{\"a\":{\"set\":{}}}]",
-                false,
-            ),
-            (KEY, "[]", false),
-            (KEY, "{}", false),
-            (KEY, "[{\"a\":{\"set\":{}}}],\"use\":{}", false),
-            (
-                KEY,
-                "[{\"a\":{\"set\":{}}},{\"b\":{\"set\":{}}},{\"a\":{\"set\":{}}}]",
-                false,
-            ),
-            (KEY, "[{\"a\":{\"set\":{}},\"b\":{\"set\":{}}}]", false),
-            (KEY, "[{\"end\":{\"set\":{}}}]", false),
-            (KEY, "[{\"a\":{\"set\":{},\"then\":\"end\"}}]", false),
-            (KEY, "[{\"a\":{\"set\":{\"b\":[\" ${ .x } \"]}}}]", false),
-            (KEY, "[{\"a\":{\"set\":\"b\"}}]", false),
-        ] {
-            let text = format!(in alloc; "{{\"document\":{key},\"do\":{tasks}}}")?;
-            let value = read_json(alloc, text.as_str().as_bytes())?;
-            let fault = read_small(alloc, &value).err();
-            let expected = if is_read {
-                None
-            } else {
-                Some(ReadFault::NotInProfile)
-            };
-            assert_eq!(rt; fault, expected, "at {text}");
-        }
-        Ok(())
-    }
 }

@@ -60,7 +60,7 @@ fn first_members(alloc: Global, id: &Text) -> Result<Vec<Member>, AllocError>
 {
     let mut members = Vec::new(alloc);
     members.push(member(alloc, "context", Json::null())?)?;
-    members.push(member(alloc, "id", Json::text(id.copy(alloc)?))?)?;
+    members.push(member(alloc, "id", Json::text(id.copy()?))?)?;
     Ok(members)
 }
 
@@ -72,13 +72,13 @@ pub fn report(alloc: Global, document: &Document, instance: &Instance) -> Result
     let mut members = first_members(alloc, &instance.id)?;
     match output(document, instance) {
         Some(value) => {
-            members.push(member(alloc, "output", value.copy(alloc)?)?)?;
+            members.push(member(alloc, "output", value.copy()?)?)?;
             push_word(alloc, &mut members, "status", "completed")?;
-            Ok(Json::object(members))
+            Json::object(alloc, members)
         }
         None => {
             push_word(alloc, &mut members, "status", "running")?;
-            Ok(Json::object(members))
+            Json::object(alloc, members)
         }
     }
 }

@@ -41,6 +41,3 @@ pub use text::Text;
 pub use value::{Json, JsonNode, Member};
 pub use words::{member, word};
 pub use write::write_json;
-
-#[cfg(test)]
-mod tests;

@@ -446,7 +446,7 @@ to_entries|map("\(.key)=\(.value)")|join("&") => {"b":2,"a":1} => "a=1&b=2"
 
 fn append(alloc: Global, value: &Json, out: &mut String) -> Result<(), AllocError> {
     let mut bytes = Vec::new(alloc);
-    write_json(alloc, value, &mut bytes)?;
+    write_json(value, &mut bytes)?;
     match str::from_utf8(bytes.as_slice()) {
         Ok(text) => out.push_str(text),
         Err(_) => out.push_str("no UTF-8"),

@@ -1,7 +1,7 @@
 // Sessions over the host in memory and over a reader and a writer, with their replies worked out by hand.
-use crate::swf_run;
 use std::alloc::{AllocError, Global};
 use std::test::Fail;
+use swf_cli::swf_run;
 use swf_engine::{Bytes, ConsoleHost, Input, MemoryHost, Turn};
 
 const LOAD: &str =

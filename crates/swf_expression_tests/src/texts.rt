@@ -111,7 +111,7 @@ map => UnknownName 0"#;
 
 fn told(alloc: Global, text: &str) -> Result<String, AllocError> {
     match parse(alloc, text) {
-        Ok(tree) => Ok(print(alloc, &tree)?.into_string()),
+        Ok(tree) => String::from_str(alloc, print(alloc, &tree)?.as_str()),
         Err(ParseFault::TooLong) => String::from_str(alloc, "TooLong"),
         Err(ParseFault::OutOfMemory) => String::from_str(alloc, "OutOfMemory"),
         Err(ParseFault::TooDeep { at }) => format!(in alloc; "TooDeep {at}"),

@@ -1,12 +1,15 @@
 // What is read and written, on examples that were worked out by hand.
-use crate::{Json, Node, Text, ValueFault, read_json, read_json_within, write_json};
+use swf_value::{
+    Json, JsonNode, Text, ValueFault, depth, may_cross, read_json, read_json_within, size, size_within, write_json,
+};
 use std::alloc::{AllocError, Global};
 use std::test::Fail;
+use std::thread;
 
 /// The text of a value.
 fn text_of(alloc: Global, value: &Json) -> Result<Vec<u8>, AllocError> {
     let mut text = Vec::new(alloc);
-    write_json(alloc, value, &mut text)?;
+    write_json(value, &mut text)?;
     Ok(text)
 }
 
@@ -116,7 +119,7 @@ fn escapes_characters(rt: HostRuntime) -> Result<(), Fail> {
 fn takes_values_apart(rt: HostRuntime) -> Result<(), Fail> {
     let alloc = rt.alloc();
     let value = read_json(alloc, b"{\"a\\n\":[1,-2],\"b\":\"c\"}")?;
-    let copy = value.copy(alloc)?;
+    let copy = value.copy()?;
     assert!(rt; copy.is(&value) && !copy.is(&Json::null()));
     let found = text_of(alloc, &copy)?;
     assert_eq!(rt;
@@ -126,10 +129,46 @@ fn takes_values_apart(rt: HostRuntime) -> Result<(), Fail> {
     let item = text_of(alloc, value.member("a\n").ok_or("a list")?)?;
     assert_eq!(rt; item.as_slice(), b"[1,-2]".as_slice());
     assert!(rt; value.member("c").is_none());
-    let JsonNode::Object(members) = copy.into_node() else {
+    let JsonNode::Object(members) = copy.node() else {
         return Err(Fail::from("an object"));
     };
+    let members = members.as_slice();
     assert_eq!(rt; members.len(), 2);
     assert!(rt; members[1].name.is("b") && !members[1].name.is("c"));
+    Ok(())
+}
+
+#[test]
+fn grows_in_place_or_apart(rt: HostRuntime) -> Result<(), Fail> {
+    let alloc = rt.alloc();
+    let mut list = read_json(alloc, b"[1]")?;
+    let before = list.copy()?;
+    list.push(Json::int(2))?;
+    list.push(Json::list(alloc, Vec::new(alloc))?)?;
+    assert_eq!(rt; text_of(alloc, &before)?.as_slice(), b"[1]".as_slice());
+    assert_eq!(rt; text_of(alloc, &list)?.as_slice(), b"[1,2,[]]".as_slice());
+    assert_eq!(rt; depth(&list), 2);
+    let mut object = read_json(alloc, b"{\"b\":[[]],\"d\":1}")?;
+    let before = object.copy()?;
+    for (name, value) in [("c", 3), ("b", 2), ("e", 5), ("a", 1)] {
+        object.put(Text::copy_of(alloc, name)?, Json::int(value))?;
+    }
+    assert_eq!(rt;
+        text_of(alloc, &object)?.as_slice(),
+        b"{\"a\":1,\"b\":2,\"c\":3,\"d\":1,\"e\":5}".as_slice()
+    );
+    assert_eq!(rt; depth(&object), 1);
+    assert_eq!(rt; text_of(alloc, &before)?.as_slice(), b"{\"b\":[[]],\"d\":1}".as_slice());
+    assert_eq!(rt; (size(&before), size_within(&before, 4)), (8, 4));
+    Ok(())
+}
+
+#[test]
+fn crosses_threads(rt: HostRuntime) -> Result<(), Fail> {
+    let value = read_json(rt.alloc(), b"{\"a\":[[\"x\"]]}")?;
+    may_cross(&value);
+    let theirs = value.copy()?;
+    let pair = thread::join(&rt, move || depth(&theirs), || depth(&value));
+    assert_eq!(rt; pair, (3, 3));
     Ok(())
 }
