@@ -6,9 +6,9 @@ use std::alloc::{AllocError, AllocFailed};
 use std::io;
 use thiserror::Error;
 
-/// A call of a store that was not done. The store's count of faults tells that there was one.
+/// A call of a store or a host that was not done. A count of faults tells that there was one.
 #[derive(Clone, Copy, Debug, PartialEq, Eq, Error)]
-#[error("the store failed")]
+#[error("the call failed")]
 pub struct Failed;
 
 /// Memory was missing.
