@@ -1,7 +1,7 @@
 // A host over a reader and a writer: one line an input, one line a reply.
 ghost use Rattle.std.specs.Prelude.{◌≡◌, None};
 
-use crate::bytes::Bytes;
+use swf_value::Bytes;
 use crate::host::{Failed, Host, Input};
 use std::alloc::Global;
 use std::io::{self, BufRead, Write};

@@ -3,7 +3,7 @@ ghost use Rattle.std.specs.Prelude.{◌≡◌, ℕ, Option};
 ghost use Rattle.swf_engine.specs.Told.{Told, after_next, AfterSay};
 ghost use Rattle.swf_engine.specs.Causes.{HasCause};
 
-use crate::bytes::Bytes;
+use swf_value::Bytes;
 use thiserror::Error;
 
 /// What comes from outside.

@@ -1,7 +1,6 @@
 //! The engine: instances, what was loaded, and the host from which inputs come and to which replies go.
 #![tactic(auto)]
 
-mod bytes;
 mod console_host;
 mod engine;
 mod forms;
@@ -11,7 +10,6 @@ mod memory_host;
 mod reader;
 mod reports;
 
-pub use bytes::Bytes;
 pub use console_host::{ConsoleHost, MOST_LINE};
 pub use engine::{Answer, Engine, Installed, QueryFault, Refusal, Settled, Submitted};
 pub use host::{Failed, Host, Input, Said};

@@ -9,7 +9,8 @@ ghost use Rattle.swf_host.specs.declared.host.Input.{Input as Came};
 ghost use Rattle.swf_host.specs.Taken.{after_next};
 
 use std::alloc::{AllocError, Global};
-use swf_store::{Bytes, Failed, Store};
+use swf_store::{Failed, Store};
+use swf_value::Bytes;
 
 /// What comes from outside.
 #[derive(Drop)]

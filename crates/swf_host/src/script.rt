@@ -6,7 +6,8 @@ use crate::spoke::Spoke;
 use crate::{Host, Input};
 use std::alloc::{AllocError, Global};
 use std::snapshot::Snapshot;
-use swf_store::{Bytes, Failed, File, Piece, Store};
+use swf_store::{Failed, File, Piece, Store};
+use swf_value::Bytes;
 
 /// After the last input of its script nothing comes any more. Its calls fail where they find no memory to keep what they tell.
 #[derive(Drop)]

@@ -3,7 +3,7 @@ ghost use Rattle.std.specs.Prelude.{◌≡◌, ◌≤◌, ◌+◌, ◌-◌, ◌+
 ghost use Rattle.swf_store.specs.Put.{put};
 ghost use Rattle.swf_store.specs.Files.{bytes_of, with_bytes};
 
-use crate::Bytes;
+use swf_value::Bytes;
 use std::alloc::{AllocError, Global};
 use std::mem;
 

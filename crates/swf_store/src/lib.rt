@@ -1,7 +1,6 @@
 //! The store of the engine: three files, what a read of them gives, and what a stop may leave of them.
 #![tactic(auto)]
 
-mod bytes;
 mod call;
 mod failed;
 mod files;
@@ -12,7 +11,6 @@ mod replay;
 mod said;
 mod store;
 
-pub use bytes::Bytes;
 pub use call::Call;
 pub use failed::{Failed, OutOfMemory, StoreFault};
 pub use files::FileStore;

@@ -5,7 +5,8 @@ ghost use Rattle.swf_store.specs.Put.{put};
 ghost use Rattle.swf_store.specs.Replay.{is_in};
 
 use crate::replay::{Files, replay};
-use crate::{Bytes, Call, Failed, File, Image, OutOfMemory, Store};
+use crate::{Call, Failed, File, Image, OutOfMemory, Store};
+use swf_value::Bytes;
 use std::alloc::{AllocError, Global};
 use std::marker::Model;
 

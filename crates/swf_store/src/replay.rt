@@ -4,7 +4,8 @@ ghost use Rattle.swf_store.specs.Images.{images_of, harmed_by, with_harm, harms,
 ghost use Rattle.swf_store.specs.Replay.{step, replay as replayed, and_write, whole};
 
 use crate::memory::fails;
-use crate::{Bytes, Call, File, Image};
+use crate::{Call, File, Image};
+use swf_value::Bytes;
 use std::alloc::{AllocError, Global};
 use std::marker::Model;
 

@@ -1,7 +1,8 @@
 // The store in memory: that calls succeed, and the images of examples.
 use std::alloc::Global;
 use std::test::Fail;
-use swf_store::{Bytes, Failed, File, Image, MemoryStore, Store};
+use swf_store::{Failed, File, Image, MemoryStore, Store};
+use swf_value::Bytes;
 
 // Writes a piece at the start of the journal and syncs, and gives what a read of six bytes then gives.
 fn write_and_read<S: Store>(alloc: Global, store: &mut S) -> Result<Vec<u8>, Fail> {

@@ -4,7 +4,8 @@ use std::alloc::Global;
 use std::test::Fail;
 use swf_host::{Host, Input, ScriptHost, TurnFault, two_turns};
 use swf_journal::{AppendFault, build};
-use swf_store::{Bytes, Image, MemoryStore};
+use swf_store::{Image, MemoryStore};
+use swf_value::Bytes;
 
 type MemoryHost = ScriptHost<MemoryStore>;
 

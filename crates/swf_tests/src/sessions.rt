@@ -2,7 +2,8 @@
 use std::alloc::{AllocError, Global};
 use std::test::Fail;
 use swf_cli::swf_run;
-use swf_engine::{Bytes, ConsoleHost, Input, MemoryHost, Turn};
+use swf_engine::{ConsoleHost, Input, MemoryHost, Turn};
+use swf_value::Bytes;
 
 const LOAD: &str =
     "load {\"document\":{\"dsl\":\"1.0.0\",\"namespace\":\"t\",\"name\":\"a\",\"version\":\"1.0.0\"},\"do\":[{\"s\":{\"set\":{\"x\":1}}}]}";

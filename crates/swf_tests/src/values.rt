@@ -159,7 +159,7 @@ fn grows_in_place_or_apart(rt: HostRuntime) -> Result<(), Fail> {
     );
     assert_eq!(rt; depth(&object), 1);
     assert_eq!(rt; text_of(alloc, &before)?.as_slice(), b"{\"b\":[[]],\"d\":1}".as_slice());
-    assert_eq!(rt; (size(&before), size_within(&before, 4)), (8, 4));
+    assert_eq!(rt; (size(&before), size_within(&before, 4)), (6, 4));
     Ok(())
 }
 

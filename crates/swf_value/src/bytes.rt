@@ -41,6 +41,13 @@ impl Bytes {
         self.items.as_slice()
     }
 
+    /// The same bytes once more, in memory of their own.
+    pub fn copy(&self, alloc: Global) -> Result<Bytes, AllocError>
+        ensures { IfOk result (λ b. b ≡ self.now) }
+    {
+        Bytes::copy_of(alloc, self.items.as_slice())
+    }
+
     /// The vector inside. It takes no memory.
     pub fn into_vec(self) -> Vec<u8>
         ensures { result.items ≡ self }

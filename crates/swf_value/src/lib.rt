@@ -38,6 +38,6 @@ pub use read::{read_json, read_json_within};
 pub use same::{is_word, same_texts};
 pub use strand::Strand;
 pub use text::Text;
-pub use value::{Json, JsonNode, Member};
+pub use value::{Json, JsonNode, Member, may_cross};
 pub use words::{member, word};
 pub use write::write_json;
