@@ -6,7 +6,7 @@ use Rattle.std.specs.List.{list_all}
 use Rattle.swf_value.specs.Name.{starts_name, goes_on_name}
 use Rattle.swf_value.specs.declared.op.Op.TheVariants as ops
 use Rattle.swf_jq_parse.specs.Grammar.{Tokens}
-use Rattle.swf_jq_parse.specs.Lexer.{Lexeme, lexeme, Lexed, last, also, Nested, lexed_of, lex_within, next, opened, paren, unnested, other_sign, double_or, single, double_sign, single_sign, is_blank, word_or_name, word_token, dot, variable, unless_keyword}
+use Rattle.swf_jq_parse.specs.Lexer.{Lexeme, lexeme, Lexed, last, also, Nested, Behind, lexed_of, lex_within, next, inside, opened, paren, unnested, other_sign, double_or, single, double_sign, single_sign, is_blank, word_or_name, word_token, dot, variable, unless_keyword}
 use Rattle.swf_jq_parse.specs.Machine.{End, ends_at, fails_by}
 use Rattle.swf_jq_parse.specs.Nest.{Nest, is_full}
 use Rattle.swf_jq_parse.specs.Words.{keyword_of, front, after, word, after_word, is_digit}
@@ -48,13 +48,13 @@ blank_reads n cs us r (suc k) at h = r k (at + 1) (omega arith)
 
 -- the first token is known
 pub token_reads : (n m : Nest) (c : ℕ) (cs rest : List ℕ) (t : Token) (us : Tokens) (end : ℕ → ℕ) → is_blank c ≡ false
-    → ((at : ℕ) → next n at c cs ≡ Ok (lexeme t (end at) rest, m)) → length rest ≤ length cs → Reads m rest us → Reads n (c ∷ cs) (t ∷ us)
+    → ((at : ℕ) → next n at c cs ≡ Ok (lexeme t (end at) rest, Ok m)) → length rest ≤ length cs → Reads m rest us → Reads n (c ∷ cs) (t ∷ us)
 unfolding lex_within
 token_reads n m c cs rest t us end solid step short r zero at h = absurd (omega arith)
 token_reads n m c cs rest t us end solid step short r (suc k) at h =
     let most : length rest ≤ k = omega arith in
-    ap bare (other (is_blank c) (lex_within k n (at + 1) cs) (lexed_of at (λ x. lex_within k x.1 x.0.at x.0.rest) (next n at c cs)) solid)
-    ∙ ap (λ (x : Nested). bare (lexed_of at (λ y. lex_within k y.1 y.0.at y.0.rest) x)) (step at)
+    ap bare (other (is_blank c) (lex_within k n (at + 1) cs) (lexed_of at (λ l b. lex_within k b l.at l.rest) (next n at c cs)) solid)
+    ∙ ap (λ (x : Nested). bare (lexed_of at (λ l b. lex_within k b l.at l.rest) x)) (step at)
     ∙ ap (longer t) (r k (end at) most)
 
 -- ---- characters that no word, number or point goes on with, and characters that make no sign of two with the one before
@@ -133,7 +133,7 @@ no_digit c h = elim (cases_Bool (is_digit c)) [
 solid_word : (c : ℕ) → starts_name c ≡ true → is_blank c ≡ false
 solid_word c h = rw (not_code starts_name c 32 h refl, not_code starts_name c 9 h refl, not_code starts_name c 13 h refl, not_code starts_name c 10 h refl) refl
 
-next_word : (n : Nest) (at c : ℕ) (cs : List ℕ) → starts_name c ≡ true → next n at c cs ≡ Ok (word_token at c cs, n)
+next_word : (n : Nest) (at c : ℕ) (cs : List ℕ) → starts_name c ≡ true → next n at c cs ≡ Ok (word_token at c cs, Ok n)
 unfolding next
 next_word n at c cs h = rw (not_code starts_name c 46 h refl, not_code starts_name c 36 h refl, not_code starts_name c 34 h refl, no_digit c h, h) refl
 
@@ -157,7 +157,7 @@ pub word_reads : (n : Nest) (c : ℕ) (ys rest : List ℕ) (us : Tokens) → sta
     → Reads n rest us → Reads n (c ∷ (ys ++ rest)) (word_or_name (c ∷ ys) (keyword_of (c ∷ ys)) ∷ us)
 word_reads n c ys rest us h g b r =
     token_reads n n c (ys ++ rest) rest (word_or_name (c ∷ ys) (keyword_of (c ∷ ys))) us (word_end c ys) (solid_word c h)
-    (λ at. next_word n at c (ys ++ rest) h ∙ ap (λ (x : Lexeme). Ok (x, n)) (word_is at c ys rest g b)) (shorter ys rest) r
+    (λ at. next_word n at c (ys ++ rest) h ∙ ap (λ (x : Lexeme). Ok (x, Ok n)) (word_is at c ys rest g b)) (shorter ys rest) r
 
 -- a variable at the front
 var_end : ℕ → List ℕ → ℕ → ℕ
@@ -199,7 +199,7 @@ dot_is at (c ∷ cs) h =
 pub dot_reads : (n : Nest) (rest : List ℕ) (us : Tokens) → breaks rest ≡ true → Reads n rest us → Reads n (46 ∷ rest) (token.Dot ∷ us)
 unfolding next
 dot_reads n rest us b r =
-    token_reads n n 46 rest rest token.Dot us (λ at. at + 1) refl (λ at. ap (λ (x : Lexeme). Ok (x, n)) (dot_is at rest b)) (omega arith) r
+    token_reads n n 46 rest rest token.Dot us (λ at. at + 1) refl (λ at. ap (λ (x : Lexeme). Ok (x, Ok n)) (dot_is at rest b)) (omega arith) r
 
 -- ---- signs
 
@@ -325,9 +325,9 @@ abbrev pub Opens : ℕ → Sign → Type 0
 Opens c g = (is_blank c ≡ false) × ((n : Nest) (at : ℕ) (cs : List ℕ) → next n at c cs ≡ opened n at g cs)
 
 pub open_reads : (n : Nest) (c : ℕ) (g : Sign) (rest : List ℕ) (us : Tokens) → Opens c g → length n < 64 → Reads (bracket.Plain ∷ n) rest us → Reads n (c ∷ rest) (token.Sign g ∷ us)
-unfolding opened
+unfolding inside
 open_reads n c g rest us h room r =
-    token_reads n (bracket.Plain ∷ n) c rest rest (token.Sign g) us (λ at. at + 1) h.0 (λ at. h.1 n at rest ∙ other (is_full n) _ _ (not_full n room)) (omega arith) r
+    token_reads n (bracket.Plain ∷ n) c rest rest (token.Sign g) us (λ at. at + 1) h.0 (λ at. h.1 n at rest ∙ ap (λ (b : Behind). Ok (lexeme (token.Sign g) (at + 1) rest, b)) (other (is_full n) _ _ (not_full n room))) (omega arith) r
 
 pub paren_opens : Opens 40 sign.LeftParen
 unfolding next
@@ -343,7 +343,7 @@ brace_opens = (refl, λ n at cs. refl)
 
 -- a character that closes one
 abbrev pub Closes : ℕ → Sign → Type 0
-Closes c g = (is_blank c ≡ false) × ((n : Nest) (at : ℕ) (cs : List ℕ) → next (bracket.Plain ∷ n) at c cs ≡ Ok (lexeme (token.Sign g) (at + 1) cs, n))
+Closes c g = (is_blank c ≡ false) × ((n : Nest) (at : ℕ) (cs : List ℕ) → next (bracket.Plain ∷ n) at c cs ≡ Ok (lexeme (token.Sign g) (at + 1) cs, Ok n))
 
 pub close_reads : (n : Nest) (c : ℕ) (g : Sign) (rest : List ℕ) (us : Tokens) → Closes c g → Reads n rest us → Reads (bracket.Plain ∷ n) (c ∷ rest) (token.Sign g ∷ us)
 close_reads n c g rest us h r =

@@ -1,16 +1,17 @@
 -- The lexer on a text between its quotation marks.
-use Rattle.std.proofs.Common.{◌≡◌, ◌∙◌, ◌==◌, ◌+◌, ◌-◌, ◌*◌, ◌/◌, ◌%◌, ◌≤◌, ◌<◌, ℕ, zero, suc, List, [], ◌∷◌, ◌++◌, length, flat_map, true, false, refl, ap, ap₂, sym, nat_lt, Some, None, option_and_then, Ok, subst, arith, inl, inr, append_assoc, eqb-true, ne_eqb, lt-ltb, le-ltb, length-append, encode_utf8, if◌then◌else◌}
+use Rattle.std.proofs.Common.{◌≡◌, ◌∙◌, ◌==◌, ◌+◌, ◌-◌, ◌*◌, ◌/◌, ◌%◌, ◌≤◌, ◌<◌, ℕ, zero, suc, List, [], ◌∷◌, ◌++◌, length, flat_map, Bool, true, false, cond, ◌&&◌, refl, ap, ap₂, sym, nat_lt, Some, None, option_and_then, Ok, subst, arith, inl, inr, append_assoc, eqb-true, ne_eqb, lt-ltb, le-ltb, length-append, encode_utf8, if◌then◌else◌}
 use Rattle.std.proofs.lemmas.Bool.{cases_Bool, cases_lt}
 use Rattle.std.proofs.lemmas.Bool.Decides.{nat_tests}
 use Rattle.std.proofs.lemmas.Str.{digit_value-digit_char, encode_ascii}
-use Rattle.std.specs.Char.{digit_char, len_utf8}
+use Rattle.std.specs.Char.{digit_char, digit_value, len_utf8, is_digit}
+use Rattle.json.specs.Text.{code_unit, short_escape, is_high_surrogate, is_low_surrogate}
 use Rattle.swf_value.specs.Written.{escaped, escaped_byte}
 use Rattle.swf_jq_parse.specs.Gives.{◌>>=◌}
 use Rattle.swf_jq_parse.specs.Grammar.{Tokens}
 use Rattle.swf_jq_parse.specs.Lexer as Lexer
 use Rattle.swf_jq_parse.specs.Lexer.{lexeme, next, text_begun}
 use Rattle.swf_jq_parse.specs.Nest.{Nest}
-use Rattle.swf_jq_parse.specs.Piece.{Piece, seen, spelled, is_hex, unit_value, unit_before, unit, is_low, is_high, code_of, unicode, simple, simple_of, escape, letter, ended_or, grown, piece_end, piece_within, piece_or_fault}
+use Rattle.swf_jq_parse.specs.Piece.{Piece, seen, spelled, unit_before, unit, code_of, unicode, simple_of, escape, letter, ended_or, grown, piece_end, piece_within, piece_or_fault}
 use Rattle.swf_jq_parse.specs.Print.{quoted_text}
 use Rattle.swf_jq_parse.specs.declared.token.Token.TheVariants as token
 use Rattle.swf_jq_parse.proofs.Accepting.{chosen, other}
@@ -25,36 +26,35 @@ record Spells (c : ℕ) (ds : List ℕ) (rest : List ℕ) : Type 0 where
   inside : piece_end (ds ++ rest) ≡ None
   solid : 0 < length ds
 
-short_spells : (c d : ℕ) (rest : List ℕ) → (d == 117) ≡ false → (d == 40) ≡ false → simple d ≡ Some c → Spells c (92 ∷ d ∷ []) rest
+short_spells : (c d : ℕ) (rest : List ℕ) → (d == 117) ≡ false → (d == 40) ≡ false → short_escape d ≡ Some c → Spells c (92 ∷ d ∷ []) rest
 unfolding letter escape piece_end
 short_spells c d rest u o e = record {
   width = 2;
-  whole = other (d == 117) (unicode rest) (simple_of rest (simple d)) u ∙ ap (simple_of rest) e;
+  whole = other (d == 117) (unicode rest) (simple_of rest (short_escape d)) u ∙ ap (simple_of rest) e;
   inside = other (d == 40) _ None o;
   solid = omega arith;
 }
 
-hex_digit : (d : ℕ) → d < 16 → is_hex (digit_char d) ≡ true
+hex_digit : (d : ℕ) → d < 16 → is_digit (digit_char d) 16 ≡ true
 hex_digit d h = ap (λ v. nat_lt v 16) (digit_value-digit_char d (omega arith)) ∙ lt-ltb d 16 h
 
-unit_is : (a b : ℕ) → a < 16 → b < 16 → unit_value 48 48 (digit_char a) (digit_char b) ≡ Some (16 * a + b)
-unfolding unit_value
+unit_is : (a b : ℕ) → a < 16 → b < 16 → code_unit 48 48 (digit_char a) (digit_char b) ≡ Some (16 * a + b)
+unfolding code_unit
 unit_is a b h g =
-    chosen (is_hex (digit_char a)) _ _ (hex_digit a h)
-    ∙ chosen (is_hex (digit_char b)) _ _ (hex_digit b g)
-    ∙ ap₂ (λ (x y : ℕ). Some (0 + 16 * x + y)) (digit_value-digit_char a (omega arith)) (digit_value-digit_char b (omega arith))
+    ap₂ (λ (x y : Bool). cond (x && y) (Some (0 + digit_value (digit_char a) * 16 + digit_value (digit_char b))) None) (hex_digit a h) (hex_digit b g)
+    ∙ ap₂ (λ (x y : ℕ). Some (0 + x * 16 + y)) (digit_value-digit_char a (omega arith)) (digit_value-digit_char b (omega arith))
     ∙ ap Some (from_zero a b)
   where
-    from_zero : (a b : ℕ) → 0 + 16 * a + b ≡ 16 * a + b
+    from_zero : (a b : ℕ) → 0 + a * 16 + b ≡ 16 * a + b
     from_zero a b = omega arith
 
 low_code : (c : ℕ) (rest : List ℕ) → c < 32 → code_of (c, rest) ≡ Some (spelled c 6 rest)
-low_code c rest h = other (is_high c) _ _ (not_high c h) ∙ other (is_low c) _ _ (not_low c h)
+low_code c rest h = other (is_high_surrogate c) _ _ (not_high c h) ∙ other (is_low_surrogate c) _ _ (not_low c h)
   where
-    not_high : (c : ℕ) → c < 32 → is_high c ≡ false
+    not_high : (c : ℕ) → c < 32 → is_high_surrogate c ≡ false
     not_high c h = grind (arith, nat_tests)
 
-    not_low : (c : ℕ) → c < 32 → is_low c ≡ false
+    not_low : (c : ℕ) → c < 32 → is_low_surrogate c ≡ false
     not_low c h = grind (arith, nat_tests)
 
 control_spells : (c : ℕ) (rest : List ℕ) → c < 32 → Spells c (92 ∷ 117 ∷ 48 ∷ 48 ∷ digit_char (c / 16) ∷ digit_char (c % 16) ∷ []) rest
@@ -97,6 +97,7 @@ last_spells c rest h q b = elim (cases_lt c 32) [
 ]
 
 escape_spells : (c : ℕ) (rest : List ℕ) → c < 128 → Spells c (escaped c) rest
+unfolding short_escape
 escape_spells c rest h =
     by_code c 34 _ _ rest (short_spells 34 34 rest refl refl refl) (λ quote.
     by_code c 92 _ _ rest (short_spells 92 92 rest refl refl refl) (λ back.
@@ -148,10 +149,10 @@ piece_is (c ∷ t) rest at (suc k) h =
 text_end : List ℕ → List ℕ → ℕ → ℕ
 text_end t rest at = piece_at t rest (at + 1)
 
-text_is : (n : Nest) (at : ℕ) (t rest : List ℕ) → Lexer.text n at (flat_map escaped_byte t ++ 34 ∷ rest) ≡ Ok (lexeme (token.Text t) (text_end t rest at) rest, n)
+text_is : (n : Nest) (at : ℕ) (t rest : List ℕ) → Lexer.text n at (flat_map escaped_byte t ++ 34 ∷ rest) ≡ Ok (lexeme (token.Text t) (text_end t rest at) rest, Ok n)
 unfolding Lexer.text text_end
 text_is n at t rest =
-    ap (λ o. piece_or_fault at o >>= text_begun n at) (piece_is t rest (at + 1) (length (flat_map escaped_byte t ++ 34 ∷ rest)) (omega arith))
+    ap (λ o. piece_or_fault at o >>= λ p. Ok (text_begun n at p)) (piece_is t rest (at + 1) (length (flat_map escaped_byte t ++ 34 ∷ rest)) (omega arith))
 
 -- a text at the front
 pub text_reads : (n : Nest) (t rest : List ℕ) (us : Tokens) → Reads n rest us → Reads n (quoted_text t ++ rest) (token.Text t ∷ us)

@@ -1,7 +1,8 @@
 -- A piece is read character by character.
 use Rattle.std.proofs.Common.{◌≡◌, ◌∙◌, ap, sym, refl, subst, ◌-◌, ◌==◌, ◌&&◌, nat_lt, ℕ, zero, suc, ◌+◌, ◌*◌, ◌<◌, ◌≤◌, List, [], ◌∷◌, ◌++◌, length, Bool, true, false, Option, Some, None, option_and_then, if◌then◌else◌, arith}
 use Rattle.std.specs.Char.{len_utf8}
-use Rattle.swf_jq_parse.specs.Piece.{Piece, seen, Spelled, spelled, unit_value, unit_before, unit, is_low, is_high, pair_with, pair, code_of, unicode, simple, simple_of, escape, letter, grown, Closed, ended_or, piece_end, piece_within, piece}
+use Rattle.json.specs.Text.{code_unit, short_escape, is_high_surrogate, is_low_surrogate, surrogate_pair}
+use Rattle.swf_jq_parse.specs.Piece.{Piece, seen, Spelled, spelled, unit_before, unit, pair_with, pair, code_of, unicode, simple_of, escape, letter, grown, Closed, ended_or, piece_end, piece_within, piece}
 
 -- ---- what follows a character is shorter
 
@@ -11,7 +12,7 @@ second (Some r) = r.1
 
 unit-shorter : (cs : List ℕ) (r : ℕ × List ℕ) → unit cs ≡ Some r → length r.1 ≤ length cs
 unfolding unit second
-unit-shorter (a ∷ b ∷ c ∷ d ∷ cs) r e = before (unit_value a b c d) e
+unit-shorter (a ∷ b ∷ c ∷ d ∷ cs) r e = before (code_unit a b c d) e
   where
     before : (o : Option ℕ) → unit_before cs o ≡ Some r → length r.1 ≤ length (a ∷ b ∷ c ∷ d ∷ cs)
     before None e = cc
@@ -38,11 +39,11 @@ pair-shorter high [] l e = cc
 pair-shorter high (b ∷ []) l e = cc
 pair-shorter high (b ∷ u ∷ cs) l e =
     let r = option_cases (pair_with high) (unit cs) l (if_some ((b == 92) && (u == 117)) (option_and_then (pair_with high) (unit cs)) l e) in
-    let h = rest-is (0x10000 + (high - 0xD800) * 0x400 + (r.0.0 - 0xDC00)) 12 r.0.1 l (if_some (is_low r.0.0) (Some (spelled (0x10000 + (high - 0xD800) * 0x400 + (r.0.0 - 0xDC00)) 12 r.0.1)) l r.2) in
+    let h = rest-is (surrogate_pair high r.0.0) 12 r.0.1 l (if_some (is_low_surrogate r.0.0) (Some (spelled (surrogate_pair high r.0.0) 12 r.0.1)) l r.2) in
     omega (arith, unit-shorter cs r.0 r.1, h)
 
 code_of-shorter : (u : ℕ) (ds : List ℕ) (l : Spelled) → code_of (u, ds) ≡ Some l → length l.rest ≤ length ds
-code_of-shorter u ds l e = by_kind (is_high u) (is_low u) e
+code_of-shorter u ds l e = by_kind (is_high_surrogate u) (is_low_surrogate u) e
   where
     by_kind : (a b : Bool) → (if a then pair u ds else (if b then None else Some (spelled u 6 ds))) ≡ Some l → length l.rest ≤ length ds
     by_kind true b e = pair-shorter u ds l e
@@ -64,9 +65,9 @@ unfolding escape
 escape-shorter [] l e = cc
 escape-shorter (c ∷ cs) l e = by_u (c == 117) e
   where
-    by_u : (b : Bool) → (if b then unicode cs else simple_of cs (simple c)) ≡ Some l → length l.rest ≤ length (c ∷ cs)
+    by_u : (b : Bool) → (if b then unicode cs else simple_of cs (short_escape c)) ≡ Some l → length l.rest ≤ length (c ∷ cs)
     by_u true e = omega (arith, unicode-shorter cs l e)
-    by_u false e = omega (arith, simple_of-shorter cs (simple c) l e)
+    by_u false e = omega (arith, simple_of-shorter cs (short_escape c) l e)
 
 pub letter-shorter : (cs : List ℕ) (l : Spelled) → letter cs ≡ Some l → length l.rest < length cs
 unfolding letter

@@ -136,17 +136,17 @@ literal_term (list ds) h = cc h
 literal_term (object ms) h = cc h
 
 binary_pipe : (o : Op) (ts us : Tokens) (a b : Tree) → Term ts a → Term us b → Pipe (ts ++ token.Sign (sign.Op o) ∷ us) (binary o a b)
-binary_pipe ops.Equal ts us a b d e = cmp_pipe _ _ (Grammar.cmp_two ts us a b ops.Equal refl (term_sum ts a d) (term_sum us b e))
-binary_pipe ops.NotEqual ts us a b d e = cmp_pipe _ _ (Grammar.cmp_two ts us a b ops.NotEqual refl (term_sum ts a d) (term_sum us b e))
-binary_pipe ops.Less ts us a b d e = cmp_pipe _ _ (Grammar.cmp_two ts us a b ops.Less refl (term_sum ts a d) (term_sum us b e))
-binary_pipe ops.AtMost ts us a b d e = cmp_pipe _ _ (Grammar.cmp_two ts us a b ops.AtMost refl (term_sum ts a d) (term_sum us b e))
-binary_pipe ops.Greater ts us a b d e = cmp_pipe _ _ (Grammar.cmp_two ts us a b ops.Greater refl (term_sum ts a d) (term_sum us b e))
-binary_pipe ops.AtLeast ts us a b d e = cmp_pipe _ _ (Grammar.cmp_two ts us a b ops.AtLeast refl (term_sum ts a d) (term_sum us b e))
-binary_pipe ops.Add ts us a b d e = sum_pipe _ _ (Grammar.sum_more ts us a b ops.Add refl (term_sum ts a d) (product us b (unary us b e)))
-binary_pipe ops.Subtract ts us a b d e = sum_pipe _ _ (Grammar.sum_more ts us a b ops.Subtract refl (term_sum ts a d) (product us b (unary us b e)))
-binary_pipe ops.Multiply ts us a b d e = sum_pipe _ _ (sum _ _ (Grammar.prod_more ts us a b ops.Multiply refl (product ts a (unary ts a d)) (unary us b e)))
-binary_pipe ops.Divide ts us a b d e = sum_pipe _ _ (sum _ _ (Grammar.prod_more ts us a b ops.Divide refl (product ts a (unary ts a d)) (unary us b e)))
-binary_pipe ops.Modulo ts us a b d e = sum_pipe _ _ (sum _ _ (Grammar.prod_more ts us a b ops.Modulo refl (product ts a (unary ts a d)) (unary us b e)))
+binary_pipe ops.Equal ts us a b d e = cmp_pipe _ _ (Grammar.cmp_two ts us a b ops.Equal Grammar.equal_sign (term_sum ts a d) (term_sum us b e))
+binary_pipe ops.NotEqual ts us a b d e = cmp_pipe _ _ (Grammar.cmp_two ts us a b ops.NotEqual Grammar.not_equal_sign (term_sum ts a d) (term_sum us b e))
+binary_pipe ops.Less ts us a b d e = cmp_pipe _ _ (Grammar.cmp_two ts us a b ops.Less Grammar.less_sign (term_sum ts a d) (term_sum us b e))
+binary_pipe ops.AtMost ts us a b d e = cmp_pipe _ _ (Grammar.cmp_two ts us a b ops.AtMost Grammar.at_most_sign (term_sum ts a d) (term_sum us b e))
+binary_pipe ops.Greater ts us a b d e = cmp_pipe _ _ (Grammar.cmp_two ts us a b ops.Greater Grammar.greater_sign (term_sum ts a d) (term_sum us b e))
+binary_pipe ops.AtLeast ts us a b d e = cmp_pipe _ _ (Grammar.cmp_two ts us a b ops.AtLeast Grammar.at_least_sign (term_sum ts a d) (term_sum us b e))
+binary_pipe ops.Add ts us a b d e = sum_pipe _ _ (Grammar.sum_more ts us a b ops.Add Grammar.plus_sign (term_sum ts a d) (product us b (unary us b e)))
+binary_pipe ops.Subtract ts us a b d e = sum_pipe _ _ (Grammar.sum_more ts us a b ops.Subtract Grammar.minus_sign (term_sum ts a d) (product us b (unary us b e)))
+binary_pipe ops.Multiply ts us a b d e = sum_pipe _ _ (sum _ _ (Grammar.prod_more ts us a b ops.Multiply Grammar.times_sign (product ts a (unary ts a d)) (unary us b e)))
+binary_pipe ops.Divide ts us a b d e = sum_pipe _ _ (sum _ _ (Grammar.prod_more ts us a b ops.Divide Grammar.over_sign (product ts a (unary ts a d)) (unary us b e)))
+binary_pipe ops.Modulo ts us a b d e = sum_pipe _ _ (sum _ _ (Grammar.prod_more ts us a b ops.Modulo Grammar.modulo_sign (product ts a (unary ts a d)) (unary us b e)))
 
 -- ---- rows, from the left
 

@@ -2,8 +2,8 @@
 use Rattle.std.proofs.Common.{◌≡◌, refl, subst, ℕ, zero, suc, ◌+◌, ◌^◌, ◌≤◌, List, [], ◌∷◌, ◌==◌, ◌&&◌, not, nat_lt, length, Bool, true, false, Option, Some, None, Result, Ok, Err, option_and_then, if◌then◌else◌, arith}
 use Rattle.swf_value.specs.Name.{starts_name}
 use Rattle.swf_jq_parse.specs.Gives.{◌>>=◌}
-use Rattle.swf_jq_parse.specs.Lexer.{Lexeme, lexeme, word_token, dot, unless_keyword, variable, decimal_from, whole_number, goes_on, digits, number, single_sign, double_sign, single, double_or, other_sign, Nested, opened, ended, text_begun, text, text_continued, text_on, paren_of, paren, unnested, next}
-use Rattle.swf_jq_parse.specs.Nest.{Nest, is_full, text_inside}
+use Rattle.swf_jq_parse.specs.Lexer.{Lexeme, lexeme, word_token, dot, unless_keyword, variable, decimal_from, whole_number, goes_on, digits, number, single_sign, double_sign, single, double_or, other_sign, Nested, Behind, inside, opened, ended, text_begun, text, text_continued, text_resumed, text_on, paren_of, paren, unnested, next}
+use Rattle.swf_jq_parse.specs.Nest.{Nest, text_inside}
 use Rattle.swf_jq_parse.specs.Nest as nest
 use Rattle.swf_jq_parse.specs.Piece.{Piece, seen, Spelled, Closed, closed, letter, grown, ended_or, piece_end, piece_within, piece, piece_or_fault}
 use Rattle.swf_jq_parse.specs.Piece as pieces
@@ -140,30 +140,28 @@ unnested-shorter : (n : Nest) (cs : List ℕ) (r : Result Lexeme ParseFault) →
 unnested-shorter n cs (Err e) h = tt
 unnested-shorter n cs (Ok l) h = h
 
-opened_bracket-shorter : (n : Nest) (at : ℕ) (g : Sign) (cs : List ℕ) → Shorter cs (opened n at g cs)
-unfolding opened
-opened_bracket-shorter n at g cs = shorter_by cs (is_full n) (Err (fault.TooDeep at)) _ tt (omega arith)
+-- either of two tokens
+either-shorter : (cs : List ℕ) (b : Bool) (x y : Lexeme × Behind) → length x.0.rest ≤ length cs → length y.0.rest ≤ length cs → length (if b then x else y).0.rest ≤ length cs
+either-shorter cs true x y h k = h
+either-shorter cs false x y h k = k
 
-fault-shorter : (start : ℕ) (cs : List ℕ) (o : Option Piece) (f : Piece → Nested) → ((p : Piece) → length p.rest ≤ length cs → Shorter cs (f p)) → PieceShorter cs o → Shorter cs (piece_or_fault start o >>= f)
-fault-shorter start cs None f h k = tt
-fault-shorter start cs (Some p) f h k = h p k
+begun-shorter : (n : Nest) (at : ℕ) (cs : List ℕ) (o : Option Piece) → PieceShorter cs o → Shorter cs (piece_or_fault at o >>= λ p. Ok (text_begun n at p))
+begun-shorter n at cs None h = tt
+begun-shorter n at cs (Some p) h = either-shorter cs p.opens _ _ h h
+
+resumed-shorter : (n : Nest) (start at : ℕ) (cs : List ℕ) (o : Option Piece) → PieceShorter cs o → length (text_resumed n start at cs (piece_or_fault start o)).0.rest ≤ length cs
+resumed-shorter n start at cs None h = omega arith
+resumed-shorter n start at cs (Some p) h = either-shorter cs p.opens _ _ h h
 
 text-shorter : (n : Nest) (at : ℕ) (cs : List ℕ) → Shorter cs (text n at cs)
 unfolding text
-text-shorter n at cs =
-    fault-shorter at cs (piece (at + 1) cs) (text_begun n at) (λ p h.
-    shorter_by cs (not p.opens) (Ok (lexeme (token.Text p.text) p.at p.rest, n)) _ h (
-    shorter_by cs (is_full n) (Err (fault.TooDeep at)) _ tt h)
-    ) (within-shorter (length cs) (at + 1) cs)
+text-shorter n at cs = begun-shorter n at cs (piece (at + 1) cs) (within-shorter (length cs) (at + 1) cs)
 
-text_on-shorter : (n : Nest) (start at : ℕ) (cs : List ℕ) → Shorter cs (text_on n start at cs)
+text_on-shorter : (n : Nest) (start at : ℕ) (cs : List ℕ) → length (text_on n start at cs).0.rest ≤ length cs
 unfolding text_on
-text_on-shorter n start at cs =
-    fault-shorter start cs (piece (at + 1) cs) (text_continued n start) (λ p h.
-    shorter_by cs p.opens _ _ h h
-    ) (within-shorter (length cs) (at + 1) cs)
+text_on-shorter n start at cs = resumed-shorter n start at cs (piece (at + 1) cs) (within-shorter (length cs) (at + 1) cs)
 
-paren_of-shorter : (n : Nest) (at : ℕ) (cs : List ℕ) (o : Option ℕ) → Shorter cs (paren_of n at cs o)
+paren_of-shorter : (n : Nest) (at : ℕ) (cs : List ℕ) (o : Option ℕ) → length (paren_of n at cs o).0.rest ≤ length cs
 paren_of-shorter n at cs None = omega arith
 paren_of-shorter n at cs (Some start) = text_on-shorter n start at cs
 
@@ -174,18 +172,18 @@ paren-shorter n at cs = paren_of-shorter (nest.closed n) at cs (text_inside n)
 pub next-shorter : (n : Nest) (at c : ℕ) (cs : List ℕ) → Shorter cs (next n at c cs)
 unfolding next
 next-shorter n at c cs =
-    shorter_by cs (c == 46) (Ok (dot at cs, n)) _ (dot-short at cs) (
+    shorter_by cs (c == 46) (Ok (dot at cs, Ok n)) _ (dot-short at cs) (
     shorter_by cs (c == 36) (unnested n (variable at cs)) _ (unnested-shorter n cs (variable at cs) (variable-short at cs)) (
     shorter_by cs (c == 34) (text n at cs) _ (text-shorter n at cs) (
     shorter_by cs (is_digit c) (unnested n (number at c cs)) _ (unnested-shorter n cs (number at c cs) (number-short at c cs)) (
-    shorter_by cs (starts_name c) (Ok (word_token at c cs, n)) _ (word-short at c cs) (
-    shorter_by cs (c == 40) (opened n at sign.LeftParen cs) _ (opened_bracket-shorter n at sign.LeftParen cs) (
-    shorter_by cs (c == 91) (opened n at sign.LeftBracket cs) _ (opened_bracket-shorter n at sign.LeftBracket cs) (
-    shorter_by cs (c == 123) (opened n at sign.LeftBrace cs) _ (opened_bracket-shorter n at sign.LeftBrace cs) (
+    shorter_by cs (starts_name c) (Ok (word_token at c cs, Ok n)) _ (word-short at c cs) (
+    shorter_by cs (c == 40) (opened n at sign.LeftParen cs) _ (omega arith) (
+    shorter_by cs (c == 91) (opened n at sign.LeftBracket cs) _ (omega arith) (
+    shorter_by cs (c == 123) (opened n at sign.LeftBrace cs) _ (omega arith) (
     shorter_by cs (c == 41) (paren n at cs) _ (paren-shorter n at cs) (
     shorter_by cs (c == 93) (ended n at sign.RightBracket cs) _ (omega arith) (
     shorter_by cs (c == 125) (ended n at sign.RightBrace cs) (unnested n (other_sign at c cs)) (omega arith) (
     unnested-shorter n cs (other_sign at c cs) (other-short at c cs))))))))))))
 
-pub rest-shorter : (n : Nest) (at c : ℕ) (cs : List ℕ) (r : Lexeme × Nest) → next n at c cs ≡ Ok r → length r.0.rest ≤ length cs
+pub rest-shorter : (n : Nest) (at c : ℕ) (cs : List ℕ) (r : Lexeme × Behind) → next n at c cs ≡ Ok r → length r.0.rest ≤ length cs
 rest-shorter n at c cs r e = subst (Shorter cs) e (next-shorter n at c cs)

@@ -9,6 +9,7 @@ use Rattle.swf_jq_parse.specs.Piece.{Piece, piece, piece_or_fault}
 use Rattle.swf_jq_parse.specs.Words.{keyword_of, front, after, word, after_word, is_digit}
 use Rattle.swf_jq_parse.specs.declared.fault.ParseFault.{ParseFault}
 use Rattle.swf_jq_parse.specs.declared.fault.ParseFault.TheVariants as fault
+use Rattle.swf_jq_parse.specs.declared.nest.Bracket.{Bracket}
 use Rattle.swf_jq_parse.specs.declared.nest.Bracket.TheVariants as bracket
 use Rattle.swf_jq_parse.specs.declared.token.Keyword.{Keyword}
 use Rattle.swf_jq_parse.specs.declared.token.Sign.{Sign}
@@ -136,57 +137,74 @@ other_sign at c (d ∷ ds) = double_or at c (d ∷ ds) ds (double_sign c d)
 
 -- ---- brackets and texts, which open and close
 
+-- the brackets that are open behind a token, or the fault that stands right behind it
+abbrev pub Behind : Type 0
+Behind = Result Nest ParseFault
+
+abbrev pub behind : Nest → Option ParseFault → Behind
+behind n None = Ok n
+behind n (Some f) = Err f
+
+-- a token, which stands even where a fault is right behind it
 abbrev pub Nested : Type 0
-Nested = Result (Lexeme × Nest) ParseFault
+Nested = Result (Lexeme × Behind) ParseFault
+
+-- inside a bracket that opens at a place, unless it is too deep
+unfoldable pub inside : Nest → ℕ → Bracket → Behind
+inside n at b = if is_full n then Err (fault.TooDeep at) else Ok (b ∷ n)
 
 -- an opening bracket
-unfoldable pub opened : Nest → ℕ → Sign → List ℕ → Nested
-opened n at g cs = if is_full n then Err (fault.TooDeep at) else Ok (lexeme (token.Sign g) (at + 1) cs, bracket.Plain ∷ n)
+abbrev pub opened : Nest → ℕ → Sign → List ℕ → Nested
+opened n at g cs = Ok (lexeme (token.Sign g) (at + 1) cs, inside n at bracket.Plain)
 
 -- a `]` or `}`
 abbrev pub ended : Nest → ℕ → Sign → List ℕ → Nested
-ended n at g cs = Ok (lexeme (token.Sign g) (at + 1) cs, closed n)
+ended n at g cs = Ok (lexeme (token.Sign g) (at + 1) cs, Ok (closed n))
 
-abbrev pub text_begun : Nest → ℕ → Piece → Nested
+abbrev pub text_begun : Nest → ℕ → Piece → Lexeme × Behind
 text_begun n at p =
-    if not p.opens then Ok (lexeme (token.Text p.text) p.at p.rest, n)
-    else (if is_full n then Err (fault.TooDeep at)
-    else Ok (lexeme (token.TextOpen p.text) p.at p.rest, bracket.Text at ∷ n))
+    if p.opens then (lexeme (token.TextOpen p.text) p.at p.rest, inside n (p.at - 2) (bracket.Text at))
+    else (lexeme (token.Text p.text) p.at p.rest, Ok n)
 
--- a text, or its beginning up to a `\(`
+-- a text, or its beginning up to a `\(`, which has two bytes
 unfoldable pub text : Nest → ℕ → List ℕ → Nested
-text n at cs = piece_or_fault at (piece (at + 1) cs) >>= text_begun n at
+text n at cs = piece_or_fault at (piece (at + 1) cs) >>= λ p. Ok (text_begun n at p)
 
-abbrev pub text_continued : Nest → ℕ → Piece → Nested
+abbrev pub text_continued : Nest → ℕ → Piece → Lexeme × Behind
 text_continued n start p =
-    if p.opens then Ok (lexeme (token.TextMid p.text) p.at p.rest, bracket.Text start ∷ n)
-    else Ok (lexeme (token.TextClose p.text) p.at p.rest, n)
+    if p.opens then (lexeme (token.TextMid p.text) p.at p.rest, Ok (bracket.Text start ∷ n))
+    else (lexeme (token.TextClose p.text) p.at p.rest, Ok n)
 
--- what follows the `)` of a `\(`, of a text that begins at `start`
-unfoldable pub text_on : Nest → ℕ → ℕ → List ℕ → Nested
-text_on n start at cs = piece_or_fault start (piece (at + 1) cs) >>= text_continued n start
+-- the `)` of a `\(` and the piece behind it, which may have a fault
+abbrev pub text_resumed : Nest → ℕ → ℕ → List ℕ → Result Piece ParseFault → Lexeme × Behind
+text_resumed n start at cs (Err f) = (lexeme (token.TextClose []) (at + 1) cs, Err f)
+text_resumed n start at cs (Ok p) = text_continued n start p
 
-abbrev pub paren_of : Nest → ℕ → List ℕ → Option ℕ → Nested
-paren_of n at cs None = Ok (lexeme (token.Sign sign.RightParen) (at + 1) cs, n)
+-- the `)` of a `\(` and what follows it, of a text that begins at `start`
+unfoldable pub text_on : Nest → ℕ → ℕ → List ℕ → Lexeme × Behind
+text_on n start at cs = text_resumed n start at cs (piece_or_fault start (piece (at + 1) cs))
+
+abbrev pub paren_of : Nest → ℕ → List ℕ → Option ℕ → Lexeme × Behind
+paren_of n at cs None = (lexeme (token.Sign sign.RightParen) (at + 1) cs, Ok n)
 paren_of n at cs (Some start) = text_on n start at cs
 
 -- a `)`
 unfoldable pub paren : Nest → ℕ → List ℕ → Nested
-paren n at cs = paren_of (closed n) at cs (text_inside n)
+paren n at cs = Ok (paren_of (closed n) at cs (text_inside n))
 
 -- ---- one token after another
 
 abbrev pub unnested : Nest → Result Lexeme ParseFault → Nested
-unnested n r = r >>= λ l. Ok (l, n)
+unnested n r = r >>= λ l. Ok (l, Ok n)
 
 -- the token at a place, of a first character and those after it
 unfoldable pub next : Nest → ℕ → ℕ → List ℕ → Nested
 next n at c cs =
-    if c == 46 then Ok (dot at cs, n)
+    if c == 46 then Ok (dot at cs, Ok n)
     else (if c == 36 then unnested n (variable at cs)
     else (if c == 34 then text n at cs
     else (if is_digit c then unnested n (number at c cs)
-    else (if starts_name c then Ok (word_token at c cs, n)
+    else (if starts_name c then Ok (word_token at c cs, Ok n)
     else (if c == 40 then opened n at sign.LeftParen cs
     else (if c == 91 then opened n at sign.LeftBracket cs
     else (if c == 123 then opened n at sign.LeftBrace cs
@@ -204,9 +222,13 @@ pub data Lexed : Type 0 where
   last : End → Lexed
   also : ℕ → Token → Lexed → Lexed
 
-abbrev pub lexed_of : ℕ → (Lexeme × Nest → Lexed) → Nested → Lexed
+abbrev pub lexed_behind : (Nest → Lexed) → Behind → Lexed
+lexed_behind rest (Err e) = last (fails_by e)
+lexed_behind rest (Ok n) = rest n
+
+abbrev pub lexed_of : ℕ → (Lexeme → Nest → Lexed) → Nested → Lexed
 lexed_of at rest (Err e) = last (fails_by e)
-lexed_of at rest (Ok r) = also at r.0.token (rest r)
+lexed_of at rest (Ok r) = also at r.0.token (lexed_behind (rest r.0) r.1)
 
 -- the tokens of characters that begin at a place, of at most so many characters and tokens
 unfoldable pub lex_within : ℕ → Nest → ℕ → List ℕ → Lexed
@@ -214,7 +236,7 @@ lex_within zero n at cs = last (ends_at at)
 lex_within (suc k) n at [] = last (ends_at at)
 lex_within (suc k) n at (c ∷ cs) =
     if is_blank c then lex_within k n (at + 1) cs
-    else lexed_of at (λ r. lex_within k r.1 r.0.at r.0.rest) (next n at c cs)
+    else lexed_of at (λ l m. lex_within k m l.at l.rest) (next n at c cs)
 
 -- the tokens of characters that begin at a place, where these brackets are open
 abbrev pub lex : Nest → ℕ → List ℕ → Lexed

@@ -9,5 +9,6 @@ abbrev pub LexerLaws : Type 0
 LexerLaws =
     ((n : Nest) (at : ℕ) → lex n at [] ≡ last (ends_at at))
     × ((n : Nest) (at c : ℕ) (cs : List ℕ) → is_blank c ≡ true → lex n at (c ∷ cs) ≡ lex n (at + 1) cs)
-    × ((n : Nest) (at c : ℕ) (cs : List ℕ) (r : Lexeme × Nest) → is_blank c ≡ false → next n at c cs ≡ Ok r → lex n at (c ∷ cs) ≡ also at r.0.token (lex r.1 r.0.at r.0.rest))
+    × ((n m : Nest) (at c : ℕ) (cs : List ℕ) (l : Lexeme) → is_blank c ≡ false → next n at c cs ≡ Ok (l, Ok m) → lex n at (c ∷ cs) ≡ also at l.token (lex m l.at l.rest))
+    × ((n : Nest) (at c : ℕ) (cs : List ℕ) (l : Lexeme) (e : ParseFault) → is_blank c ≡ false → next n at c cs ≡ Ok (l, Err e) → lex n at (c ∷ cs) ≡ also at l.token (last (fails_by e)))
     × ((n : Nest) (at c : ℕ) (cs : List ℕ) (e : ParseFault) → is_blank c ≡ false → next n at c cs ≡ Err e → lex n at (c ∷ cs) ≡ last (fails_by e))

@@ -1,6 +1,7 @@
 -- The pieces of a text (RFC 8259, section 7; jq 1.7 manual, «String interpolation»).
 use Rattle.std.specs.Prelude.{◌+◌, ◌-◌, ◌*◌, ◌==◌, ◌&&◌, ℕ, zero, suc, Bool, true, false, List, [], ◌∷◌, Option, Some, None, Result, Ok, Err, option_and_then, nat_lt, nat_le, length, if◌then◌else◌}
-use Rattle.std.specs.Char.{digit_value, len_utf8}
+use Rattle.std.specs.Char.{len_utf8}
+use Rattle.json.specs.Text.{code_unit, short_escape, is_high_surrogate, is_low_surrogate, surrogate_pair}
 use Rattle.swf_jq_parse.specs.declared.fault.ParseFault.{ParseFault}
 use Rattle.swf_jq_parse.specs.declared.fault.ParseFault.TheVariants.{Syntax}
 
@@ -23,44 +24,18 @@ pub record Spelled : Type 0 where
 abbrev pub spelled : ℕ → ℕ → List ℕ → Spelled
 spelled c n cs = record { letter = c; width = n; rest = cs }
 
--- a digit in base sixteen
-abbrev pub is_hex : ℕ → Bool
-is_hex c = nat_lt (digit_value c) 16
-
--- the number that four such digits spell
-unfoldable pub unit_value : ℕ → ℕ → ℕ → ℕ → Option ℕ
-unit_value a b c d =
-    if is_hex a then (
-    if is_hex b then (
-    if is_hex c then (
-    if is_hex d then Some (4096 * digit_value a + 256 * digit_value b + 16 * digit_value c + digit_value d)
-    else None
-    ) else None
-    ) else None
-    ) else None
-
 abbrev pub unit_before : List ℕ → Option ℕ → Option (ℕ × List ℕ)
 unit_before cs None = None
 unit_before cs (Some u) = Some (u, cs)
 
--- the number that four such digits at the front spell, and the text after them
+-- the code unit that four hexadecimal digits at the front spell in JSON, and the text after them
 unfoldable pub unit : List ℕ → Option (ℕ × List ℕ)
-unit (a ∷ b ∷ c ∷ d ∷ cs) = unit_before cs (unit_value a b c d)
+unit (a ∷ b ∷ c ∷ d ∷ cs) = unit_before cs (code_unit a b c d)
 unit cs = None
-
--- the second unit of a pair
-abbrev pub is_low : ℕ → Bool
-is_low u = nat_le 0xDC00 u && nat_le u 0xDFFF
-
--- the first unit of a pair
-abbrev pub is_high : ℕ → Bool
-is_high u = nat_le 0xD800 u && nat_le u 0xDBFF
 
 abbrev pub pair_with : ℕ → ℕ × List ℕ → Option Spelled
 pair_with high r =
-    if is_low r.0
-    then Some (spelled (0x10000 + (high - 0xD800) * 0x400 + (r.0 - 0xDC00)) 12 r.1)
-    else None
+    if is_low_surrogate r.0 then Some (spelled (surrogate_pair high r.0) 12 r.1) else None
 
 -- the character of a first unit and a second, which follows as `\u`
 unfoldable pub pair : ℕ → List ℕ → Option Spelled
@@ -69,36 +44,23 @@ pair high cs = None
 
 abbrev pub code_of : ℕ × List ℕ → Option Spelled
 code_of r =
-    if is_high r.0 then pair r.0 r.1
-    else (if is_low r.0 then None else Some (spelled r.0 6 r.1))
+    if is_high_surrogate r.0 then pair r.0 r.1
+    else (if is_low_surrogate r.0 then None else Some (spelled r.0 6 r.1))
 
 -- the character of `\u` and what follows it, in one unit or two
 unfoldable pub unicode : List ℕ → Option Spelled
 unicode cs = option_and_then code_of (unit cs)
 
--- the character that a letter stands for after a `\`
-abbrev pub simple : ℕ → Option ℕ
-simple c =
-    if c == 34 then Some 34
-    else (if c == 92 then Some 92
-    else (if c == 47 then Some 47
-    else (if c == 98 then Some 8
-    else (if c == 102 then Some 12
-    else (if c == 110 then Some 10
-    else (if c == 114 then Some 13
-    else (if c == 116 then Some 9
-    else None)))))))
-
 abbrev pub simple_of : List ℕ → Option ℕ → Option Spelled
 simple_of cs None = None
 simple_of cs (Some d) = Some (spelled d 2 cs)
 
--- what follows a `\` and stands for one character
+-- what follows a `\` and stands for one character, as in JSON
 unfoldable pub escape : List ℕ → Option Spelled
 escape [] = None
 escape (c ∷ cs) =
     if c == 117 then unicode cs
-    else simple_of cs (simple c)
+    else simple_of cs (short_escape c)
 
 -- the character at the front, which stands for itself or is escaped
 unfoldable pub letter : List ℕ → Option Spelled

@@ -10,6 +10,7 @@ ghost use Rattle.swf_jq_parse.specs.declared.fault.ParseFault.TheVariants.{OutOf
 ghost use Rattle.swf_jq_parse.specs.declared.mode.Mode.TheVariants as mode;
 
 use crate::fault::{ParseFault, discard};
+use crate::lexeme::Lexeme;
 use crate::lexer::{is_blank, token};
 use crate::machine::{check_called, finish, step};
 use crate::mode::Mode;
@@ -130,14 +131,22 @@ fn token_turn<'a>(
     ensures within { IfOk result (λ t. t.at + 4 * length t.rest.now ≤ at + 4 + 4 * length tail.now) }
 {
     match token(alloc, nest, first, tail, at) {
-        Ok(lexeme) => match step(alloc, stack, mode, at, lexeme.token) {
-            Ok(mode) => Ok(Turn {
-                mode,
-                rest: lexeme.rest,
-                at: lexeme.at,
-            }),
-            Err(fault) => Err(fault),
-        },
+        Ok(nested) => {
+            let Lexeme {
+                token,
+                rest,
+                at: end,
+            } = nested.lexeme;
+            let mode = step(alloc, stack, mode, at, token)?;
+            match nested.fault {
+                Some(fault) => Err(first_fault(alloc, mode, fault)),
+                None => Ok(Turn {
+                    mode,
+                    rest,
+                    at: end,
+                }),
+            }
+        }
         Err(fault) => Err(first_fault(alloc, mode, fault)),
     }
 }

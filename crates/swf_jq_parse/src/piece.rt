@@ -1,7 +1,8 @@
 // A piece of a text, up to its end or to a `\(` (RFC 8259, section 7).
 ghost use Rattle.std.specs.Prelude.{◌≡◌, ◌+◌, ◌*◌, ◌^◌, ◌<◌, ◌≤◌, length, IfOk, IfSome, MatchOption, Some, None};
 ghost use Rattle.swf_jq_parse.specs.Gives.{Gives};
-ghost use Rattle.swf_jq_parse.specs.Piece.{seen, piece, piece_or_fault, piece_end, closed, letter, spelled, escape, simple, unicode, pair, unit, unit_value};
+ghost use Rattle.swf_jq_parse.specs.Piece.{seen, piece, piece_or_fault, piece_end, closed, letter, spelled, escape, unicode, pair, unit};
+ghost use Rattle.json.specs.Text.{code_unit, short_escape};
 
 use crate::fault::ParseFault;
 use crate::letters::Letters;
@@ -134,8 +135,9 @@ fn escape(rest: &[char]) -> Option<Spelled<'_>>
 }
 
 /// The character that a letter stands for after a `\`.
+#[tactic(auto, unfolding(json::specs::Text::short_escape))]
 fn simple(letter: char) -> Option<char>
-    ensures { result ≡ simple letter }
+    ensures { result ≡ short_escape letter }
 {
     match letter {
         '"' => Some('"'),
@@ -219,9 +221,9 @@ fn unit(rest: &[char]) -> Option<(u32, &[char])>
 }
 
 /// The number that four hexadecimal digits spell.
-#[tactic(auto, unfolding(crate::specs::Piece::unit_value))]
+#[tactic(auto, unfolding(json::specs::Text::code_unit))]
 fn unit_value(a: char, b: char, c: char, d: char) -> Option<u32>
-    ensures value { result ≡ unit_value a b c d }
+    ensures value { result ≡ code_unit a b c d }
     ensures small { IfSome result (λ u. u < 65536) }
 {
     let a = a.to_digit(16)?;
