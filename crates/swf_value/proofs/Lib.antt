@@ -1,9 +1,12 @@
+pub mod Places
+pub mod Grown
 pub mod TextLemmas
 pub mod Weights
 pub mod Rests
 pub mod OrderLaws
 pub mod ExprLemmas
 pub mod Writing
+pub mod PlainRuns
 pub mod Escapes
 pub mod Utf8Order
 pub mod Wholes

@@ -185,7 +185,7 @@ mutual
 alike : (u v w : Value) → value_cmp u v ≡ Equal → value_cmp u w ≡ value_cmp v w
 alike u v w p = ap (λ x. value_cmp x w) (exact u v p)
 
-own_reverse : (o : Ordering) → o ≡ ordering_reverse o → o ≡ Equal
+pub own_reverse : (o : Ordering) → o ≡ ordering_reverse o → o ≡ Equal
 own_reverse Less p = cc
 own_reverse Equal p = refl
 own_reverse Greater p = cc

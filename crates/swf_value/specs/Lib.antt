@@ -1,8 +1,11 @@
 pub mod Value
 pub mod ValueCode
+pub mod Weight
 pub mod Node
 pub mod NodeFalls
 pub mod Members
+pub mod Grow
+pub mod Place
 pub mod Written
 pub mod Read
 pub mod Builtin
@@ -14,3 +17,4 @@ pub mod ExprFalls
 pub mod Order
 pub mod Size
 pub mod Same
+pub mod Ascii

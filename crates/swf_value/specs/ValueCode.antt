@@ -65,3 +65,6 @@ mutual
 
 abbrev pub value_code : Coded Value
 value_code = record { code = code_value; inj = code_value_inj }
+
+abbrev pub members_code : Coded Members
+members_code = record { code = code_members; inj = code_members_inj }

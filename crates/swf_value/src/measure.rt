@@ -1,44 +1,75 @@
 // How large and how deep a value is.
-ghost use Rattle.std.specs.Prelude.{◌≡◌, ◌^◌, ◌-◌, min};
+ghost use Rattle.std.specs.Prelude.{◌≡◌, ◌≤◌, ◌^◌, ◌-◌, ◌+◌, min};
 ghost use Rattle.swf_value.specs.Value.{depth, depth_items, depth_members};
-ghost use Rattle.swf_value.specs.Node.{node_value, items_of, members_of};
+ghost use Rattle.swf_value.specs.Node.{items_of, members_of};
 ghost use Rattle.swf_value.specs.Size.{size, size_items, size_members};
 
-use crate::value::{Json, Member, Node};
+use crate::value::{Json, JsonNode, Member};
 
 /// One for each list, object and other value inside, and one for each byte of the texts and names;
 /// the greatest number where that is greater still. It takes no memory.
-#[cycle(size)]
 pub fn size(value: &Json) -> u64
     ensures { result ≡ min (size value.now) (2 ^ 64 - 1) }
 {
+    size_within(value, u64::MAX)
+}
+
+/// A value's size, or `most` where it is larger. It looks no further than that.
+pub fn size_within(value: &Json, most: u64) -> u64
+    ensures { result ≡ min (size value.now) most }
+{
+    add_size(0, value, most)
+}
+
+/// A sum that goes on no further than `most`.
+fn sum_within(sum: u64, more: u64, most: u64) -> u64
+    ensures { result ≡ min (sum + more) most }
+{
+    sum.saturating_add(more).min(most)
+}
+
+/// A sum and a value's size.
+#[cycle(size)]
+fn add_size(sum: u64, value: &Json, most: u64) -> u64
+    requires { sum ≤ most }
+    ensures { result ≡ min (sum + size value.now) most }
+{
+    let sum = sum_within(sum, 1, most);
     match value.node() {
-        Node::Null | Node::Bool(_) | Node::Int(_) => 1,
-        Node::Text(text) => (text.as_str().len() as u64).saturating_add(1),
-        Node::List(items) => size_of_items(items).saturating_add(1),
-        Node::Object(members) => size_of_members(members).saturating_add(1),
+        JsonNode::Null | JsonNode::Bool(_) | JsonNode::Int(_) => sum,
+        JsonNode::Text(text) => sum_within(sum, text.as_str().len() as u64, most),
+        JsonNode::List(items) => add_items(sum, items.as_slice(), most),
+        JsonNode::Object(members) => add_members(sum, members.as_slice(), most),
     }
 }
 
 #[cycle(size)]
-fn size_of_items(items: &[Json]) -> u64
-    ensures { result ≡ min (size_items (items_of items.now)) (2 ^ 64 - 1) }
+fn add_items(sum: u64, items: &[Json], most: u64) -> u64
+    requires { sum ≤ most }
+    ensures { result ≡ min (sum + size_items (items_of items.now)) most }
 {
-    let mut sum: u64 = 0;
+    let mut sum = sum;
     for item in items {
-        sum = sum.saturating_add(size(item));
+        if sum == most {
+            return most;
+        }
+        sum = add_size(sum, item, most);
     }
     sum
 }
 
 #[cycle(size)]
-fn size_of_members(members: &[Member]) -> u64
-    ensures { result ≡ min (size_members (members_of members.now)) (2 ^ 64 - 1) }
+fn add_members(sum: u64, members: &[Member], most: u64) -> u64
+    requires { sum ≤ most }
+    ensures { result ≡ min (sum + size_members (members_of members.now)) most }
 {
-    let mut sum: u64 = 0;
+    let mut sum = sum;
     for member in members {
-        let name = member.name.as_str().len() as u64;
-        sum = sum.saturating_add(name).saturating_add(size(&member.value));
+        if sum == most {
+            return most;
+        }
+        let named = sum_within(sum, member.name.as_str().len() as u64, most);
+        sum = add_size(named, &member.value, most);
     }
     sum
 }

@@ -2,7 +2,7 @@
 ghost use Rattle.std.specs.Prelude.{◌≡◌, true, IfOk};
 
 use crate::text::Text;
-use std::alloc::{AllocError, Global};
+use std::alloc::AllocError;
 use std::marker::Model;
 
 /// A letter or `_`, then letters, digits and `_`, and no keyword. Contracts see it as its characters.
@@ -50,10 +50,10 @@ impl Name {
     }
 
     /// The same name.
-    pub fn copy(&self, alloc: Global) -> Result<Name, AllocError>
+    pub fn copy(&self) -> Result<Name, AllocError>
         ensures { IfOk result (λ n. n ≡ self.now) }
     {
-        let text = self.text.copy(alloc)?;
+        let text = self.text.copy()?;
         Ok(Name { text })
     }
 }

@@ -1,12 +1,12 @@
 // The order of values.
-ghost use Rattle.std.specs.Prelude.{◌≡◌, length, slice_index};
+ghost use Rattle.std.specs.Prelude.{◌≡◌, chars, length, slice_index};
 ghost use Rattle.std.specs.Ordering.{nat_cmp};
 ghost use Rattle.std.specs.Cmp.Lexicographic.{slice_cmp};
 ghost use Rattle.swf_value.specs.Node.{node_value, items_of, members_of};
 ghost use Rattle.swf_value.specs.Order.{rank, value_cmp, items_cmp, members_cmp, names_cmp, OrderLaws};
 
 use crate::text::Text;
-use crate::value::{Json, Member, Node};
+use crate::value::{Json, JsonNode, Member};
 use std::cmp::Ordering;
 
 /// The order of two values: null, false, true, numbers, texts by their characters, lists by their
@@ -20,15 +20,18 @@ pub fn compare(a: &Json, b: &Json) -> Ordering
 
 /// The order of one level.
 #[cycle(compare)]
-fn compare_nodes(a: &Node, b: &Node) -> Ordering
+fn compare_nodes(a: &JsonNode, b: &JsonNode) -> Ordering
     ensures { result ≡ value_cmp (node_value a.now) (node_value b.now) }
 {
     match (a, b) {
-        (Node::Int(x), Node::Int(y)) => x.cmp(y),
-        (Node::Text(x), Node::Text(y)) => compare_texts(x, y),
-        (Node::List(x), Node::List(y)) => compare_items(x, y),
-        (Node::Object(x), Node::Object(y)) => match compare_names(x, y) {
-            Ordering::Equal => compare_members(x, y),
+        (JsonNode::Int(x), JsonNode::Int(y)) => x.cmp(y),
+        (JsonNode::Text(x), JsonNode::Text(y)) => compare_texts(x, y),
+        (JsonNode::List(x), JsonNode::List(y)) => compare_items(x.as_slice(), y.as_slice()),
+        (JsonNode::Object(x), JsonNode::Object(y)) => match compare_names(
+            x.as_slice(),
+            y.as_slice(),
+        ) {
+            Ordering::Equal => compare_members(x.as_slice(), y.as_slice()),
             other => other,
         },
         (x, y) => rank_of(x).cmp(&rank_of(y)),
@@ -36,16 +39,16 @@ fn compare_nodes(a: &Node, b: &Node) -> Ordering
 }
 
 /// The place of a level's kind in the order.
-fn rank_of(node: &Node) -> u8
+fn rank_of(node: &JsonNode) -> u8
     ensures { result ≡ rank (node_value node.now) }
 {
     match node {
-        Node::Null => 0,
-        Node::Bool(value) => { if *value { 2 } else { 1 } }
-        Node::Int(_) => 3,
-        Node::Text(_) => 4,
-        Node::List(_) => 5,
-        Node::Object(_) => 6,
+        JsonNode::Null => 0,
+        JsonNode::Bool(value) => { if *value { 2 } else { 1 } }
+        JsonNode::Int(_) => 3,
+        JsonNode::Text(_) => 4,
+        JsonNode::List(_) => 5,
+        JsonNode::Object(_) => 6,
     }
 }
 
@@ -53,7 +56,14 @@ fn rank_of(node: &Node) -> u8
 fn compare_texts(a: &Text, b: &Text) -> Ordering
     ensures { result ≡ slice_cmp nat_cmp a.now b.now }
 {
-    a.as_str().chars().cmp(b.as_str().chars())
+    compare_strs(a.as_str(), b.as_str())
+}
+
+/// The order of two texts as `std` has them, by their characters.
+pub(crate) fn compare_strs(a: &str, b: &str) -> Ordering
+    ensures { result ≡ slice_cmp nat_cmp (chars a.now) (chars b.now) }
+{
+    a.cmp(b)
 }
 
 /// The order of two lists, item by item.

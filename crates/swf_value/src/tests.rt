@@ -126,7 +126,7 @@ fn takes_values_apart(rt: HostRuntime) -> Result<(), Fail> {
     let item = text_of(alloc, value.member("a\n").ok_or("a list")?)?;
     assert_eq!(rt; item.as_slice(), b"[1,-2]".as_slice());
     assert!(rt; value.member("c").is_none());
-    let Node::Object(members) = copy.into_node() else {
+    let JsonNode::Object(members) = copy.into_node() else {
         return Err(Fail::from("an object"));
     };
     assert_eq!(rt; members.len(), 2);

@@ -1,38 +1,40 @@
-// Owned text, seen as its list of characters.
+// Text that several values share, seen as its list of characters.
 ghost use Rattle.std.specs.Prelude.{◌≡◌, ◌==◌, ◌↔◌, true, chars, string_bytes, IfOk, IsTrue};
 ghost use Rattle.std.specs.Str.{encode_utf8_all, all_scalars};
 
 use std::alloc::{AllocError, Global};
 use std::marker::Model;
+use std::sync::Arc;
 
 /// A text. Contracts see it as the list of its characters, by their Unicode code points.
 #[derive(Drop)]
 pub struct Text {
-    text: String,
+    text: Arc<String>,
 }
 
 impl Model for Text {
     ghost use Rattle.std.specs.Prelude.{ℕ, List, chars, string_bytes};
+    ghost use Rattle.std.specs.Arc.{arc_value};
 
     ghost Value = { List ℕ };
 
-    ghost view = { λ t. chars (string_bytes t.text) };
+    ghost view = { λ t. chars (string_bytes (arc_value t.text)) };
 }
 
 impl Text {
-    /// The text that a `String` holds. It takes no memory.
-    pub fn from_string(text: String) -> Text
-        ensures { result ≡ chars (string_bytes text) }
+    /// The text that a `String` holds.
+    pub fn from_string(alloc: Global, text: String) -> Result<Text, AllocError>
+        ensures { IfOk result (λ t. t ≡ chars (string_bytes text)) }
     {
-        Text { text }
+        let text = Arc::new(alloc, text)?;
+        Ok(Text { text })
     }
 
     /// A copy of a text.
     pub fn copy_of(alloc: Global, text: &str) -> Result<Text, AllocError>
         ensures { IfOk result (λ t. t ≡ chars text.now) }
     {
-        let text = String::from_str(alloc, text)?;
-        Ok(Text { text })
+        Text::from_string(alloc, String::from_str(alloc, text)?)
     }
 
     /// The text as `std` has it.
@@ -44,18 +46,12 @@ impl Text {
         self.text.as_str()
     }
 
-    /// The `String` inside. It takes no memory.
-    pub fn into_string(self) -> String
-        ensures { chars (string_bytes result) ≡ self }
-    {
-        self.text
-    }
-
-    /// Another text of the same characters.
-    pub fn copy(&self, alloc: Global) -> Result<Text, AllocError>
+    /// The same text once more. It copies no characters.
+    pub fn copy(&self) -> Result<Text, AllocError>
         ensures { IfOk result (λ t. t ≡ self.now) }
     {
-        Text::copy_of(alloc, self.text.as_str())
+        let text = Arc::try_clone(&self.text)?;
+        Ok(Text { text })
     }
 
     /// Whether it has the characters of another text.

@@ -1,9 +1,12 @@
-// A JSON value: one level is a `Node`, and the `Json` round it keeps what holds of each level.
-ghost use Rattle.std.specs.Prelude.{◌≡◌, ◌↔◌, IfOk, IsTrue, option_map, chars};
+// A JSON value: one level is a `JsonNode`, and the `Json` round it keeps what holds of each level.
+ghost use Rattle.std.specs.Prelude.{◌≡◌, ◌↔◌, ◌-◌, ◌^◌, min, IfOk, IfErr, IsTrue, option_map, chars};
+ghost use Rattle.swf_value.specs.Node.{node_value};
+ghost use Rattle.swf_value.specs.Grow.{IsList, IsObject, with_item, with_put};
+ghost use Rattle.swf_value.specs.Value.{IsLevel, depth};
 
-use crate::copy::copy_node;
+use crate::list::JsonList;
+use crate::map::JsonMap;
 use crate::measure::{depth_of_items, depth_of_members};
-use crate::members;
 use crate::order::compare;
 use crate::text::Text;
 use std::alloc::{AllocError, Global};
@@ -13,7 +16,7 @@ use std::marker::Model;
 #[cycle(json)]
 #[derive(Drop)]
 pub struct Json {
-    node: Node,
+    node: JsonNode,
     /// How deep lists and objects nest in it; the greatest number where that is greater still.
     depth: u32,
 }
@@ -21,15 +24,14 @@ pub struct Json {
 /// One level of a value.
 #[cycle(json)]
 #[derive(Drop)]
-pub enum Node {
+pub enum JsonNode {
     Null,
     Bool(bool),
     /// A whole number of at most 9007199254740991 either side of zero.
     Int(i64),
     Text(Text),
-    List(Vec<Json>),
-    /// The members by ascending name, each name once.
-    Object(Vec<Member>),
+    List(JsonList),
+    Object(JsonMap),
 }
 
 /// A member of an object.
@@ -71,7 +73,7 @@ impl Json {
         ensures { result ≡ null }
     {
         Json {
-            node: Node::Null,
+            node: JsonNode::Null,
             depth: 0,
         }
     }
@@ -80,7 +82,7 @@ impl Json {
         ensures { result ≡ boolean value }
     {
         Json {
-            node: Node::Bool(value),
+            node: JsonNode::Bool(value),
             depth: 0,
         }
     }
@@ -91,7 +93,7 @@ impl Json {
         ensures { result ≡ int value }
     {
         Json {
-            node: Node::Int(value),
+            node: JsonNode::Int(value),
             depth: 0,
         }
     }
@@ -100,31 +102,33 @@ impl Json {
         ensures { result ≡ text value }
     {
         Json {
-            node: Node::Text(value),
+            node: JsonNode::Text(value),
             depth: 0,
         }
     }
 
-    pub fn list(items: Vec<Json>) -> Json
-        ensures { result ≡ list (items_of items.items) }
+    pub fn list(alloc: Global, items: Vec<Json>) -> Result<Json, AllocError>
+        ensures { IfOk result (λ v. v ≡ list (items_of items.items)) }
     {
         let depth = depth_of_items(&items).saturating_add(1);
-        Json {
-            node: Node::List(items),
+        let items = JsonList::new(alloc, items)?;
+        Ok(Json {
+            node: JsonNode::List(items),
             depth,
-        }
+        })
     }
 
     /// An object of these members, which stand by ascending name.
-    pub fn object(members: Vec<Member>) -> Json
+    pub fn object(alloc: Global, members: Vec<Member>) -> Result<Json, AllocError>
         requires { Ascending (members_of members.items) }
-        ensures { result ≡ object (members_of members.items) }
+        ensures { IfOk result (λ v. v ≡ object (members_of members.items)) }
     {
         let depth = depth_of_members(&members).saturating_add(1);
-        Json {
-            node: Node::Object(members),
+        let members = JsonMap::new(alloc, members)?;
+        Ok(Json {
+            node: JsonNode::Object(members),
             depth,
-        }
+        })
     }
 
     /// How deep lists and objects nest in it; the greatest number where that is greater still.
@@ -135,19 +139,11 @@ impl Json {
     }
 
     /// The level at the top.
-    pub fn node(&self) -> &Node
+    pub fn node(&self) -> &JsonNode
         ensures value { node_value result.now ≡ self.now }
         ensures level { IsLevel self.now }
     {
         &self.node
-    }
-
-    /// The level at the top, taken out. It takes no memory.
-    pub fn into_node(self) -> Node
-        ensures value { node_value result ≡ self }
-        ensures level { IsLevel self }
-    {
-        self.node
     }
 
     /// The value of a member, where this is an object that has it.
@@ -155,7 +151,7 @@ impl Json {
         ensures { option_map (λ v. v.now) result ≡ member_at (chars name.now) self.now }
     {
         match &self.node {
-            Node::Object(members) => members::find(members, name),
+            JsonNode::Object(members) => members.find(name),
             _ => None,
         }
     }
@@ -167,15 +163,109 @@ impl Json {
         compare(self, other).is_eq()
     }
 
-    /// An equal value.
-    #[cycle(copy)]
-    pub fn copy(&self, alloc: Global) -> Result<Json, AllocError>
+    /// The same value once more. It copies nothing that is inside.
+    pub fn copy(&self) -> Result<Json, AllocError>
         ensures { IfOk result (λ v. v ≡ self.now) }
     {
-        let node = copy_node(alloc, &self.node)?;
+        let node = match &self.node {
+            JsonNode::Null => JsonNode::Null,
+            JsonNode::Bool(value) => JsonNode::Bool(*value),
+            JsonNode::Int(value) => JsonNode::Int(*value),
+            JsonNode::Text(text) => JsonNode::Text(text.copy()?),
+            JsonNode::List(items) => JsonNode::List(items.copy()?),
+            JsonNode::Object(members) => JsonNode::Object(members.copy()?),
+        };
         Ok(Json {
             node,
             depth: self.depth,
         })
     }
+
+    /// One more item at the end of a list: in place where this is the list's only owner.
+    #[tactic(auto, using(crate::proofs::Grown::kept_with_item))]
+    pub fn push(&mut self, item: Json) -> Result<(), AllocError>
+        requires { IsList self.old }
+        ensures ok { IfOk result (λ _. self.new ≡ with_item self.old item) }
+        ensures err { IfErr result (λ _. self.new ≡ self.old) }
+    {
+        let depth = item.depth().saturating_add(1);
+        push_item(&mut self.node, item)?;
+        self.depth = self.depth.max(depth);
+        Ok(())
+    }
+
+    /// Puts a member into an object, where it replaces one of the same name: in place where this
+    /// is the object's only owner.
+    #[tactic(auto, using(crate::proofs::Grown::level_with_put))]
+    pub fn put(&mut self, name: Text, value: Json) -> Result<(), AllocError>
+        requires { IsObject self.old }
+        ensures ok { IfOk result (λ _. self.new ≡ with_put self.old name value) }
+        ensures err { IfErr result (λ _. self.new ≡ self.old) }
+    {
+        put_member(&mut self.node, name, value)?;
+        self.depth = depth_of_node(&self.node);
+        Ok(())
+    }
+}
+
+impl Clone for Json {
+    ghost is_clone = { λ a b. b ≡ a };
+
+    fn clone(&self) -> Result<Json, AllocError> {
+        self.copy()
+    }
+}
+
+impl Clone for Member {
+    ghost is_clone = { λ a b. b ≡ a };
+
+    fn clone(&self) -> Result<Member, AllocError> {
+        let name = self.name.copy()?;
+        let value = self.value.copy()?;
+        Ok(Member { name, value })
+    }
+}
+
+/// One more item at the end of a list.
+#[tactic(auto, using(crate::proofs::Grown::items_with_item))]
+fn push_item(node: &mut JsonNode, item: Json) -> Result<(), AllocError>
+    requires { IsList (node_value node.old) }
+    ensures ok { IfOk result (λ _. node_value node.new ≡ with_item (node_value node.old) item) }
+    ensures err { IfErr result (λ _. node_value node.new ≡ node_value node.old) }
+{
+    match node {
+        JsonNode::List(items) => items.push(item),
+        _ => Err(AllocError),
+    }
+}
+
+/// Puts a member into an object.
+fn put_member(node: &mut JsonNode, name: Text, value: Json) -> Result<(), AllocError>
+    requires object { IsObject (node_value node.old) }
+    requires level { IsLevel (node_value node.old) }
+    ensures ok { IfOk result (λ _. node_value node.new ≡ with_put (node_value node.old) name value) }
+    ensures err { IfErr result (λ _. node_value node.new ≡ node_value node.old) }
+{
+    match node {
+        JsonNode::Object(members) => members.insert(name, value),
+        _ => Err(AllocError),
+    }
+}
+
+/// How deep lists and objects nest in a level; the greatest number where that is greater still.
+fn depth_of_node(node: &JsonNode) -> u32
+    ensures { result ≡ min (depth (node_value node.now)) (2 ^ 32 - 1) }
+{
+    match node {
+        JsonNode::Null | JsonNode::Bool(_) | JsonNode::Int(_) | JsonNode::Text(_) => 0,
+        JsonNode::List(items) => depth_of_items(items.as_slice()).saturating_add(1),
+        JsonNode::Object(members) => depth_of_members(members.as_slice()).saturating_add(1),
+    }
+}
+
+fn crosses<T: Send + Sync>(_value: &T) {}
+
+/// A value may be moved to another thread, and be looked at by several at once.
+pub fn may_cross(value: &Json) {
+    crosses(value);
 }

@@ -61,7 +61,7 @@ pub(crate) fn whole_value(alloc: Global, tree: Tree) -> Result<Option<Json>, All
         Tree::Null => Ok(Some(Json::null())),
         Tree::Bool(value) => Ok(Some(Json::boolean(value))),
         Tree::Number(number) => Ok(whole_int(&number)),
-        Tree::String(text) => Ok(Some(Json::text(Text::from_string(text)))),
+        Tree::String(text) => Ok(Some(Json::text(Text::from_string(alloc, text)?))),
         Tree::Array(items) => whole_list(alloc, items),
         Tree::Object(members) => whole_object(alloc, members),
     }
@@ -80,7 +80,7 @@ fn whole_list(alloc: Global, items: Vec<Tree>) -> Result<Option<Json>, AllocErro
         };
         found.push(value)?;
     }
-    Ok(Some(Json::list(found)))
+    Ok(Some(Json::list(alloc, found)?))
 }
 
 /// The object that these members are.
@@ -95,10 +95,10 @@ fn whole_object(alloc: Global, members: Map<String, Tree>) -> Result<Option<Json
         let Some(value) = whole_value(alloc, member)? else {
             return Ok(None);
         };
-        let name = Text::from_string(name);
+        let name = Text::from_string(alloc, name)?;
         found.push(Member { name, value })?;
     }
-    Ok(Some(Json::object(found)))
+    Ok(Some(Json::object(alloc, found)?))
 }
 
 /// The whole number that a number is, where it is one in range.

@@ -1,6 +1,7 @@
 // Writing a value as text.
-ghost use Rattle.std.specs.Prelude.{◌≡◌, ◌++◌, ◌<◌, ◌≤◌, ◌∷◌, List, ℕ, [], Ok, OnOk, OnErr, true, false};
+ghost use Rattle.std.specs.Prelude.{◌≡◌, ◌++◌, ◌<◌, ◌≤◌, ◌∷◌, List, ℕ, [], Ok, OnOk, OnErr, IsTrue, true, false};
 ghost use Rattle.std.specs.Char.{digit_char};
+ghost use Rattle.std.specs.Fmt.{signed_decimal};
 ghost use Rattle.std.specs.List.{flat_map};
 ghost use Rattle.std.specs.Str.{all_scalars};
 ghost use Rattle.swf_value.specs.Node.{items_of, members_of};
@@ -9,17 +10,18 @@ ghost use Rattle.swf_value.specs.Written.{written, comma, written_items, written
 ghost use Rattle.swf_value.specs.Read.{read_within};
 
 use crate::text::Text;
-use crate::value::{Json, Member, Node};
-use std::alloc::{AllocError, Global};
+use crate::value::{Json, JsonNode, Member};
+use itoa::Buffer;
+use std::alloc::AllocError;
 
 /// Appends the compact text of a value. After an `Err` nothing was appended.
-pub fn write_json(alloc: Global, value: &Json, out: &mut Vec<u8>) -> Result<(), AllocError>
+pub fn write_json(value: &Json, out: &mut Vec<u8>) -> Result<(), AllocError>
     ensures ok { OnOk result (out.new.items ≡ out.old.items ++ written value.now) }
     ensures value { OnOk result (IsValue value.now) }
     ensures err { OnErr result (out.new.items ≡ out.old.items) }
 {
     let start = out.len();
-    match write_value(alloc, value, out) {
+    match write_value(value, out) {
         Ok(()) => Ok(()),
         Err(error) => {
             out.truncate(start);
@@ -30,25 +32,34 @@ pub fn write_json(alloc: Global, value: &Json, out: &mut Vec<u8>) -> Result<(), 
 
 /// Appends a value's text. After an `Err` some of it may stand there.
 #[cycle(write)]
-fn write_value(alloc: Global, value: &Json, out: &mut Vec<u8>) -> Result<(), AllocError>
+fn write_value(value: &Json, out: &mut Vec<u8>) -> Result<(), AllocError>
     ensures ok { OnOk result (out.new.items ≡ out.old.items ++ written value.now) }
     ensures value { OnOk result (IsValue value.now) }
     ensures kept { Extends out.old.items out.new.items }
 {
     match value.node() {
-        Node::Null => out.extend_from_slice(b"null"),
-        Node::Bool(true) => out.extend_from_slice(b"true"),
-        Node::Bool(false) => out.extend_from_slice(b"false"),
-        Node::Int(number) => out.extend_from_slice(number.to_string(alloc)?.as_bytes()),
-        Node::Text(text) => write_text(text, out),
-        Node::List(items) => write_list(alloc, items, out),
-        Node::Object(members) => write_object(alloc, members, out),
+        JsonNode::Null => out.extend_from_slice(b"null"),
+        JsonNode::Bool(true) => out.extend_from_slice(b"true"),
+        JsonNode::Bool(false) => out.extend_from_slice(b"false"),
+        JsonNode::Int(number) => write_number(*number, out),
+        JsonNode::Text(text) => write_text(text, out),
+        JsonNode::List(items) => write_list(items.as_slice(), out),
+        JsonNode::Object(members) => write_object(members.as_slice(), out),
     }
+}
+
+/// Appends the digits of a number.
+fn write_number(number: i64, out: &mut Vec<u8>) -> Result<(), AllocError>
+    ensures ok { OnOk result (out.new.items ≡ out.old.items ++ signed_decimal number) }
+    ensures err { OnErr result (out.new.items ≡ out.old.items) }
+{
+    let mut buffer = Buffer::new();
+    out.extend_from_slice(buffer.format(number).as_bytes())
 }
 
 /// Appends a list's text, with its brackets.
 #[cycle(write)]
-fn write_list(alloc: Global, items: &[Json], out: &mut Vec<u8>) -> Result<(), AllocError>
+fn write_list(items: &[Json], out: &mut Vec<u8>) -> Result<(), AllocError>
     ensures ok { OnOk result
         (out.new.items ≡ out.old.items ++ 91 ∷ (written_items false (items_of items.now) ++ 93 ∷ [])) }
     ensures value { OnOk result (AreItems (items_of items.now)) }
@@ -57,14 +68,14 @@ fn write_list(alloc: Global, items: &[Json], out: &mut Vec<u8>) -> Result<(), Al
     out.extend_from_slice(b"[")?;
     for (index, item) in items.iter().enumerate() {
         write_comma(index > 0, out)?;
-        write_value(alloc, item, out)?;
+        write_value(item, out)?;
     }
     out.extend_from_slice(b"]")
 }
 
 /// Appends an object's text, with its brackets.
 #[cycle(write)]
-fn write_object(alloc: Global, members: &[Member], out: &mut Vec<u8>) -> Result<(), AllocError>
+fn write_object(members: &[Member], out: &mut Vec<u8>) -> Result<(), AllocError>
     ensures ok { OnOk result
         (out.new.items
         ≡ out.old.items ++ 123 ∷ (written_members false (members_of members.now) ++ 125 ∷ [])) }
@@ -75,7 +86,7 @@ fn write_object(alloc: Global, members: &[Member], out: &mut Vec<u8>) -> Result<
     for (index, member) in members.iter().enumerate() {
         write_comma(index > 0, out)?;
         write_name(&member.name, out)?;
-        write_value(alloc, &member.value, out)?;
+        write_value(&member.value, out)?;
     }
     out.extend_from_slice(b"}")
 }
@@ -113,15 +124,29 @@ fn write_text(text: &Text, out: &mut Vec<u8>) -> Result<(), AllocError>
     out.extend_from_slice(b"\"")
 }
 
-/// Appends what stands in a text for these bytes of its UTF-8.
+/// Appends what stands in a text for these bytes of its UTF-8: runs of those that stand for
+/// themselves at once.
 fn write_bytes(bytes: &[u8], out: &mut Vec<u8>) -> Result<(), AllocError>
     ensures ok { OnOk result (out.new.items ≡ out.old.items ++ flat_map escaped_byte bytes.now) }
     ensures kept { Extends out.old.items out.new.items }
 {
-    for byte in bytes {
+    let mut start = 0;
+    for (index, byte) in bytes.iter().enumerate() {
+        if is_plain(*byte) {
+            continue;
+        }
+        out.extend_from_slice(&bytes[start..index])?;
         write_byte(*byte, out)?;
+        start = index + 1;
     }
-    Ok(())
+    out.extend_from_slice(&bytes[start..])
+}
+
+/// Whether a byte stands for itself in a text.
+fn is_plain(byte: u8) -> bool
+    ensures { IsTrue result → escaped_byte byte ≡ byte ∷ [] }
+{
+    byte >= 0x20 && byte != b'"' && byte != b'\\'
 }
 
 /// Appends what stands in a text for one byte of its UTF-8.
