@@ -1,7 +1,6 @@
 pub mod Rows
 pub mod Reducing
 pub mod Turns
-pub mod Characters
 pub mod Pieces
 pub mod Fronts
 pub mod Decimals

@@ -6,7 +6,6 @@ ghost use Rattle.swf_jq_parse.specs.Piece.{seen};
 
 use crate::digits::number;
 use crate::fault::ParseFault;
-use crate::letters::Letters;
 use crate::lexeme::{Lexeme, Nested, sign, sound};
 use crate::nest::{Bracket, Nest};
 use crate::piece::{Piece, read_piece};
@@ -14,6 +13,7 @@ use crate::signs::other_sign;
 use crate::token::{Sign, Token};
 use crate::words::{dot, starts_name, variable, word_token};
 use std::alloc::{AllocError, Global};
+use swf_value::TextBuilder;
 
 /// Space, tab, CR and LF.
 pub fn is_blank(c: char) -> bool
@@ -154,7 +154,11 @@ fn text_on<'a>(
         Ok(piece) => text_continued(nest, piece, start),
         Err(ParseFault::OutOfMemory) => Err(ParseFault::OutOfMemory),
         Err(fault) => Ok(Nested {
-            lexeme: Lexeme::new(Token::TextClose(Letters::new(alloc).into_text()), tail, at + 1),
+            lexeme: Lexeme::new(
+                Token::TextClose(TextBuilder::new(alloc).into_text(alloc)?),
+                tail,
+                at + 1,
+            ),
             fault: Some(fault),
         }),
     }

@@ -6,7 +6,6 @@ mod digits;
 mod fault;
 mod joining;
 mod laws;
-mod letters;
 mod lexeme;
 mod lexer;
 mod machine;

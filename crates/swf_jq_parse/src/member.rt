@@ -25,7 +25,7 @@ fn keyword_key(alloc: Global, keyword: Keyword) -> Result<Expr, AllocError>
 fn bind_member(alloc: Global, members: Members, name: Name) -> Result<Mode, ParseFault>
     ensures { Gives (λ m. m) result (Ok (variable_member members name)) }
 {
-    let key = text_expr(name.text().copy(alloc)?);
+    let key = text_expr(name.text().copy()?);
     let members = members.with(key, Some(Expr::var(name)))?;
     Ok(Mode::MemberEnd(members))
 }

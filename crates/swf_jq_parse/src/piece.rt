@@ -5,9 +5,8 @@ ghost use Rattle.swf_jq_parse.specs.Piece.{seen, piece, piece_or_fault, piece_en
 ghost use Rattle.json.specs.Text.{code_unit, short_escape};
 
 use crate::fault::ParseFault;
-use crate::letters::Letters;
 use std::alloc::Global;
-use swf_value::Text;
+use swf_value::{Text, TextBuilder};
 
 /// A piece of a text and what stands after it.
 #[derive(Drop)]
@@ -49,14 +48,14 @@ pub fn read_piece<'a>(
     ensures gives { Gives (λ p. seen p.text p.opens p.at p.rest.now) result (piece_or_fault start (piece front_at front.now)) }
     ensures within { IfOk result (λ p. p.at + 4 * length p.rest.now ≤ front_at + 4 * length front.now) }
 {
-    let mut text = Letters::new(alloc);
+    let mut text = TextBuilder::new(alloc);
     let mut rest = front;
     let mut at = front_at;
     'letters: loop {
         match piece_end(rest) {
             Some(end) => {
                 return Ok(Piece {
-                    text: text.into_text(),
+                    text: text.into_text(alloc)?,
                     opens: end.opens,
                     rest: end.rest,
                     at: at + end.width,

@@ -6,11 +6,10 @@ ghost use Rattle.swf_jq_parse.specs.Lexer.{lexeme, word_or_name, word_token, dot
 ghost use Rattle.swf_jq_parse.specs.Words.{word, after_word, keyword_in, keyword_of};
 
 use crate::fault::ParseFault;
-use crate::letters::Letters;
 use crate::lexeme::Lexeme;
 use crate::token::{Keyword, Token};
 use std::alloc::{AllocError, Global};
-use swf_value::{Name, Text, is_word};
+use swf_value::{Name, Text, TextBuilder, is_word};
 
 /// A word and what stands after it.
 #[derive(Drop)]
@@ -54,12 +53,12 @@ fn word_length(rest: &[char]) -> usize
 fn word_text(alloc: Global, first: char, more: &[char]) -> Result<Text, AllocError>
     ensures { IfOk result (λ t. t ≡ first ∷ more.now) }
 {
-    let mut word = Letters::new(alloc);
+    let mut word = TextBuilder::new(alloc);
     word.push(first)?;
     for c in more {
         word.push(*c)?;
     }
-    Ok(word.into_text())
+    word.into_text(alloc)
 }
 
 /// The word that begins with one character and goes on after it.

@@ -6,7 +6,7 @@ use Rattle.swf_jq_parse.proofs.piece.read_piece.Goals as goal
 pub returns-in-Some-clause-gives : goal.returns-in-Some-clause-gives
 returns-in-Some-clause-gives c =
     let e = c.in-Some.end in
-    rw c.into_text.ensures (ap (piece_or_fault c.args.start) (at_end c.letters.text c.letters.at c.letters.rest.now _ (closed e.opens e.width e.rest.now) c.letters.invariant.0 c.in-Some.ensures.gives))
+    rw c.in_ok-into_text-in-Some.ensures (ap (piece_or_fault c.args.start) (at_end c.letters.text c.letters.at c.letters.rest.now _ (closed e.opens e.width e.rest.now) c.letters.invariant.0 c.in-Some.ensures.gives))
 
 pub letters-preserved : goal.letters-preserved
 letters-preserved c =
