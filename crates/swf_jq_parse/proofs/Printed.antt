@@ -14,8 +14,8 @@ use Rattle.swf_jq_parse.specs.Operand.{named}
 use Rattle.swf_jq_parse.specs.Print.{is_term}
 use Rattle.swf_jq_parse.specs.Printed.{literal_tokens, enclosed_tokens, printed_tokens, argument_tokens, member_tokens, IsExpression, AreArguments, AreMembers}
 use Rattle.swf_jq_parse.specs.Rows.{tree_last, pair_last}
-use Rattle.swf_jq_parse.specs.declared.token.Sign.TheVariants as sign
-use Rattle.swf_jq_parse.specs.declared.token.Token.TheVariants as token
+use Rattle.swf_jq_tokens.specs.declared.token.Sign.TheVariants as sign
+use Rattle.swf_jq_tokens.specs.declared.token.Token.TheVariants as token
 
 -- ---- a term may stand anywhere
 

@@ -11,9 +11,9 @@ use Rattle.swf_value.specs.ExprNode.{trees_of, pairs_of, value_or_here}
 use Rattle.swf_value.specs.declared.expr.ExprMember.{ExprMember}
 use Rattle.swf_jq_parse.specs.Rows.{tree_last, pair_last}
 use Rattle.swf_jq_parse.specs.TextPart.{first_text, plus_text}
-use Rattle.swf_jq_parse.specs.Words.{keyword_text}
-use Rattle.swf_jq_parse.specs.declared.token.Keyword.{Keyword}
-use Rattle.swf_jq_parse.specs.declared.token.Keyword.TheVariants as keyword
+use Rattle.swf_jq_tokens.specs.Words.{keyword_text}
+use Rattle.swf_jq_tokens.specs.declared.token.Keyword.{Keyword}
+use Rattle.swf_jq_tokens.specs.declared.token.Keyword.TheVariants as keyword
 
 -- as many trees as there are arguments
 pub count-trees_of : (es : List Tree) → count (trees_of es) ≡ length es

@@ -16,10 +16,10 @@ use Rattle.swf_jq_parse.specs.declared.stack.Item.TheVariants as items
 use Rattle.swf_jq_parse.specs.declared.stack.Joint.{Joint}
 use Rattle.swf_jq_parse.specs.declared.stack.Joint.TheVariants as joint
 use Rattle.swf_jq_parse.specs.declared.stack.Pending.TheVariants as pending
-use Rattle.swf_jq_parse.specs.declared.token.Keyword.TheVariants as keyword
-use Rattle.swf_jq_parse.specs.declared.token.Sign.TheVariants as sign
-use Rattle.swf_jq_parse.specs.declared.token.Token.{Token}
-use Rattle.swf_jq_parse.specs.declared.token.Token.TheVariants as token
+use Rattle.swf_jq_tokens.specs.declared.token.Keyword.TheVariants as keyword
+use Rattle.swf_jq_tokens.specs.declared.token.Sign.TheVariants as sign
+use Rattle.swf_jq_tokens.specs.declared.token.Token.{Token}
+use Rattle.swf_jq_tokens.specs.declared.token.Token.TheVariants as token
 use Rattle.swf_jq_parse.proofs.Spelling.{At, weaken, right_of, need, Ready, Joins, Sits, OpenObject, Spells, Placed, Told, grown, pushed, shut}
 use Rattle.swf_jq_parse.proofs.Joined.{reduce_keeps, stopped, Whole, value_need, close_keeps}
 use Rattle.swf_jq_parse.proofs.Accepting.{le_up, reduce_twice}

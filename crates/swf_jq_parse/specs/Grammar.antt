@@ -5,18 +5,16 @@ use Rattle.swf_value.specs.Value.{null, boolean, int, text}
 use Rattle.swf_value.specs.declared.builtin.Builtin.{Builtin}
 use Rattle.swf_value.specs.declared.op.Op.{Op}
 use Rattle.swf_value.specs.declared.op.Op.TheVariants as ops
+pub use Rattle.swf_jq_tokens.specs.Lexer.{Tokens}
 use Rattle.swf_jq_parse.specs.Member.{key_lit}
 use Rattle.swf_jq_parse.specs.Operand.{named}
 use Rattle.swf_jq_parse.specs.Rows.{tree_last, pair_last}
 use Rattle.swf_jq_parse.specs.TextPart.{plus_piece, plus_text, first_text}
-use Rattle.swf_jq_parse.specs.declared.token.Keyword.{Keyword}
-use Rattle.swf_jq_parse.specs.declared.token.Keyword.TheVariants as keyword
-use Rattle.swf_jq_parse.specs.declared.token.Sign.TheVariants as sign
-use Rattle.swf_jq_parse.specs.declared.token.Token.{Token}
-use Rattle.swf_jq_parse.specs.declared.token.Token.TheVariants as token
-
-abbrev pub Tokens : Type 0
-Tokens = List Token
+use Rattle.swf_jq_tokens.specs.declared.token.Keyword.{Keyword}
+use Rattle.swf_jq_tokens.specs.declared.token.Keyword.TheVariants as keyword
+use Rattle.swf_jq_tokens.specs.declared.token.Sign.TheVariants as sign
+use Rattle.swf_jq_tokens.specs.declared.token.Token.{Token}
+use Rattle.swf_jq_tokens.specs.declared.token.Token.TheVariants as token
 
 -- "==" | "!=" | "<" | "<=" | ">" | ">="
 pub data Compares : Op → Type 0 where

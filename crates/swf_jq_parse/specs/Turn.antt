@@ -1,10 +1,10 @@
 -- Reading one token or blank further.
 use Rattle.std.specs.Prelude.{◌+◌, ℕ, List, ◌∷◌, Result, Ok, Err, if◌then◌else◌}
-use Rattle.swf_jq_parse.specs.Gives.{◌>>=◌}
-use Rattle.swf_jq_parse.specs.Lexer.{Lexeme, Behind, Nested, next, is_blank}
+use Rattle.swf_jq_tokens.specs.Gives.{◌>>=◌}
+use Rattle.swf_jq_tokens.specs.Lexer.{Lexeme, Behind, Nested, next, is_blank}
 use Rattle.swf_jq_parse.specs.Machine.{step, called_alone}
-use Rattle.swf_jq_parse.specs.Nest.{Nest}
-use Rattle.swf_jq_parse.specs.declared.fault.ParseFault.{ParseFault}
+use Rattle.swf_jq_tokens.specs.Nest.{Nest}
+use Rattle.swf_jq_tokens.specs.declared.fault.ParseFault.{ParseFault}
 use Rattle.swf_jq_parse.specs.declared.mode.Mode.{Mode}
 use Rattle.swf_jq_parse.specs.declared.stack.Item.{Item}
 
