@@ -1,5 +1,5 @@
 -- The tokens of an expression's text are an expression of the grammar.
-use Rattle.std.proofs.Common.{◌≡◌, ◌∙◌, pos, negsuc, [], ◌∷◌, ◌++◌, true, false, refl, ap, sym, Some, subst, append-nil, append_assoc, if◌then◌else◌}
+use Rattle.std.proofs.Common.{◌≡◌, ◌∙◌, pos, negsuc, [], ◌∷◌, ◌++◌, true, false, refl, ap, sym, Some, subst, append-nil, append_assoc}
 use lib.Utf8.{encode}
 use Rattle.swf_value.specs.Builtin.{arity, builtin_name, builtin_of}
 use Rattle.swf_value.specs.Expr.{Tree, Trees, no_trees, tree, count, Pairs, no_pairs, pair, here, lit, var, index, iterate, maybe, pipe, both, alt, or, and, binary, neg, empty_list, list_of, object_of, if_then, if_else, bind, apply, is_literal}

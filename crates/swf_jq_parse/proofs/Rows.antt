@@ -1,5 +1,5 @@
 -- Rows that grow at their end.
-use Rattle.std.proofs.Common.{◌≡◌, ◌∙◌, ◌==◌, Bool, true, false, chars, List, [], ◌∷◌, ◌++◌, ℕ, length, refl, ap, sym, suc, arith, Option, Some, None}
+use Rattle.std.proofs.Common.{◌≡◌, ◌∙◌, ◌==◌, Bool, true, false, chars, List, [], ◌∷◌, ◌++◌, ℕ, length, refl, ap, sym, suc, arith, Some, None}
 use Rattle.std.specs.Str.{encode_utf8_all}
 use Rattle.std.proofs.lemmas.Bool.{eqb-true}
 use Rattle.std.proofs.lemmas.Str.{chars-nil}

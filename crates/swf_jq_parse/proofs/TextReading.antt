@@ -1,5 +1,5 @@
 -- The lexer on an expression's text gives its tokens.
-use Rattle.std.proofs.Common.{◌≡◌, ◌∙◌, ◌==◌, ◌||◌, ◌+◌, ◌-◌, ◌≤◌, ◌<◌, ◌^◌, ◌≤ℤ◌, max, ℕ, suc, pos, negsuc, not, List, [], ◌∷◌, ◌++◌, map, length, codes, Bool, true, false, refl, ap, sym, Option, Some, None, subst, arith, append-nil, append_assoc, if◌then◌else◌}
+use Rattle.std.proofs.Common.{◌≡◌, ◌∙◌, ◌==◌, ◌||◌, ◌+◌, ◌≤◌, ◌<◌, ◌^◌, ◌≤ℤ◌, max, ℕ, suc, pos, negsuc, not, List, [], ◌∷◌, ◌++◌, map, length, codes, Bool, true, false, refl, ap, sym, Option, Some, None, subst, arith, append-nil, append_assoc}
 use Rattle.std.proofs.lemmas.Int.{ints}
 use Rattle.std.specs.List.{list_all, list_any}
 use Rattle.std.specs.Cmp.Lexicographic.{pointwise}

@@ -7,10 +7,10 @@ use Rattle.std.proofs.lemmas.Bool.{lt-ltb, le-ltb}
 use Rattle.std.proofs.lemmas.Str.{encodes-chars, length-le-encodes}
 use Rattle.swf_value.specs.Expr.{Tree}
 use Rattle.swf_jq_tokens.specs.Gives.{◌>>=◌, Fails, Gives}
-use Rattle.swf_jq_tokens.specs.Lexer.{Lexeme, Behind, Lexed, Nested, lexed_behind, lexed_of, lex_within, lex, next, is_blank}
+use Rattle.swf_jq_tokens.specs.Lexer.{Lexeme, Behind, Nested, lexed_behind, lexed_of, lex_within, lex, next, is_blank}
 use Rattle.swf_jq_parse.specs.Machine.{run, step, finish, called_alone}
 use Rattle.swf_jq_tokens.specs.Nest.{Nest}
-use Rattle.swf_jq_parse.specs.Parse.{tokens_of, end_of, read_of, parse_of}
+use Rattle.swf_jq_parse.specs.Parse.{read_of, parse_of}
 use Rattle.swf_jq_parse.specs.Turn.{Reading, reading, stepped_behind, stepped, token_read, turned}
 use Rattle.swf_jq_tokens.specs.declared.fault.ParseFault.{ParseFault}
 use Rattle.swf_jq_tokens.specs.declared.fault.ParseFault.TheVariants as fault

@@ -13,7 +13,6 @@ use Rattle.swf_jq_parse.specs.TextPart.{plus_piece, plus_text, first_text}
 use Rattle.swf_jq_tokens.specs.declared.token.Keyword.{Keyword}
 use Rattle.swf_jq_tokens.specs.declared.token.Keyword.TheVariants as keyword
 use Rattle.swf_jq_tokens.specs.declared.token.Sign.TheVariants as sign
-use Rattle.swf_jq_tokens.specs.declared.token.Token.{Token}
 use Rattle.swf_jq_tokens.specs.declared.token.Token.TheVariants as token
 
 -- "==" | "!=" | "<" | "<=" | ">" | ">="

@@ -1,5 +1,5 @@
 -- Joining operands by what stands between them, the innermost first.
-use Rattle.std.specs.Prelude.{◌==◌, ◌&&◌, ℕ, Bool, true, false, nat_le, List, [], ◌∷◌, Result, Ok, Err, Option, Some, None, if◌then◌else◌}
+use Rattle.std.specs.Prelude.{◌==◌, ◌&&◌, ℕ, Bool, true, false, nat_le, List, [], ◌∷◌, Result, Ok, Err, if◌then◌else◌}
 use Rattle.swf_value.specs.Expr.{Tree, pipe, both, alt, or, and, binary, neg, bind, if_else}
 use Rattle.swf_value.specs.declared.op.Op.{Op}
 use Rattle.swf_value.specs.declared.op.Op.TheVariants as ops

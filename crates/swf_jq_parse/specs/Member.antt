@@ -1,5 +1,5 @@
 -- The members of an object (jq 1.7 manual, «Object Construction»).
-use Rattle.std.specs.Prelude.{ℕ, Bool, true, false, List, [], ◌∷◌, Result, Ok, Err, if◌then◌else◌}
+use Rattle.std.specs.Prelude.{ℕ, Bool, true, false, List, ◌∷◌, Result, Ok, Err, if◌then◌else◌}
 use Rattle.swf_value.specs.Expr.{Tree, Pairs, here, lit, var, index, object_of}
 use Rattle.swf_value.specs.Value.{text}
 use Rattle.swf_jq_tokens.specs.Gives.{◌>>=◌}

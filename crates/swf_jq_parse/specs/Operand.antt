@@ -1,5 +1,5 @@
 -- What may stand where an operand is wanted.
-use Rattle.std.specs.Prelude.{◌+◌, ◌-◌, ◌^◌, min, ◌||◌, ℕ, Bool, true, false, pos, List, [], ◌∷◌, Result, Ok, Err, Option, Some, None, if◌then◌else◌}
+use Rattle.std.specs.Prelude.{◌+◌, ◌-◌, ◌^◌, min, ◌||◌, ℕ, Bool, true, false, pos, List, ◌∷◌, Result, Ok, Err, Option, if◌then◌else◌}
 use Rattle.std.specs.Str.{encode_utf8_all}
 use Rattle.std.specs.Option.{is_some}
 use Rattle.swf_value.specs.Builtin.{builtin_of}

@@ -1,5 +1,5 @@
 -- Reading one token or blank further.
-use Rattle.std.specs.Prelude.{◌+◌, ℕ, List, ◌∷◌, Result, Ok, Err, if◌then◌else◌}
+use Rattle.std.specs.Prelude.{◌+◌, ℕ, List, Result, Ok, Err, if◌then◌else◌}
 use Rattle.swf_jq_tokens.specs.Gives.{◌>>=◌}
 use Rattle.swf_jq_tokens.specs.Lexer.{Lexeme, Behind, Nested, next, is_blank}
 use Rattle.swf_jq_parse.specs.Machine.{step, called_alone}

@@ -12,8 +12,8 @@ use crate::mode::Mode;
 use crate::operand::{index_start, list_start, want};
 use crate::stack::{Arguments, Item, Pending, Stack};
 use crate::suffix::{dotted, have, suffix};
-use swf_jq_tokens::{Sign, Token};
 use std::alloc::Global;
+use swf_jq_tokens::{Sign, Token};
 use swf_value::{Expr, Name};
 
 /// What may stand after a token.

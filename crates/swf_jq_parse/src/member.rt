@@ -8,8 +8,8 @@ use crate::mode::Mode;
 use crate::operand::text_expr;
 use crate::stack::{Item, Members, Purpose, Stack};
 use crate::text_part::open_text;
-use swf_jq_tokens::{Keyword, Sign, Token};
 use std::alloc::{AllocError, Global};
+use swf_jq_tokens::{Keyword, Sign, Token};
 use swf_value::{Expr, Name, Text};
 
 /// The key that a keyword is.

@@ -9,8 +9,8 @@ use crate::fault::{ParseFault, refuse};
 use crate::mode::Mode;
 use crate::stack::{Item, Members, Pending, Purpose, Stack};
 use crate::text_part::open_text;
-use swf_jq_tokens::{Keyword, Sign, Token};
 use std::alloc::{AllocError, Global};
+use swf_jq_tokens::{Keyword, Sign, Token};
 use swf_value::{Builtin, Expr, Json, Name, Op, Text};
 
 /// An operand, or its beginning.

@@ -10,13 +10,11 @@ ghost use Rattle.swf_jq_tokens.specs.declared.fault.ParseFault.TheVariants.{OutO
 ghost use Rattle.swf_jq_parse.specs.declared.mode.Mode.TheVariants as mode;
 
 use crate::fault::{ParseFault, discard};
-use swf_jq_tokens::Lexeme;
-use swf_jq_tokens::{is_blank, read_token};
 use crate::machine::{check_called, finish, step};
 use crate::mode::Mode;
-use swf_jq_tokens::Nest;
 use crate::stack::Stack;
 use std::alloc::{AllocError, Global};
+use swf_jq_tokens::{Lexeme, Nest, is_blank, read_token};
 use swf_value::Expr;
 
 /// How many bytes an expression may have.

@@ -12,8 +12,8 @@ use crate::mode::Mode;
 use crate::operand::{field, text_expr};
 use crate::stack::{Joint, Purpose, Stack};
 use crate::text_part::{close_text, open_text, resume_text};
-use swf_jq_tokens::{Keyword, Sign, Token};
 use std::alloc::Global;
+use swf_jq_tokens::{Keyword, Sign, Token};
 use swf_value::Expr;
 
 /// Whatever may follow an operand.

@@ -1,5 +1,5 @@
 -- The lexer on a text between its quotation marks.
-use Rattle.std.proofs.Common.{◌≡◌, ◌∙◌, ◌==◌, ◌+◌, ◌-◌, ◌*◌, ◌/◌, ◌%◌, ◌≤◌, ◌<◌, ℕ, zero, suc, List, [], ◌∷◌, ◌++◌, length, flat_map, Bool, true, false, cond, ◌&&◌, refl, ap, ap₂, sym, nat_lt, Some, None, option_and_then, Ok, subst, arith, inl, inr, append_assoc, eqb-true, ne_eqb, lt-ltb, le-ltb, length-append, encode_utf8, if◌then◌else◌}
+use Rattle.std.proofs.Common.{◌≡◌, ◌∙◌, ◌==◌, ◌+◌, ◌*◌, ◌/◌, ◌%◌, ◌≤◌, ◌<◌, ℕ, zero, suc, List, [], ◌∷◌, ◌++◌, length, flat_map, Bool, true, false, cond, ◌&&◌, refl, ap, ap₂, sym, nat_lt, Some, None, option_and_then, Ok, subst, arith, inl, inr, append_assoc, eqb-true, ne_eqb, lt-ltb, le-ltb, length-append, encode_utf8, if◌then◌else◌}
 use Rattle.std.proofs.lemmas.Bool.{cases_Bool, cases_lt}
 use Rattle.std.proofs.lemmas.Bool.Decides.{nat_tests}
 use Rattle.std.proofs.lemmas.Str.{digit_value-digit_char, encode_ascii}

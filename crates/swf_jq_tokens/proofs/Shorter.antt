@@ -2,7 +2,7 @@
 use Rattle.std.proofs.Common.{◌≡◌, refl, subst, ℕ, zero, suc, ◌+◌, ◌^◌, ◌≤◌, List, [], ◌∷◌, ◌==◌, ◌&&◌, not, nat_lt, length, Bool, true, false, Option, Some, None, Result, Ok, Err, option_and_then, if◌then◌else◌, arith}
 use Rattle.swf_value.specs.Name.{starts_name}
 use Rattle.swf_jq_tokens.specs.Gives.{◌>>=◌}
-use Rattle.swf_jq_tokens.specs.Lexer.{Lexeme, lexeme, word_token, dot, unless_keyword, variable, decimal_from, whole_number, goes_on, digits, number, single_sign, double_sign, single, double_or, other_sign, Nested, Behind, inside, opened, ended, text_begun, text, text_continued, text_resumed, text_on, paren_of, paren, unnested, next}
+use Rattle.swf_jq_tokens.specs.Lexer.{Lexeme, lexeme, word_token, dot, unless_keyword, variable, decimal_from, whole_number, goes_on, digits, number, single_sign, double_sign, single, double_or, other_sign, Nested, Behind, opened, ended, text_begun, text, text_resumed, text_on, paren_of, paren, unnested, next}
 use Rattle.swf_jq_tokens.specs.Nest.{Nest, text_inside}
 use Rattle.swf_jq_tokens.specs.Nest as nest
 use Rattle.swf_jq_tokens.specs.Piece.{Piece, seen, Spelled, Closed, closed, letter, grown, ended_or, piece_end, piece_within, piece, piece_or_fault}

@@ -1,5 +1,5 @@
 -- The pieces of a text (RFC 8259, section 7; jq 1.7 manual, «String interpolation»).
-use Rattle.std.specs.Prelude.{◌+◌, ◌-◌, ◌*◌, ◌==◌, ◌&&◌, ℕ, zero, suc, Bool, true, false, List, [], ◌∷◌, Option, Some, None, Result, Ok, Err, option_and_then, nat_lt, nat_le, length, if◌then◌else◌}
+use Rattle.std.specs.Prelude.{◌+◌, ◌==◌, ◌&&◌, ℕ, zero, suc, Bool, true, false, List, [], ◌∷◌, Option, Some, None, Result, Ok, Err, option_and_then, nat_lt, length, if◌then◌else◌}
 use Rattle.std.specs.Char.{len_utf8}
 use Rattle.json.specs.Text.{code_unit, short_escape, is_high_surrogate, is_low_surrogate, surrogate_pair}
 use Rattle.swf_jq_tokens.specs.declared.fault.ParseFault.{ParseFault}

@@ -1,5 +1,4 @@
 use Rattle.std.proofs.Common.{◌≡◌, ◌∙◌, ◌≤◌, ap, chars, length, Err, arith}
-use Rattle.swf_value.specs.Expr.{Tree}
 use Rattle.swf_jq_tokens.specs.Gives.{Gives}
 use Rattle.swf_jq_parse.specs.Parse.{parse_of}
 use Rattle.swf_jq_tokens.specs.declared.fault.ParseFault.TheVariants as fault
