@@ -12,7 +12,7 @@ pub enum ParseFault {
     /// The text has more than 4,096 bytes.
     #[error("too long")]
     TooLong,
-    /// Brackets nest deeper than 64.
+    /// A bracket stands inside 64 others: `(`, `[`, `{`, or the `\(` of a text.
     #[error("too deep at {at}")]
     TooDeep { at: usize },
     /// A number has a fraction or an exponent, or is out of range.
@@ -21,7 +21,8 @@ pub enum ParseFault {
     /// No built-in has this name and number of arguments.
     #[error("unknown name at {at}")]
     UnknownName { at: usize },
-    /// What stands here cannot stand here.
+    /// What stands here cannot stand here. A text with a wrong character or escape of its own stands at its
+    /// first byte.
     #[error("syntax error at {at}")]
     Syntax { at: usize },
     /// An allocation failed.
