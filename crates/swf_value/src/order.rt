@@ -5,7 +5,6 @@ ghost use Rattle.std.specs.Cmp.Lexicographic.{slice_cmp};
 ghost use Rattle.swf_value.specs.Node.{node_value, items_of, members_of};
 ghost use Rattle.swf_value.specs.Order.{rank, value_cmp, items_cmp, members_cmp, names_cmp, OrderLaws};
 
-use crate::text::Text;
 use crate::value::{Json, JsonNode, Member};
 use std::cmp::Ordering;
 
@@ -25,7 +24,7 @@ fn compare_nodes(a: &JsonNode, b: &JsonNode) -> Ordering
 {
     match (a, b) {
         (JsonNode::Int(x), JsonNode::Int(y)) => x.cmp(y),
-        (JsonNode::Text(x), JsonNode::Text(y)) => compare_texts(x, y),
+        (JsonNode::Text(x), JsonNode::Text(y)) => x.cmp(y),
         (JsonNode::List(x), JsonNode::List(y)) => compare_items(x.as_slice(), y.as_slice()),
         (JsonNode::Object(x), JsonNode::Object(y)) => match compare_names(
             x.as_slice(),
@@ -53,13 +52,6 @@ fn rank_of(node: &JsonNode) -> u8
 }
 
 /// The order of two texts, by their characters.
-fn compare_texts(a: &Text, b: &Text) -> Ordering
-    ensures { result ≡ slice_cmp nat_cmp a.now b.now }
-{
-    compare_strs(a.as_str(), b.as_str())
-}
-
-/// The order of two texts as `std` has them, by their characters.
 pub(crate) fn compare_strs(a: &str, b: &str) -> Ordering
     ensures { result ≡ slice_cmp nat_cmp (chars a.now) (chars b.now) }
 {
@@ -95,7 +87,7 @@ fn compare_names(a: &[Member], b: &[Member]) -> Ordering
         if i >= b.len() {
             return Ordering::Greater;
         }
-        match compare_texts(&x.name, &b[i].name) {
+        match x.name.cmp(&b[i].name) {
             Ordering::Equal => {}
             other => return other,
         }

@@ -1,8 +1,14 @@
 // Text that several values share, seen as its list of characters.
-ghost use Rattle.std.specs.Prelude.{◌≡◌, ◌==◌, ◌↔◌, true, chars, string_bytes, IfOk, IsTrue};
+ghost use Rattle.std.specs.Prelude.{◌≡◌, ◌==◌, ◌↔◌, true, chars, string_bytes, IfOk, IsTrue, Some, refl, bytes_eq};
+ghost use Rattle.std.specs.Ordering.{nat_cmp};
+ghost use Rattle.std.specs.Cmp.{partial_equiv_from_equiv};
+ghost use Rattle.std.specs.Cmp.Lexicographic.{slice_cmp, nat_list_eq_equiv, nat_list_cmp_total, texts_ties, texts_po};
 ghost use Rattle.std.specs.Str.{encode_utf8_all, all_scalars};
 
+use crate::order::compare_strs;
+use crate::same::same_texts;
 use std::alloc::{AllocError, Global};
+use std::cmp::Ordering;
 use std::marker::Model;
 use std::sync::Arc;
 
@@ -59,5 +65,44 @@ impl Text {
         ensures { IsTrue result ↔ (self.now ≡ chars other.now) }
     {
         self.text.as_str() == other
+    }
+}
+
+impl PartialEq for Text {
+    ghost eq = { λ a b. bytes_eq a b };
+
+    ghost laws = { partial_equiv_from_equiv nat_list_eq_equiv };
+
+    fn eq(&self, other: &Text) -> bool {
+        same_texts(self, other)
+    }
+}
+
+impl Eq for Text {
+    ghost laws = { nat_list_eq_equiv };
+}
+
+impl PartialOrd for Text {
+    ghost partial_cmp = { λ a b. Some (slice_cmp nat_cmp a b) };
+
+    ghost laws = { texts_po };
+
+    fn partial_cmp(&self, other: &Text) -> Option<Ordering> {
+        Some(self.cmp(other))
+    }
+}
+
+/// By characters, which is the order of the bytes of their UTF-8.
+impl Ord for Text {
+    ghost cmp = { λ a b. slice_cmp nat_cmp a b };
+
+    ghost total = { nat_list_cmp_total };
+
+    ghost matches_partial_cmp = { λ a b. refl };
+
+    ghost matches_eq = { λ a b. texts_ties a b };
+
+    fn cmp(&self, other: &Text) -> Ordering {
+        compare_strs(self.as_str(), other.as_str())
     }
 }
