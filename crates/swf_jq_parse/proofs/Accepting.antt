@@ -1,12 +1,12 @@
 -- What the tokens that are still to come make of what is open, whatever their places.
-use Rattle.std.proofs.Common.{◌≡◌, ◌∙◌, ℕ, List, [], ◌∷◌, ◌++◌, Bool, true, false, refl, ap, sym, nat_le, Some, Ok, Err, subst, append_assoc, arith, inl, inr}
-use Rattle.std.specs.Prelude.{if◌then◌else◌}
+use Rattle.std.proofs.Common.{◌≡◌, ◌∙◌, ℕ, List, [], ◌∷◌, ◌++◌, true, false, refl, ap, sym, nat_le, Some, Ok, Err, subst, append_assoc, arith, inl, inr}
 use Rattle.std.proofs.lemmas.Bool.{cases_Bool}
 use Rattle.std.proofs.lemmas.Bool.Decides.{nat_tests}
 use Rattle.swf_value.specs.Expr.{Tree, Pairs, here, index, no_trees, apply}
 use Rattle.swf_value.specs.declared.builtin.Builtin.{Builtin}
+pub use Rattle.swf_jq_tokens.proofs.Choices.{chosen, other}
 use Rattle.swf_jq_parse.specs.Closing.{applied, applied_to}
-use Rattle.swf_jq_parse.specs.Gives.{◌>>=◌}
+use Rattle.swf_jq_tokens.specs.Gives.{◌>>=◌}
 use Rattle.swf_jq_parse.specs.Grammar.{Tokens}
 use Rattle.swf_jq_parse.specs.GrammarLaws.{tokens}
 use Rattle.swf_jq_parse.specs.Joining.{Step, reduce, top_level, joined, level}
@@ -21,9 +21,9 @@ use Rattle.swf_jq_parse.specs.declared.mode.Mode.TheVariants as mode
 use Rattle.swf_jq_parse.specs.declared.stack.Item.{Item}
 use Rattle.swf_jq_parse.specs.declared.stack.Item.TheVariants as items
 use Rattle.swf_jq_parse.specs.declared.stack.Pending.{Pending}
-use Rattle.swf_jq_parse.specs.declared.token.Sign.TheVariants as sign
-use Rattle.swf_jq_parse.specs.declared.token.Token.{Token}
-use Rattle.swf_jq_parse.specs.declared.token.Token.TheVariants as token
+use Rattle.swf_jq_tokens.specs.declared.token.Sign.TheVariants as sign
+use Rattle.swf_jq_tokens.specs.declared.token.Token.{Token}
+use Rattle.swf_jq_tokens.specs.declared.token.Token.TheVariants as token
 
 -- this holds of what a step leaves, which is no fault
 abbrev pub After : (List Item → Mode → Type 0) → Step → Type 0
@@ -64,14 +64,6 @@ le_up i j k h g = grind (arith, nat_tests)
 
 pub same_down : (j k : ℕ) (s' : List Item) (t : Tree) (s : List Item) (a : Tree) → nat_le j k ≡ true → Same k s' t s a → Same j s' t s a
 same_down j k s' t s a h same = λ i g. same i (le_up i j k g h)
-
-pub chosen : {T : Type 0} (b : Bool) (x y : T) → b ≡ true → (if b then x else y) ≡ x
-chosen true x y e = refl
-chosen false x y e = cc e
-
-pub other : {T : Type 0} (b : Bool) (x y : T) → b ≡ false → (if b then x else y) ≡ y
-other false x y e = refl
-other true x y e = cc e
 
 -- an operand that is joined with what waits for it
 pub same_joined : (s' : List Item) (t : Tree) (p : Pending) (s : List Item) (b : Tree) → Same (level p) s' t (items.Pending p ∷ s) b → Same (level p) s' t s (joined p b)

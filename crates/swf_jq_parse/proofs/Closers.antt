@@ -17,10 +17,10 @@ use Rattle.swf_jq_parse.specs.declared.stack.Item.TheVariants as items
 use Rattle.swf_jq_parse.specs.declared.stack.Pending.TheVariants as pending
 use Rattle.swf_jq_parse.specs.declared.stack.Purpose.{Purpose}
 use Rattle.swf_jq_parse.specs.declared.stack.Purpose.TheVariants as purpose
-use Rattle.swf_jq_parse.specs.declared.token.Keyword.TheVariants as keyword
-use Rattle.swf_jq_parse.specs.declared.token.Sign.TheVariants as sign
-use Rattle.swf_jq_parse.specs.declared.token.Token.{Token}
-use Rattle.swf_jq_parse.specs.declared.token.Token.TheVariants as token
+use Rattle.swf_jq_tokens.specs.declared.token.Keyword.TheVariants as keyword
+use Rattle.swf_jq_tokens.specs.declared.token.Sign.TheVariants as sign
+use Rattle.swf_jq_tokens.specs.declared.token.Token.{Token}
+use Rattle.swf_jq_tokens.specs.declared.token.Token.TheVariants as token
 use Rattle.swf_jq_parse.proofs.Spelling.{Ready, Parts, Nothing, Object, Keyed, Ended, called_with, Spelt, Spells, Placed, PlaceOf, Told, tokens-append, grown, laid, popped, shut}
 use Rattle.swf_jq_parse.proofs.Joined.{Whole, skip_spells}
 use Rattle.swf_jq_parse.proofs.Reading.{Reads, Keeps, snoc_inner}

@@ -8,7 +8,7 @@ use Rattle.swf_jq_parse.specs.Joining.{reduce, may_bind}
 use Rattle.swf_jq_parse.specs.Machine.{finish, whole, whole_at}
 use Rattle.swf_jq_parse.specs.declared.mode.Mode.TheVariants as mode
 use Rattle.swf_jq_parse.proofs.Accepting.{Accepts, accepts-run}
-use Rattle.swf_jq_parse.proofs.Operators.{Levels, Operands, Commas, Pipes, Values, lowered, alt_reads, or_reads, and_reads, cmp_reads, sum_reads, prod_reads, minus_reads, post_reads, comma_one, comma_reads, pipe_one, bar_reads, bind_reads, value_one, value_reads}
+use Rattle.swf_jq_parse.proofs.Operators.{Levels, Operands, Commas, Pipes, Values, lowered, compares_level, adds_level, multiplies_level, alt_reads, or_reads, and_reads, cmp_reads, sum_reads, prod_reads, minus_reads, post_reads, comma_one, comma_reads, pipe_one, bar_reads, bind_reads, value_one, value_reads}
 use Rattle.swf_jq_parse.proofs.Terms.{field_reads, maybe_reads, iterate_reads, dot_iterate_reads, index_reads, dot_index_reads, Texts, PiecesRead, whole_text_reads, pieces_read, first_piece_reads, next_piece_reads, text_reads, dot_text_reads, suffix_text_reads, here_reads, term_field_reads, number_reads, var_reads, null_reads, true_reads, false_reads, paren_reads, empty_list_reads, list_reads, name_reads, ArgumentsRead, first_argument_reads, next_argument_reads, call_reads, BranchesRead, end_reads, elif_reads, else_reads, if_reads, MemberReads, MembersRead, KeyReads, valued_reads, name_member_reads, text_member_reads, var_member_reads, name_key_reads, keyword_key_reads, text_key_reads, pipe_key_reads, next_member_reads, empty_object_reads, object_reads}
 
 -- ---- every production
@@ -37,15 +37,15 @@ mutual
 
   cmps : {ts : Tokens} {a : Tree} → Cmp ts a → Levels 5 5 ts a
   cmps (Grammar.cmp_one ts a c) = lowered 6 6 5 5 ts a refl refl (sums c)
-  cmps (Grammar.cmp_two ts us a b o h c d) = cmp_reads ts us a b o h (sums c) (sums d)
+  cmps (Grammar.cmp_two ts us a b o h c d) = cmp_reads ts us a b o (compares_level o h) (sums c) (sums d)
 
   sums : {ts : Tokens} {a : Tree} → Sum ts a → Levels 6 6 ts a
   sums (Grammar.sum_one ts a c) = lowered 7 7 6 6 ts a refl refl (prods c)
-  sums (Grammar.sum_more ts us a b o h c d) = sum_reads ts us a b o h (sums c) (prods d)
+  sums (Grammar.sum_more ts us a b o h c d) = sum_reads ts us a b o (adds_level o h) (sums c) (prods d)
 
   prods : {ts : Tokens} {a : Tree} → Prod ts a → Levels 7 7 ts a
   prods (Grammar.prod_one ts a c) = lowered 9 8 7 7 ts a refl refl (unaries c)
-  prods (Grammar.prod_more ts us a b o h c d) = prod_reads ts us a b o h (prods c) (unaries d)
+  prods (Grammar.prod_more ts us a b o h c d) = prod_reads ts us a b o (multiplies_level o h) (prods c) (unaries d)
 
   unaries : {ts : Tokens} {a : Tree} → Unary ts a → Levels 9 8 ts a
   unaries (Grammar.unary_minus ts a c) = minus_reads ts a (unaries c)

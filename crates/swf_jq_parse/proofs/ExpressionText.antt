@@ -1,20 +1,20 @@
 -- What is read is a text of the grammar, and each text of the grammar is read.
-use Rattle.std.proofs.Common.{◌≡◌, ◌∙◌, ◌≤◌, ◌<◌, inl, inr, ℕ, List, [], ◌∷◌, Bool, true, false, refl, ap, sym, length, nat_lt, Result, Ok, Err, IfOk, IfErr, subst, le-ltb, ltb-false, if◌then◌else◌}
+use Rattle.std.proofs.Common.{◌≡◌, ◌∙◌, inl, inr, ℕ, List, [], ◌∷◌, Bool, true, false, refl, ap, sym, length, nat_lt, Result, Ok, Err, IfOk, IfErr, le-ltb, ltb-false, if◌then◌else◌}
 use Rattle.std.specs.Str.{encode_utf8_all}
 use Rattle.swf_value.specs.Expr.{Tree}
 use Rattle.swf_jq_parse.specs.ExpressionText.{IsTextOf, IsRefused}
-use Rattle.swf_jq_parse.specs.Gives.{Gives, Fails, ◌>>=◌}
+use Rattle.swf_jq_tokens.specs.Gives.{Gives, Fails, ◌>>=◌}
 use Rattle.swf_jq_parse.specs.Grammar.{Pipe}
 use Rattle.swf_jq_parse.specs.GrammarLaws.{tokens}
-use Rattle.swf_jq_parse.specs.Lexer.{Lexed, lex}
+use Rattle.swf_jq_tokens.specs.Lexer.{Lexed, lex}
 use Rattle.swf_jq_parse.specs.Machine.{End, run, ends_at, fails_by, step, called_alone}
 use Rattle.swf_jq_parse.specs.Parse.{tokens_of, end_of, read_of, parse_of}
-use Rattle.swf_jq_parse.specs.declared.fault.ParseFault.{ParseFault}
-use Rattle.swf_jq_parse.specs.declared.fault.ParseFault.TheVariants as fault
+use Rattle.swf_jq_tokens.specs.declared.fault.ParseFault.{ParseFault}
+use Rattle.swf_jq_tokens.specs.declared.fault.ParseFault.TheVariants as fault
 use Rattle.swf_jq_parse.specs.declared.mode.Mode.{Mode}
 use Rattle.swf_jq_parse.specs.declared.mode.Mode.TheVariants as mode
 use Rattle.swf_jq_parse.specs.declared.stack.Item.{Item}
-use Rattle.swf_jq_parse.specs.declared.token.Token.{Token}
+use Rattle.swf_jq_tokens.specs.declared.token.Token.{Token}
 use Rattle.swf_jq_parse.proofs.Accepting.{other}
 use Rattle.swf_jq_parse.proofs.Complete.{complete}
 use Rattle.swf_jq_parse.proofs.Sound.{sound}

@@ -6,7 +6,7 @@ use Rattle.swf_value.specs.Expr.{Tree, Trees, no_trees, count, Pairs, here, inde
 use Rattle.swf_value.specs.declared.builtin.Builtin.{Builtin}
 use Rattle.swf_value.specs.declared.op.Op.TheVariants as ops
 use Rattle.swf_jq_parse.specs.Closing.{applied, applied_to, paren_closed, paren_at, bracket_closed, bracket_at, brace_closed, brace_at, next_argument, argument_at, then_next, then_at, elif_next, elif_at, else_next, else_at, if_ended, end_at}
-use Rattle.swf_jq_parse.specs.Gives.{◌>>=◌}
+use Rattle.swf_jq_tokens.specs.Gives.{◌>>=◌}
 use Rattle.swf_jq_parse.specs.Grammar.{Tokens, Pipe, Post, ArgumentsOf}
 use Rattle.swf_jq_parse.specs.GrammarLaws.{tokens, UnknownCalled, FaultAt, FaultAtEnd, FaultAfter}
 use Rattle.swf_jq_parse.specs.Joining.{Step, top_level, reduce, is_comparison, least, infix_at, item_in_value, in_value, pipe_next, value_ended, value_end, comma_next, may_bind, bind_next}
@@ -22,16 +22,16 @@ use Rattle.swf_jq_parse.specs.declared.stack.Item.{Item}
 use Rattle.swf_jq_parse.specs.declared.stack.Item.TheVariants as items
 use Rattle.swf_jq_parse.specs.declared.stack.Joint.{Joint}
 use Rattle.swf_jq_parse.specs.declared.stack.Joint.TheVariants as joint
-use Rattle.swf_jq_parse.specs.declared.token.Keyword.{Keyword}
-use Rattle.swf_jq_parse.specs.declared.token.Keyword.TheVariants as keyword
-use Rattle.swf_jq_parse.specs.declared.token.Sign.TheVariants as sign
-use Rattle.swf_jq_parse.specs.declared.token.Sign.{Sign}
-use Rattle.swf_jq_parse.specs.declared.fault.ParseFault.{ParseFault}
-use Rattle.swf_jq_parse.specs.declared.token.Token.{Token}
-use Rattle.swf_jq_parse.specs.declared.token.Token.TheVariants as token
+use Rattle.swf_jq_tokens.specs.declared.token.Keyword.{Keyword}
+use Rattle.swf_jq_tokens.specs.declared.token.Keyword.TheVariants as keyword
+use Rattle.swf_jq_tokens.specs.declared.token.Sign.TheVariants as sign
+use Rattle.swf_jq_tokens.specs.declared.token.Sign.{Sign}
+use Rattle.swf_jq_tokens.specs.declared.fault.ParseFault.{ParseFault}
+use Rattle.swf_jq_tokens.specs.declared.token.Token.{Token}
+use Rattle.swf_jq_tokens.specs.declared.token.Token.TheVariants as token
 use Rattle.swf_jq_parse.proofs.Spelling.{Ready, called_with, Spells, Placed, Told, tokens-append}
 use Rattle.swf_jq_parse.proofs.Joined.{Whole, close_keeps}
-use Rattle.swf_jq_parse.specs.declared.fault.ParseFault.TheVariants as fault
+use Rattle.swf_jq_tokens.specs.declared.fault.ParseFault.TheVariants as fault
 use Rattle.swf_jq_parse.proofs.Accepting.{chosen, other}
 use Rattle.swf_jq_parse.proofs.Names.{named_few, few_cases}
 use Rattle.swf_jq_parse.proofs.Reading.{Reads}

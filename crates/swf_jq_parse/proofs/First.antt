@@ -1,6 +1,6 @@
 -- A fault is that of the first token with which no expression begins.
 use Rattle.std.proofs.Common.{◌≡◌, ◌∙◌, ℕ, List, [], ◌∷◌, ◌++◌, refl, ap, sym, Ok, Err, subst, inl, inr, append-nil, ◌⊎◌}
-use Rattle.swf_jq_parse.specs.Gives.{◌>>=◌}
+use Rattle.swf_jq_tokens.specs.Gives.{◌>>=◌}
 use Rattle.swf_jq_parse.specs.Grammar.{Tokens, Pipe}
 use Rattle.swf_jq_parse.specs.GrammarLaws.{tokens, GoesOn, Begins, FaultAfter, IsUnambiguous, IsFirst}
 use Rattle.swf_jq_parse.specs.Joining.{Step}
@@ -8,9 +8,9 @@ use Rattle.swf_jq_parse.specs.Machine.{run, step, End, ends_at, fails_by}
 use Rattle.swf_jq_parse.specs.declared.mode.Mode.{Mode}
 use Rattle.swf_jq_parse.specs.declared.mode.Mode.TheVariants as mode
 use Rattle.swf_jq_parse.specs.declared.stack.Item.{Item}
-use Rattle.swf_jq_parse.specs.declared.fault.ParseFault.{ParseFault}
-use Rattle.swf_jq_parse.specs.declared.token.Token.{Token}
-use Rattle.swf_jq_parse.specs.declared.token.Token.TheVariants as token
+use Rattle.swf_jq_tokens.specs.declared.fault.ParseFault.{ParseFault}
+use Rattle.swf_jq_tokens.specs.declared.token.Token.{Token}
+use Rattle.swf_jq_tokens.specs.declared.token.Token.TheVariants as token
 use Rattle.swf_jq_parse.proofs.Spelling.{Spells, Placed, tokens-append}
 use Rattle.swf_jq_parse.proofs.Accepting.{accepts-run, Accepts}
 use Rattle.swf_jq_parse.proofs.Complete.{complete}

@@ -23,9 +23,9 @@ use Rattle.swf_jq_parse.specs.declared.stack.Pending.{Pending}
 use Rattle.swf_jq_parse.specs.declared.stack.Pending.TheVariants as pending
 use Rattle.swf_jq_parse.specs.declared.stack.Purpose.{Purpose}
 use Rattle.swf_jq_parse.specs.declared.stack.Purpose.TheVariants as purpose
-use Rattle.swf_jq_parse.specs.declared.token.Keyword.TheVariants as keyword
-use Rattle.swf_jq_parse.specs.declared.token.Sign.TheVariants as sign
-use Rattle.swf_jq_parse.specs.declared.token.Token.TheVariants as token
+use Rattle.swf_jq_tokens.specs.declared.token.Keyword.TheVariants as keyword
+use Rattle.swf_jq_tokens.specs.declared.token.Sign.TheVariants as sign
+use Rattle.swf_jq_tokens.specs.declared.token.Token.TheVariants as token
 use Rattle.swf_jq_parse.proofs.Accepting.{Accepts, After, stepped, have_dotted, have_called, chosen, reduce_twice}
 use Rattle.swf_jq_parse.proofs.Spelling.{Placed, Spells, CalledBefore, tokens-append}
 use Rattle.swf_jq_parse.proofs.Names.{count-last, named_few}

@@ -1,12 +1,6 @@
 pub mod Rows
 pub mod Reducing
 pub mod Turns
-pub mod Characters
-pub mod Pieces
-pub mod Fronts
-pub mod Decimals
-pub mod Shorter
-pub mod TokenSteps
 pub mod Literals
 pub mod PrintingSteps
 pub mod Accepting
@@ -25,8 +19,5 @@ pub mod Faults
 pub mod First
 pub mod ExpressionText
 pub mod Printed
-pub mod Lexing
-pub mod LexingNumbers
-pub mod LexingTexts
 pub mod TextReading
 pub mod ReadBack

@@ -1,8 +1,8 @@
 -- A literal's text, in characters.
-use Rattle.std.proofs.Common.{◌≡◌, ◌∙◌, ap, ap₂, sym, refl, subst, ℕ, ◌+◌, ◌/◌, ◌%◌, ◌<◌, ◌==◌, List, [], ◌∷◌, ◌++◌, Bool, true, false, nat_lt, chars, codes, flat_map, IsUtf8, if◌then◌else◌, inl, inr, append_assoc, lt-ltb, le-ltb, arith}
+use Rattle.std.proofs.Common.{append-nil, ◌≡◌, ◌∙◌, ap, ap₂, sym, refl, subst, ℕ, ◌+◌, ◌/◌, ◌%◌, ◌<◌, ◌==◌, List, [], ◌∷◌, ◌++◌, Bool, true, false, nat_lt, chars, codes, flat_map, IsUtf8, if◌then◌else◌, inl, inr, append_assoc, lt-ltb, le-ltb, arith}
 use Rattle.std.proofs.lemmas.Bool.{cases_lt}
 use Rattle.std.proofs.lemmas.Fmt.{IsAscii-signed}
-use Rattle.std.proofs.lemmas.Str.{chars-append, chars-IsAscii, IsUtf8-from_ascii, IsUtf8-encode, encode_ascii}
+use Rattle.std.proofs.lemmas.Str.{chars-append, chars-IsAscii, chars-encodes, IsUtf8-from_ascii, IsUtf8-encode, encode_ascii}
 use Rattle.std.specs.Char.{encode_utf8, digit_char, IsScalar}
 use Rattle.std.specs.Str.{all_scalars}
 use Rattle.swf_value.specs.Expr.{is_literal}
@@ -13,7 +13,11 @@ use Rattle.swf_value.proofs.Data.{mag-in_range}
 use Rattle.swf_value.proofs.Escapes.{escaped_high}
 use Rattle.swf_value.proofs.SameLemmas.{all_ascii, both_true, chars_ascii}
 use Rattle.swf_jq_parse.specs.Print.{quoted_text, literal_text}
-use Rattle.swf_jq_parse.proofs.Characters.{chars-one}
+
+chars-one : (c : ℕ) → IsScalar c → chars (encode_utf8 c) ≡ c ∷ []
+chars-one c h =
+    let scalar : all_scalars (c ∷ []) ≡ true = rw h refl in
+    ap chars (sym (append-nil (encode_utf8 c))) ∙ chars-encodes (c ∷ []) scalar
 
 ascii_by : (b : Bool) (x y : List ℕ) → is_ascii x ≡ true → is_ascii y ≡ true → is_ascii (if b then x else y) ≡ true
 ascii_by true x y h k = h

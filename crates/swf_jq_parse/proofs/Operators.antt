@@ -5,7 +5,8 @@ use Rattle.std.specs.Prelude.{if◌then◌else◌}
 use Rattle.swf_value.specs.Expr.{Tree, pipe, both, alt, or, and, binary, neg, bind}
 use Rattle.swf_value.specs.declared.op.Op.{Op}
 use Rattle.swf_value.specs.declared.op.Op.TheVariants as ops
-use Rattle.swf_jq_parse.specs.Grammar.{Tokens}
+use Rattle.swf_jq_parse.specs.Grammar
+use Rattle.swf_jq_parse.specs.Grammar.{Tokens, Compares, Adds, Multiplies}
 use Rattle.swf_jq_parse.specs.Joining.{op_level, joint_level, joint_tree, joined, level, top_level, reduce, is_comparison, least, after_left, infix_at, after_comma, after_piped, pending_in_value, item_in_value, in_value, pipe_next, comma_next, pending_may_bind, item_may_bind, may_bind, bind_next, misplaced}
 use Rattle.swf_jq_parse.specs.Machine.{step, var_next, bar_next}
 use Rattle.swf_jq_parse.specs.Operand.{want, want_sign}
@@ -16,10 +17,10 @@ use Rattle.swf_jq_parse.specs.declared.stack.Item.TheVariants as items
 use Rattle.swf_jq_parse.specs.declared.stack.Joint.{Joint}
 use Rattle.swf_jq_parse.specs.declared.stack.Joint.TheVariants as joint
 use Rattle.swf_jq_parse.specs.declared.stack.Pending.TheVariants as pending
-use Rattle.swf_jq_parse.specs.declared.token.Keyword.TheVariants as keyword
-use Rattle.swf_jq_parse.specs.declared.token.Sign.TheVariants as sign
-use Rattle.swf_jq_parse.specs.declared.token.Token.{Token}
-use Rattle.swf_jq_parse.specs.declared.token.Token.TheVariants as token
+use Rattle.swf_jq_tokens.specs.declared.token.Keyword.TheVariants as keyword
+use Rattle.swf_jq_tokens.specs.declared.token.Sign.TheVariants as sign
+use Rattle.swf_jq_tokens.specs.declared.token.Token.{Token}
+use Rattle.swf_jq_tokens.specs.declared.token.Token.TheVariants as token
 use Rattle.swf_jq_parse.proofs.Accepting.{Accepts, Same, stepped, parted, same_down, same_joined, top_up, other}
 use Rattle.swf_jq_parse.proofs.Joined.{value_need}
 use Rattle.swf_jq_parse.proofs.Reducing.{reduce-stops}
@@ -98,6 +99,24 @@ infix_reads j u k l k' l' ts us a b steps loose hl hk hr hj left right = λ s re
     (steps s' at t ∙ infix_step j s' t s a at (same_down (least j) l s' t s a hl same) (top_up k (least j) s hk top) (loose s top))
     (right (items.Pending (pending.Left j a) ∷ s) rest e hr (λ s'' t'' same'.
     next s'' t'' (same_joined s'' t'' (pending.Left j a) s b (same_down (joint_level j) l' s'' t'' (items.Pending (pending.Left j a) ∷ s) b hj same'))))))
+
+-- how tightly the grammar's signs bind
+pub compares_level : (o : Op) → Compares o → op_level o ≡ 5
+compares_level o Grammar.equal_sign = refl
+compares_level o Grammar.not_equal_sign = refl
+compares_level o Grammar.less_sign = refl
+compares_level o Grammar.at_most_sign = refl
+compares_level o Grammar.greater_sign = refl
+compares_level o Grammar.at_least_sign = refl
+
+pub adds_level : (o : Op) → Adds o → op_level o ≡ 6
+adds_level o Grammar.plus_sign = refl
+adds_level o Grammar.minus_sign = refl
+
+pub multiplies_level : (o : Op) → Multiplies o → op_level o ≡ 7
+multiplies_level o Grammar.times_sign = refl
+multiplies_level o Grammar.over_sign = refl
+multiplies_level o Grammar.modulo_sign = refl
 
 least_op : (o : Op) (n : ℕ) → op_level o ≡ suc (suc (suc (suc (suc (suc n))))) → least (joint.Op o) ≡ op_level o
 unfolding least

@@ -1,5 +1,5 @@
 -- The tokens of an expression's text are an expression of the grammar.
-use Rattle.std.proofs.Common.{◌≡◌, ◌∙◌, pos, negsuc, [], ◌∷◌, ◌++◌, true, false, refl, ap, sym, Some, subst, append-nil, append_assoc, if◌then◌else◌}
+use Rattle.std.proofs.Common.{◌≡◌, ◌∙◌, pos, negsuc, [], ◌∷◌, ◌++◌, true, false, refl, ap, sym, Some, subst, append-nil, append_assoc}
 use lib.Utf8.{encode}
 use Rattle.swf_value.specs.Builtin.{arity, builtin_name, builtin_of}
 use Rattle.swf_value.specs.Expr.{Tree, Trees, no_trees, tree, count, Pairs, no_pairs, pair, here, lit, var, index, iterate, maybe, pipe, both, alt, or, and, binary, neg, empty_list, list_of, object_of, if_then, if_else, bind, apply, is_literal}
@@ -14,8 +14,8 @@ use Rattle.swf_jq_parse.specs.Operand.{named}
 use Rattle.swf_jq_parse.specs.Print.{is_term}
 use Rattle.swf_jq_parse.specs.Printed.{literal_tokens, enclosed_tokens, printed_tokens, argument_tokens, member_tokens, IsExpression, AreArguments, AreMembers}
 use Rattle.swf_jq_parse.specs.Rows.{tree_last, pair_last}
-use Rattle.swf_jq_parse.specs.declared.token.Sign.TheVariants as sign
-use Rattle.swf_jq_parse.specs.declared.token.Token.TheVariants as token
+use Rattle.swf_jq_tokens.specs.declared.token.Sign.TheVariants as sign
+use Rattle.swf_jq_tokens.specs.declared.token.Token.TheVariants as token
 
 -- ---- a term may stand anywhere
 
@@ -136,17 +136,17 @@ literal_term (list ds) h = cc h
 literal_term (object ms) h = cc h
 
 binary_pipe : (o : Op) (ts us : Tokens) (a b : Tree) → Term ts a → Term us b → Pipe (ts ++ token.Sign (sign.Op o) ∷ us) (binary o a b)
-binary_pipe ops.Equal ts us a b d e = cmp_pipe _ _ (Grammar.cmp_two ts us a b ops.Equal refl (term_sum ts a d) (term_sum us b e))
-binary_pipe ops.NotEqual ts us a b d e = cmp_pipe _ _ (Grammar.cmp_two ts us a b ops.NotEqual refl (term_sum ts a d) (term_sum us b e))
-binary_pipe ops.Less ts us a b d e = cmp_pipe _ _ (Grammar.cmp_two ts us a b ops.Less refl (term_sum ts a d) (term_sum us b e))
-binary_pipe ops.AtMost ts us a b d e = cmp_pipe _ _ (Grammar.cmp_two ts us a b ops.AtMost refl (term_sum ts a d) (term_sum us b e))
-binary_pipe ops.Greater ts us a b d e = cmp_pipe _ _ (Grammar.cmp_two ts us a b ops.Greater refl (term_sum ts a d) (term_sum us b e))
-binary_pipe ops.AtLeast ts us a b d e = cmp_pipe _ _ (Grammar.cmp_two ts us a b ops.AtLeast refl (term_sum ts a d) (term_sum us b e))
-binary_pipe ops.Add ts us a b d e = sum_pipe _ _ (Grammar.sum_more ts us a b ops.Add refl (term_sum ts a d) (product us b (unary us b e)))
-binary_pipe ops.Subtract ts us a b d e = sum_pipe _ _ (Grammar.sum_more ts us a b ops.Subtract refl (term_sum ts a d) (product us b (unary us b e)))
-binary_pipe ops.Multiply ts us a b d e = sum_pipe _ _ (sum _ _ (Grammar.prod_more ts us a b ops.Multiply refl (product ts a (unary ts a d)) (unary us b e)))
-binary_pipe ops.Divide ts us a b d e = sum_pipe _ _ (sum _ _ (Grammar.prod_more ts us a b ops.Divide refl (product ts a (unary ts a d)) (unary us b e)))
-binary_pipe ops.Modulo ts us a b d e = sum_pipe _ _ (sum _ _ (Grammar.prod_more ts us a b ops.Modulo refl (product ts a (unary ts a d)) (unary us b e)))
+binary_pipe ops.Equal ts us a b d e = cmp_pipe _ _ (Grammar.cmp_two ts us a b ops.Equal Grammar.equal_sign (term_sum ts a d) (term_sum us b e))
+binary_pipe ops.NotEqual ts us a b d e = cmp_pipe _ _ (Grammar.cmp_two ts us a b ops.NotEqual Grammar.not_equal_sign (term_sum ts a d) (term_sum us b e))
+binary_pipe ops.Less ts us a b d e = cmp_pipe _ _ (Grammar.cmp_two ts us a b ops.Less Grammar.less_sign (term_sum ts a d) (term_sum us b e))
+binary_pipe ops.AtMost ts us a b d e = cmp_pipe _ _ (Grammar.cmp_two ts us a b ops.AtMost Grammar.at_most_sign (term_sum ts a d) (term_sum us b e))
+binary_pipe ops.Greater ts us a b d e = cmp_pipe _ _ (Grammar.cmp_two ts us a b ops.Greater Grammar.greater_sign (term_sum ts a d) (term_sum us b e))
+binary_pipe ops.AtLeast ts us a b d e = cmp_pipe _ _ (Grammar.cmp_two ts us a b ops.AtLeast Grammar.at_least_sign (term_sum ts a d) (term_sum us b e))
+binary_pipe ops.Add ts us a b d e = sum_pipe _ _ (Grammar.sum_more ts us a b ops.Add Grammar.plus_sign (term_sum ts a d) (product us b (unary us b e)))
+binary_pipe ops.Subtract ts us a b d e = sum_pipe _ _ (Grammar.sum_more ts us a b ops.Subtract Grammar.minus_sign (term_sum ts a d) (product us b (unary us b e)))
+binary_pipe ops.Multiply ts us a b d e = sum_pipe _ _ (sum _ _ (Grammar.prod_more ts us a b ops.Multiply Grammar.times_sign (product ts a (unary ts a d)) (unary us b e)))
+binary_pipe ops.Divide ts us a b d e = sum_pipe _ _ (sum _ _ (Grammar.prod_more ts us a b ops.Divide Grammar.over_sign (product ts a (unary ts a d)) (unary us b e)))
+binary_pipe ops.Modulo ts us a b d e = sum_pipe _ _ (sum _ _ (Grammar.prod_more ts us a b ops.Modulo Grammar.modulo_sign (product ts a (unary ts a d)) (unary us b e)))
 
 -- ---- rows, from the left
 

@@ -4,19 +4,19 @@ use Rattle.std.specs.Str.{encode_utf8_all}
 use Rattle.swf_value.specs.Expr.{Tree}
 use Rattle.swf_jq_parse.specs.Grammar.{Tokens, Pipe}
 use Rattle.swf_jq_parse.specs.GrammarLaws.{tokens}
-use Rattle.swf_jq_parse.specs.Lexer.{Lexed, last, also, lex}
+use Rattle.swf_jq_tokens.specs.Lexer.{Lexed, last, also, lex}
 use Rattle.swf_jq_parse.specs.Machine.{run, ends_at, fails_by}
 use Rattle.swf_jq_parse.specs.Parse.{tokens_of}
 use Rattle.swf_jq_parse.specs.Parse.{end_of, read_of, parse_of}
 use Rattle.swf_jq_parse.specs.Print.{print_of}
 use Rattle.swf_jq_parse.specs.Printed.{printed_tokens}
 use Rattle.swf_jq_parse.specs.ReadBack.{IsReadBack}
-use Rattle.swf_jq_parse.specs.declared.fault.ParseFault.TheVariants as fault
+use Rattle.swf_jq_tokens.specs.declared.fault.ParseFault.TheVariants as fault
 use Rattle.swf_jq_parse.specs.declared.mode.Mode.TheVariants as mode
-use Rattle.swf_jq_parse.specs.declared.token.Token.{Token}
+use Rattle.swf_jq_tokens.specs.declared.token.Token.{Token}
 use Rattle.swf_jq_parse.proofs.Accepting.{other}
 use Rattle.swf_jq_parse.proofs.Complete.{complete}
-use Rattle.swf_jq_parse.proofs.Lexing.{longer, bare}
+use Rattle.swf_jq_tokens.proofs.Lexing.{longer, bare}
 use Rattle.swf_jq_parse.proofs.Printed.{printed_is}
 use Rattle.swf_jq_parse.proofs.TextReading.{text_reads_as}
 

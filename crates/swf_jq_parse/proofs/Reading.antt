@@ -18,12 +18,12 @@ use Rattle.swf_jq_parse.specs.declared.stack.Joint.TheVariants as joint
 use Rattle.swf_jq_parse.specs.declared.stack.Pending.TheVariants as pending
 use Rattle.swf_jq_parse.specs.declared.stack.Purpose.{Purpose}
 use Rattle.swf_jq_parse.specs.declared.stack.Purpose.TheVariants as purpose
-use Rattle.swf_jq_parse.specs.declared.token.Keyword.{Keyword}
-use Rattle.swf_jq_parse.specs.declared.token.Keyword.TheVariants as keyword
-use Rattle.swf_jq_parse.specs.declared.token.Sign.TheVariants as sign
-use Rattle.swf_jq_parse.specs.declared.token.Sign.{Sign}
-use Rattle.swf_jq_parse.specs.declared.token.Token.{Token}
-use Rattle.swf_jq_parse.specs.declared.token.Token.TheVariants as token
+use Rattle.swf_jq_tokens.specs.declared.token.Keyword.{Keyword}
+use Rattle.swf_jq_tokens.specs.declared.token.Keyword.TheVariants as keyword
+use Rattle.swf_jq_tokens.specs.declared.token.Sign.TheVariants as sign
+use Rattle.swf_jq_tokens.specs.declared.token.Sign.{Sign}
+use Rattle.swf_jq_tokens.specs.declared.token.Token.{Token}
+use Rattle.swf_jq_tokens.specs.declared.token.Token.TheVariants as token
 use Rattle.swf_jq_parse.proofs.Spelling.{need, Ready, Nothing, Object, OpenObject, Keyed, Purposed, Spelt, Spells, Placed, Told, tokens-none, grown, opened, pushed, started, begun}
 use Rattle.swf_jq_parse.proofs.Reducing.{reduce-stops}
 

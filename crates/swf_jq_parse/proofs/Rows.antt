@@ -1,5 +1,5 @@
 -- Rows that grow at their end.
-use Rattle.std.proofs.Common.{◌≡◌, ◌∙◌, ◌==◌, Bool, true, false, chars, List, [], ◌∷◌, ◌++◌, ℕ, length, refl, ap, sym, suc, arith, Option, Some, None}
+use Rattle.std.proofs.Common.{◌≡◌, ◌∙◌, ◌==◌, Bool, true, false, chars, List, [], ◌∷◌, ◌++◌, ℕ, length, refl, ap, sym, suc, arith, Some, None}
 use Rattle.std.specs.Str.{encode_utf8_all}
 use Rattle.std.proofs.lemmas.Bool.{eqb-true}
 use Rattle.std.proofs.lemmas.Str.{chars-nil}
@@ -11,9 +11,9 @@ use Rattle.swf_value.specs.ExprNode.{trees_of, pairs_of, value_or_here}
 use Rattle.swf_value.specs.declared.expr.ExprMember.{ExprMember}
 use Rattle.swf_jq_parse.specs.Rows.{tree_last, pair_last}
 use Rattle.swf_jq_parse.specs.TextPart.{first_text, plus_text}
-use Rattle.swf_jq_parse.specs.Words.{keyword_text}
-use Rattle.swf_jq_parse.specs.declared.token.Keyword.{Keyword}
-use Rattle.swf_jq_parse.specs.declared.token.Keyword.TheVariants as keyword
+use Rattle.swf_jq_tokens.specs.Words.{keyword_text}
+use Rattle.swf_jq_tokens.specs.declared.token.Keyword.{Keyword}
+use Rattle.swf_jq_tokens.specs.declared.token.Keyword.TheVariants as keyword
 
 -- as many trees as there are arguments
 pub count-trees_of : (es : List Tree) → count (trees_of es) ≡ length es

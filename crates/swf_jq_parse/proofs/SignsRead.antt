@@ -16,10 +16,10 @@ use Rattle.swf_jq_parse.specs.declared.stack.Item.TheVariants as items
 use Rattle.swf_jq_parse.specs.declared.stack.Joint.{Joint}
 use Rattle.swf_jq_parse.specs.declared.stack.Joint.TheVariants as joint
 use Rattle.swf_jq_parse.specs.declared.stack.Pending.TheVariants as pending
-use Rattle.swf_jq_parse.specs.declared.token.Keyword.TheVariants as keyword
-use Rattle.swf_jq_parse.specs.declared.token.Sign.TheVariants as sign
-use Rattle.swf_jq_parse.specs.declared.token.Token.{Token}
-use Rattle.swf_jq_parse.specs.declared.token.Token.TheVariants as token
+use Rattle.swf_jq_tokens.specs.declared.token.Keyword.TheVariants as keyword
+use Rattle.swf_jq_tokens.specs.declared.token.Sign.TheVariants as sign
+use Rattle.swf_jq_tokens.specs.declared.token.Token.{Token}
+use Rattle.swf_jq_tokens.specs.declared.token.Token.TheVariants as token
 use Rattle.swf_jq_parse.proofs.Spelling.{At, weaken, right_of, need, Ready, Joins, Sits, OpenObject, Spells, Placed, Told, grown, pushed, shut}
 use Rattle.swf_jq_parse.proofs.Joined.{reduce_keeps, stopped, Whole, value_need, close_keeps}
 use Rattle.swf_jq_parse.proofs.Accepting.{le_up, reduce_twice}
@@ -185,27 +185,27 @@ and_keeps s at e us h ready = infix_keeps joint.And (token.Keyword keyword.And) 
 
 pub op_keeps : (o : Op) (s : List Item) (at : ℕ) (e : Tree) (us : Placed) → Told (Spells s) (λ ws. Post ws e) us → Ready s → Keeps (infix_at s at (joint.Op o) e) (us ++ (at, token.Sign (sign.Op o)) ∷ [])
 unfolding least level joint_level joint_tree joined
-op_keeps ops.Equal s at e us h ready = infix_keeps (joint.Op ops.Equal) (token.Sign (sign.Op ops.Equal)) s at e us (λ ws l d ts t c. Grammar.cmp_two ws ts l t ops.Equal refl d c) (λ l ws f. f)
+op_keeps ops.Equal s at e us h ready = infix_keeps (joint.Op ops.Equal) (token.Sign (sign.Op ops.Equal)) s at e us (λ ws l d ts t c. Grammar.cmp_two ws ts l t ops.Equal Grammar.equal_sign d c) (λ l ws f. f)
     (λ r l top loose. need_below 5 r refl refl loose) refl refl refl h ready
-op_keeps ops.NotEqual s at e us h ready = infix_keeps (joint.Op ops.NotEqual) (token.Sign (sign.Op ops.NotEqual)) s at e us (λ ws l d ts t c. Grammar.cmp_two ws ts l t ops.NotEqual refl d c) (λ l ws f. f)
+op_keeps ops.NotEqual s at e us h ready = infix_keeps (joint.Op ops.NotEqual) (token.Sign (sign.Op ops.NotEqual)) s at e us (λ ws l d ts t c. Grammar.cmp_two ws ts l t ops.NotEqual Grammar.not_equal_sign d c) (λ l ws f. f)
     (λ r l top loose. need_below 5 r refl refl loose) refl refl refl h ready
-op_keeps ops.Less s at e us h ready = infix_keeps (joint.Op ops.Less) (token.Sign (sign.Op ops.Less)) s at e us (λ ws l d ts t c. Grammar.cmp_two ws ts l t ops.Less refl d c) (λ l ws f. f)
+op_keeps ops.Less s at e us h ready = infix_keeps (joint.Op ops.Less) (token.Sign (sign.Op ops.Less)) s at e us (λ ws l d ts t c. Grammar.cmp_two ws ts l t ops.Less Grammar.less_sign d c) (λ l ws f. f)
     (λ r l top loose. need_below 5 r refl refl loose) refl refl refl h ready
-op_keeps ops.AtMost s at e us h ready = infix_keeps (joint.Op ops.AtMost) (token.Sign (sign.Op ops.AtMost)) s at e us (λ ws l d ts t c. Grammar.cmp_two ws ts l t ops.AtMost refl d c) (λ l ws f. f)
+op_keeps ops.AtMost s at e us h ready = infix_keeps (joint.Op ops.AtMost) (token.Sign (sign.Op ops.AtMost)) s at e us (λ ws l d ts t c. Grammar.cmp_two ws ts l t ops.AtMost Grammar.at_most_sign d c) (λ l ws f. f)
     (λ r l top loose. need_below 5 r refl refl loose) refl refl refl h ready
-op_keeps ops.Greater s at e us h ready = infix_keeps (joint.Op ops.Greater) (token.Sign (sign.Op ops.Greater)) s at e us (λ ws l d ts t c. Grammar.cmp_two ws ts l t ops.Greater refl d c) (λ l ws f. f)
+op_keeps ops.Greater s at e us h ready = infix_keeps (joint.Op ops.Greater) (token.Sign (sign.Op ops.Greater)) s at e us (λ ws l d ts t c. Grammar.cmp_two ws ts l t ops.Greater Grammar.greater_sign d c) (λ l ws f. f)
     (λ r l top loose. need_below 5 r refl refl loose) refl refl refl h ready
-op_keeps ops.AtLeast s at e us h ready = infix_keeps (joint.Op ops.AtLeast) (token.Sign (sign.Op ops.AtLeast)) s at e us (λ ws l d ts t c. Grammar.cmp_two ws ts l t ops.AtLeast refl d c) (λ l ws f. f)
+op_keeps ops.AtLeast s at e us h ready = infix_keeps (joint.Op ops.AtLeast) (token.Sign (sign.Op ops.AtLeast)) s at e us (λ ws l d ts t c. Grammar.cmp_two ws ts l t ops.AtLeast Grammar.at_least_sign d c) (λ l ws f. f)
     (λ r l top loose. need_below 5 r refl refl loose) refl refl refl h ready
-op_keeps ops.Add s at e us h ready = infix_keeps (joint.Op ops.Add) (token.Sign (sign.Op ops.Add)) s at e us (λ ws l d ts t c. Grammar.sum_more ws ts l t ops.Add refl d c) (λ l ws f. f)
+op_keeps ops.Add s at e us h ready = infix_keeps (joint.Op ops.Add) (token.Sign (sign.Op ops.Add)) s at e us (λ ws l d ts t c. Grammar.sum_more ws ts l t ops.Add Grammar.plus_sign d c) (λ l ws f. f)
     (λ r l top loose. need_below 6 r refl refl top) refl refl refl h ready
-op_keeps ops.Subtract s at e us h ready = infix_keeps (joint.Op ops.Subtract) (token.Sign (sign.Op ops.Subtract)) s at e us (λ ws l d ts t c. Grammar.sum_more ws ts l t ops.Subtract refl d c) (λ l ws f. f)
+op_keeps ops.Subtract s at e us h ready = infix_keeps (joint.Op ops.Subtract) (token.Sign (sign.Op ops.Subtract)) s at e us (λ ws l d ts t c. Grammar.sum_more ws ts l t ops.Subtract Grammar.minus_sign d c) (λ l ws f. f)
     (λ r l top loose. need_below 6 r refl refl top) refl refl refl h ready
-op_keeps ops.Multiply s at e us h ready = infix_keeps (joint.Op ops.Multiply) (token.Sign (sign.Op ops.Multiply)) s at e us (λ ws l d ts t c. Grammar.prod_more ws ts l t ops.Multiply refl d c) (λ l ws f. f)
+op_keeps ops.Multiply s at e us h ready = infix_keeps (joint.Op ops.Multiply) (token.Sign (sign.Op ops.Multiply)) s at e us (λ ws l d ts t c. Grammar.prod_more ws ts l t ops.Multiply Grammar.times_sign d c) (λ l ws f. f)
     (λ r l top loose. need_below 7 r refl refl top) refl refl refl h ready
-op_keeps ops.Divide s at e us h ready = infix_keeps (joint.Op ops.Divide) (token.Sign (sign.Op ops.Divide)) s at e us (λ ws l d ts t c. Grammar.prod_more ws ts l t ops.Divide refl d c) (λ l ws f. f)
+op_keeps ops.Divide s at e us h ready = infix_keeps (joint.Op ops.Divide) (token.Sign (sign.Op ops.Divide)) s at e us (λ ws l d ts t c. Grammar.prod_more ws ts l t ops.Divide Grammar.over_sign d c) (λ l ws f. f)
     (λ r l top loose. need_below 7 r refl refl top) refl refl refl h ready
-op_keeps ops.Modulo s at e us h ready = infix_keeps (joint.Op ops.Modulo) (token.Sign (sign.Op ops.Modulo)) s at e us (λ ws l d ts t c. Grammar.prod_more ws ts l t ops.Modulo refl d c) (λ l ws f. f)
+op_keeps ops.Modulo s at e us h ready = infix_keeps (joint.Op ops.Modulo) (token.Sign (sign.Op ops.Modulo)) s at e us (λ ws l d ts t c. Grammar.prod_more ws ts l t ops.Modulo Grammar.modulo_sign d c) (λ l ws f. f)
     (λ r l top loose. need_below 7 r refl refl top) refl refl refl h ready
 
 -- ---- `,`, `|` and `as`

@@ -4,7 +4,7 @@ use Rattle.swf_value.specs.Expr.{Tree, no_trees, Pairs, no_pairs, here, lit, var
 use Rattle.swf_value.specs.Value.{text}
 use Rattle.swf_value.specs.declared.builtin.Builtin.{Builtin}
 use Rattle.swf_jq_parse.specs.Closing.{applied, applied_to, paren_closed, bracket_closed, brace_closed, next_argument, then_next, elif_next, else_next, if_ended}
-use Rattle.swf_jq_parse.specs.Gives.{◌>>=◌}
+use Rattle.swf_jq_tokens.specs.Gives.{◌>>=◌}
 use Rattle.swf_jq_parse.specs.Grammar
 use Rattle.swf_jq_parse.specs.Grammar.{Tokens, Pipe, Comma, Alt, Or, And, Cmp, Sum, Prod, Unary, Post, Term, ArgumentsOf, Branches, TextOf, Pieces, MembersOf, MemberOf, KeyOf, ValueOf}
 use Rattle.swf_jq_parse.specs.GrammarLaws as Laws
@@ -21,12 +21,12 @@ use Rattle.swf_jq_parse.specs.declared.mode.Mode.TheVariants as mode
 use Rattle.swf_jq_parse.specs.declared.stack.Item.{Item}
 use Rattle.swf_jq_parse.specs.declared.stack.Item.TheVariants as items
 use Rattle.swf_jq_parse.specs.declared.stack.Purpose.TheVariants as purpose
-use Rattle.swf_jq_parse.specs.declared.token.Keyword.{Keyword}
-use Rattle.swf_jq_parse.specs.declared.token.Keyword.TheVariants as keyword
-use Rattle.swf_jq_parse.specs.declared.token.Sign.TheVariants as sign
-use Rattle.swf_jq_parse.specs.declared.token.Sign.{Sign}
-use Rattle.swf_jq_parse.specs.declared.token.Token.{Token}
-use Rattle.swf_jq_parse.specs.declared.token.Token.TheVariants as token
+use Rattle.swf_jq_tokens.specs.declared.token.Keyword.{Keyword}
+use Rattle.swf_jq_tokens.specs.declared.token.Keyword.TheVariants as keyword
+use Rattle.swf_jq_tokens.specs.declared.token.Sign.TheVariants as sign
+use Rattle.swf_jq_tokens.specs.declared.token.Sign.{Sign}
+use Rattle.swf_jq_tokens.specs.declared.token.Token.{Token}
+use Rattle.swf_jq_tokens.specs.declared.token.Token.TheVariants as token
 use Rattle.swf_jq_parse.proofs.Spelling.{Ready, Object, Keyed, Spells, Placed, Told, grown, changed, pushed}
 use Rattle.swf_jq_parse.proofs.Joined.{Whole, close_keeps}
 use Rattle.swf_jq_parse.proofs.Reading.{Holds, Reads, Keeps, kept_if, snoc, object_opens, text_opens, want_keeps, list_start_keeps, index_start_keeps}

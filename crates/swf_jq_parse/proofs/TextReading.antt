@@ -1,5 +1,5 @@
 -- The lexer on an expression's text gives its tokens.
-use Rattle.std.proofs.Common.{◌≡◌, ◌∙◌, ◌==◌, ◌||◌, ◌+◌, ◌-◌, ◌≤◌, ◌<◌, ◌^◌, ◌≤ℤ◌, max, ℕ, suc, pos, negsuc, not, List, [], ◌∷◌, ◌++◌, map, length, codes, Bool, true, false, refl, ap, sym, Option, Some, None, subst, arith, append-nil, append_assoc, if◌then◌else◌}
+use Rattle.std.proofs.Common.{◌≡◌, ◌∙◌, ◌==◌, ◌||◌, ◌+◌, ◌≤◌, ◌<◌, ◌^◌, ◌≤ℤ◌, max, ℕ, suc, pos, negsuc, not, List, [], ◌∷◌, ◌++◌, map, length, codes, Bool, true, false, refl, ap, sym, Option, Some, None, subst, arith, append-nil, append_assoc}
 use Rattle.std.proofs.lemmas.Int.{ints}
 use Rattle.std.specs.List.{list_all, list_any}
 use Rattle.std.specs.Cmp.Lexicographic.{pointwise}
@@ -12,22 +12,22 @@ use Rattle.swf_value.specs.declared.builtin.Builtin.TheVariants as builtins
 use Rattle.swf_value.specs.declared.op.Op.{Op}
 use Rattle.swf_value.specs.declared.op.Op.TheVariants as ops
 use Rattle.swf_jq_parse.specs.Grammar.{Tokens}
-use Rattle.swf_jq_parse.specs.Lexer.{word_or_name}
-use Rattle.swf_jq_parse.specs.Nest.{Nest}
+use Rattle.swf_jq_tokens.specs.Lexer.{word_or_name}
+use Rattle.swf_jq_tokens.specs.Nest.{Nest}
 use Rattle.swf_jq_parse.specs.Print.{literal_text, op_text, var_text, is_term, enclosed, between, print_of, print_arguments, print_members}
 use Rattle.swf_jq_parse.specs.Printed.{literal_tokens, enclosed_tokens, between_tokens, printed_tokens, argument_tokens, member_tokens, enclosed_nesting, nesting, nesting_arguments, nesting_members, IsExpression, AreArguments, AreMembers}
-use Rattle.swf_jq_parse.specs.Words.{keyword_text, all_keywords, keyword_in, keyword_of}
-use Rattle.swf_jq_parse.specs.declared.nest.Bracket.TheVariants as bracket
-use Rattle.swf_jq_parse.specs.declared.token.Keyword.{Keyword}
-use Rattle.swf_jq_parse.specs.declared.token.Keyword.TheVariants as keyword
-use Rattle.swf_jq_parse.specs.declared.token.Sign.{Sign}
-use Rattle.swf_jq_parse.specs.declared.token.Sign.TheVariants as sign
-use Rattle.swf_jq_parse.specs.declared.token.Token.{Token}
-use Rattle.swf_jq_parse.specs.declared.token.Token.TheVariants as token
+use Rattle.swf_jq_tokens.specs.Words.{keyword_text, all_keywords, keyword_in, keyword_of}
+use Rattle.swf_jq_tokens.specs.declared.nest.Bracket.TheVariants as bracket
+use Rattle.swf_jq_tokens.specs.declared.token.Keyword.{Keyword}
+use Rattle.swf_jq_tokens.specs.declared.token.Keyword.TheVariants as keyword
+use Rattle.swf_jq_tokens.specs.declared.token.Sign.{Sign}
+use Rattle.swf_jq_tokens.specs.declared.token.Sign.TheVariants as sign
+use Rattle.swf_jq_tokens.specs.declared.token.Token.{Token}
+use Rattle.swf_jq_tokens.specs.declared.token.Token.TheVariants as token
 use Rattle.swf_jq_parse.proofs.Accepting.{other}
-use Rattle.swf_jq_parse.proofs.Lexing.{Reads, ends_read, blank_reads, breaks, leads, and_parts, not_code, word_reads, var_reads, dot_reads, Lone, lone_reads, comma_lone, pipe_lone, semicolon_lone, colon_lone, question_lone, add_lone, subtract_lone, multiply_lone, modulo_lone, Short, short_reads, less_short, greater_short, divide_short, alternative_reads, equal_reads, not_equal_reads, at_most_reads, at_least_reads, Opens, open_reads, paren_opens, bracket_opens, brace_opens, Closes, close_reads, paren_closes, bracket_closes, brace_closes}
-use Rattle.swf_jq_parse.proofs.LexingNumbers.{number_reads, number_leads}
-use Rattle.swf_jq_parse.proofs.LexingTexts.{text_reads}
+use Rattle.swf_jq_tokens.proofs.Lexing.{Reads, ends_read, blank_reads, breaks, leads, and_parts, not_code, word_reads, var_reads, dot_reads, Lone, lone_reads, comma_lone, pipe_lone, semicolon_lone, colon_lone, question_lone, add_lone, subtract_lone, multiply_lone, modulo_lone, Short, short_reads, less_short, greater_short, divide_short, alternative_reads, equal_reads, not_equal_reads, at_most_reads, at_least_reads, Opens, open_reads, paren_opens, bracket_opens, brace_opens, Closes, close_reads, paren_closes, bracket_closes, brace_closes}
+use Rattle.swf_jq_tokens.proofs.LexingNumbers.{number_reads, number_leads}
+use Rattle.swf_jq_tokens.proofs.LexingTexts.{text_reads}
 
 -- ---- texts whose tokens are known, whatever follows that does not go on with them
 

@@ -6,14 +6,14 @@ use Rattle.std.proofs.Math.Utf8.{encodes}
 use Rattle.std.proofs.lemmas.Bool.{lt-ltb, le-ltb}
 use Rattle.std.proofs.lemmas.Str.{encodes-chars, length-le-encodes}
 use Rattle.swf_value.specs.Expr.{Tree}
-use Rattle.swf_jq_parse.specs.Gives.{◌>>=◌, Fails, Gives}
-use Rattle.swf_jq_parse.specs.Lexer.{Lexeme, Lexed, Nested, lexed_of, lex_within, lex, next, is_blank}
+use Rattle.swf_jq_tokens.specs.Gives.{◌>>=◌, Fails, Gives}
+use Rattle.swf_jq_tokens.specs.Lexer.{Lexeme, Behind, Nested, lexed_behind, lexed_of, lex_within, lex, next, is_blank}
 use Rattle.swf_jq_parse.specs.Machine.{run, step, finish, called_alone}
-use Rattle.swf_jq_parse.specs.Nest.{Nest}
-use Rattle.swf_jq_parse.specs.Parse.{tokens_of, end_of, read_of, parse_of}
-use Rattle.swf_jq_parse.specs.Turn.{Reading, reading, stepped, token_read, turned}
-use Rattle.swf_jq_parse.specs.declared.fault.ParseFault.{ParseFault}
-use Rattle.swf_jq_parse.specs.declared.fault.ParseFault.TheVariants as fault
+use Rattle.swf_jq_tokens.specs.Nest.{Nest}
+use Rattle.swf_jq_parse.specs.Parse.{read_of, parse_of}
+use Rattle.swf_jq_parse.specs.Turn.{Reading, reading, stepped_behind, stepped, token_read, turned}
+use Rattle.swf_jq_tokens.specs.declared.fault.ParseFault.{ParseFault}
+use Rattle.swf_jq_tokens.specs.declared.fault.ParseFault.TheVariants as fault
 use Rattle.swf_jq_parse.specs.declared.mode.Mode.{Mode}
 use Rattle.swf_jq_parse.specs.declared.mode.Mode.TheVariants as mode
 use Rattle.swf_jq_parse.specs.declared.stack.Item.{Item}
@@ -26,19 +26,25 @@ after_fault : (a : Result ⊤ ParseFault) (e : ParseFault) (f : Reading → Resu
 after_fault (Ok u) e f = refl
 after_fault (Err d) e f = refl
 
-after_step : (a : Result (List Item × Mode) ParseFault) (r : Lexeme × Nest) (f : Reading → Result Tree ParseFault)
-    → (a >>= λ q. f (reading q.0 r.1 q.1 r.0.at r.0.rest)) ≡ ((a >>= λ q. Ok (reading q.0 r.1 q.1 r.0.at r.0.rest)) >>= f)
-after_step (Ok q) r f = refl
-after_step (Err e) r f = refl
+read_behind : (k : ℕ) (s : List Item) (m : Mode) (l : Lexeme) (b : Behind)
+    → read_of s m (lexed_behind (λ n. lex_within k n l.at l.rest) b) ≡ (stepped_behind s m l b >>= read_on k)
+unfolding run
+read_behind k s m l (Err e) = after_fault (called_alone m) e (read_on k)
+read_behind k s m l (Ok n) = refl
+
+after_step : (k : ℕ) (a : Result (List Item × Mode) ParseFault) (l : Lexeme) (b : Behind)
+    → (a >>= λ q. read_of q.0 q.1 (lexed_behind (λ n. lex_within k n l.at l.rest) b)) ≡ ((a >>= λ q. stepped_behind q.0 q.1 l b) >>= read_on k)
+after_step k (Ok q) l b = read_behind k q.0 q.1 l b
+after_step k (Err e) l b = refl
 
 read-stepped : (k : ℕ) (s : List Item) (m : Mode) (at : ℕ) (x : Nested)
-    → read_of s m (lexed_of at (λ r. lex_within k r.1 r.0.at r.0.rest) x) ≡ (stepped s m at x >>= read_on k)
+    → read_of s m (lexed_of at (λ l n. lex_within k n l.at l.rest) x) ≡ (stepped s m at x >>= read_on k)
 unfolding run
 read-stepped k s m at (Err e) = after_fault (called_alone m) e (read_on k)
-read-stepped k s m at (Ok r) = after_step (step s m at r.0.token) r (read_on k)
+read-stepped k s m at (Ok r) = after_step k (step s m at r.0.token) r.0 r.1
 
 chosen_turn : (k : ℕ) (s : List Item) (n : Nest) (m : Mode) (at : ℕ) (cs : List ℕ) (x : Nested) (b : Bool)
-    → read_of s m (if b then lex_within k n (at + 1) cs else lexed_of at (λ r. lex_within k r.1 r.0.at r.0.rest) x)
+    → read_of s m (if b then lex_within k n (at + 1) cs else lexed_of at (λ l n. lex_within k n l.at l.rest) x)
     ≡ ((if b then Ok (reading s n m (at + 1) cs) else stepped s m at x) >>= read_on k)
 chosen_turn k s n m at cs x true = refl
 chosen_turn k s n m at cs x false = read-stepped k s m at x

@@ -1,13 +1,13 @@
 -- What ends with an operand, which is joined with all that waits for it before.
-use Rattle.std.specs.Prelude.{ℕ, false, List, [], ◌∷◌, Result, Ok, Err, Option, Some, None}
+use Rattle.std.specs.Prelude.{ℕ, false, List, ◌∷◌, Result, Ok, Err, Option, Some, None}
 use Rattle.swf_value.specs.Expr.{Tree, Trees, count, list_of, index, object_of, if_then, apply}
 use Rattle.swf_value.specs.declared.builtin.Builtin.{Builtin}
-use Rattle.swf_jq_parse.specs.Gives.{◌>>=◌}
+use Rattle.swf_jq_tokens.specs.Gives.{◌>>=◌}
 use Rattle.swf_jq_parse.specs.Joining.{Step, misplaced, reduce}
 use Rattle.swf_jq_parse.specs.Operand.{named}
 use Rattle.swf_jq_parse.specs.Rows.{tree_last, pair_last}
-use Rattle.swf_jq_parse.specs.declared.fault.ParseFault.{ParseFault}
-use Rattle.swf_jq_parse.specs.declared.fault.ParseFault.TheVariants as fault
+use Rattle.swf_jq_tokens.specs.declared.fault.ParseFault.{ParseFault}
+use Rattle.swf_jq_tokens.specs.declared.fault.ParseFault.TheVariants as fault
 use Rattle.swf_jq_parse.specs.declared.mode.Mode.TheVariants as mode
 use Rattle.swf_jq_parse.specs.declared.stack.Item.{Item}
 use Rattle.swf_jq_parse.specs.declared.stack.Item.TheVariants as items

@@ -1,14 +1,14 @@
 -- Which text is which expression.
-use Rattle.std.specs.Prelude.{◌≡◌, ◌≤◌, ◌⊎◌, ℕ, List, [], Result, length}
+use Rattle.std.specs.Prelude.{◌≡◌, ◌≤◌, ◌⊎◌, ℕ, List, [], length}
 use Rattle.std.specs.Str.{encode_utf8_all}
 use Rattle.swf_value.specs.Expr.{Tree}
 use Rattle.swf_jq_parse.specs.Grammar.{Pipe}
 use Rattle.swf_jq_parse.specs.GrammarLaws.{tokens}
-use Rattle.swf_jq_parse.specs.Lexer.{lex}
+use Rattle.swf_jq_tokens.specs.Lexer.{lex}
 use Rattle.swf_jq_parse.specs.Machine.{ends_at}
 use Rattle.swf_jq_parse.specs.Parse.{tokens_of, end_of}
-use Rattle.swf_jq_parse.specs.declared.fault.ParseFault.{ParseFault}
-use Rattle.swf_jq_parse.specs.declared.fault.ParseFault.TheVariants as fault
+use Rattle.swf_jq_tokens.specs.declared.fault.ParseFault.{ParseFault}
+use Rattle.swf_jq_tokens.specs.declared.fault.ParseFault.TheVariants as fault
 
 -- a text of at most 4,096 bytes that is tokens to its end, which the grammar makes this expression of
 pub record IsTextOf (cs : List ℕ) (e : Tree) : Type 0 where

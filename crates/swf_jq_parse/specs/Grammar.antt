@@ -5,19 +5,35 @@ use Rattle.swf_value.specs.Value.{null, boolean, int, text}
 use Rattle.swf_value.specs.declared.builtin.Builtin.{Builtin}
 use Rattle.swf_value.specs.declared.op.Op.{Op}
 use Rattle.swf_value.specs.declared.op.Op.TheVariants as ops
-use Rattle.swf_jq_parse.specs.Joining.{op_level}
+pub use Rattle.swf_jq_tokens.specs.Lexer.{Tokens}
 use Rattle.swf_jq_parse.specs.Member.{key_lit}
 use Rattle.swf_jq_parse.specs.Operand.{named}
 use Rattle.swf_jq_parse.specs.Rows.{tree_last, pair_last}
 use Rattle.swf_jq_parse.specs.TextPart.{plus_piece, plus_text, first_text}
-use Rattle.swf_jq_parse.specs.declared.token.Keyword.{Keyword}
-use Rattle.swf_jq_parse.specs.declared.token.Keyword.TheVariants as keyword
-use Rattle.swf_jq_parse.specs.declared.token.Sign.TheVariants as sign
-use Rattle.swf_jq_parse.specs.declared.token.Token.{Token}
-use Rattle.swf_jq_parse.specs.declared.token.Token.TheVariants as token
+use Rattle.swf_jq_tokens.specs.declared.token.Keyword.{Keyword}
+use Rattle.swf_jq_tokens.specs.declared.token.Keyword.TheVariants as keyword
+use Rattle.swf_jq_tokens.specs.declared.token.Sign.TheVariants as sign
+use Rattle.swf_jq_tokens.specs.declared.token.Token.TheVariants as token
 
-abbrev pub Tokens : Type 0
-Tokens = List Token
+-- "==" | "!=" | "<" | "<=" | ">" | ">="
+pub data Compares : Op → Type 0 where
+  equal_sign : Compares ops.Equal
+  not_equal_sign : Compares ops.NotEqual
+  less_sign : Compares ops.Less
+  at_most_sign : Compares ops.AtMost
+  greater_sign : Compares ops.Greater
+  at_least_sign : Compares ops.AtLeast
+
+-- "+" | "-"
+pub data Adds : Op → Type 0 where
+  plus_sign : Adds ops.Add
+  minus_sign : Adds ops.Subtract
+
+-- "*" | "/" | "%"
+pub data Multiplies : Op → Type 0 where
+  times_sign : Multiplies ops.Multiply
+  over_sign : Multiplies ops.Divide
+  modulo_sign : Multiplies ops.Modulo
 
 mutual
   -- pipe = comma | comma "|" pipe | post "as" "$" name "|" pipe
@@ -49,17 +65,17 @@ mutual
   -- cmp = sum [ ("==" | "!=" | "<" | "<=" | ">" | ">=") sum ]
   pub data Cmp : Tokens → Tree → Type 0 where
     cmp_one : (ts : Tokens) (a : Tree) → Sum ts a → Cmp ts a
-    cmp_two : (ts us : Tokens) (a b : Tree) (o : Op) → op_level o ≡ 5 → Sum ts a → Sum us b → Cmp (ts ++ token.Sign (sign.Op o) ∷ us) (binary o a b)
+    cmp_two : (ts us : Tokens) (a b : Tree) (o : Op) → Compares o → Sum ts a → Sum us b → Cmp (ts ++ token.Sign (sign.Op o) ∷ us) (binary o a b)
 
   -- sum = prod { ("+" | "-") prod }
   pub data Sum : Tokens → Tree → Type 0 where
     sum_one : (ts : Tokens) (a : Tree) → Prod ts a → Sum ts a
-    sum_more : (ts us : Tokens) (a b : Tree) (o : Op) → op_level o ≡ 6 → Sum ts a → Prod us b → Sum (ts ++ token.Sign (sign.Op o) ∷ us) (binary o a b)
+    sum_more : (ts us : Tokens) (a b : Tree) (o : Op) → Adds o → Sum ts a → Prod us b → Sum (ts ++ token.Sign (sign.Op o) ∷ us) (binary o a b)
 
   -- prod = unary { ("*" | "/" | "%") unary }
   pub data Prod : Tokens → Tree → Type 0 where
     prod_one : (ts : Tokens) (a : Tree) → Unary ts a → Prod ts a
-    prod_more : (ts us : Tokens) (a b : Tree) (o : Op) → op_level o ≡ 7 → Prod ts a → Unary us b → Prod (ts ++ token.Sign (sign.Op o) ∷ us) (binary o a b)
+    prod_more : (ts us : Tokens) (a b : Tree) (o : Op) → Multiplies o → Prod ts a → Unary us b → Prod (ts ++ token.Sign (sign.Op o) ∷ us) (binary o a b)
 
   -- unary = "-" unary | post
   pub data Unary : Tokens → Tree → Type 0 where

@@ -4,12 +4,12 @@ use Rattle.swf_value.specs.Expr.{Tree, Trees, no_trees, count}
 use Rattle.swf_jq_parse.specs.Grammar.{Tokens, Pipe, ArgumentsOf}
 use Rattle.swf_jq_parse.specs.Machine.{run, End, ends_at, fails_by}
 use Rattle.swf_jq_parse.specs.Operand.{named}
-use Rattle.swf_jq_parse.specs.declared.fault.ParseFault.{ParseFault}
-use Rattle.swf_jq_parse.specs.declared.fault.ParseFault.TheVariants as fault
+use Rattle.swf_jq_tokens.specs.declared.fault.ParseFault.{ParseFault}
+use Rattle.swf_jq_tokens.specs.declared.fault.ParseFault.TheVariants as fault
 use Rattle.swf_jq_parse.specs.declared.mode.Mode.TheVariants as mode
-use Rattle.swf_jq_parse.specs.declared.token.Sign.TheVariants as sign
-use Rattle.swf_jq_parse.specs.declared.token.Token.{Token}
-use Rattle.swf_jq_parse.specs.declared.token.Token.TheVariants as token
+use Rattle.swf_jq_tokens.specs.declared.token.Sign.TheVariants as sign
+use Rattle.swf_jq_tokens.specs.declared.token.Token.{Token}
+use Rattle.swf_jq_tokens.specs.declared.token.Token.TheVariants as token
 
 -- the tokens without their places
 unfoldable pub tokens : List (ℕ × Token) → Tokens

@@ -1,6 +1,4 @@
-pub mod Words
 pub mod Rows
-pub mod Gives
 pub mod Joining
 pub mod TextPart
 pub mod Operand
@@ -8,9 +6,6 @@ pub mod Closing
 pub mod Suffix
 pub mod Member
 pub mod Machine
-pub mod Nest
-pub mod Piece
-pub mod Lexer
 pub mod Parse
 pub mod Turn
 pub mod Print
@@ -19,4 +14,3 @@ pub mod ReadBack
 pub mod Grammar
 pub mod GrammarLaws
 pub mod ExpressionText
-pub mod LexerLaws

@@ -1,22 +1,23 @@
 -- One token after another, with all that is open and what may stand next.
 use Rattle.std.specs.Prelude.{⊤, ℕ, List, [], ◌∷◌, Result, Ok, Err}
 use Rattle.swf_value.specs.Expr.{Tree, here, no_trees}
-use Rattle.swf_jq_parse.specs.Gives.{◌>>=◌}
+use Rattle.swf_jq_tokens.specs.Gives.{◌>>=◌}
+pub use Rattle.swf_jq_tokens.specs.Lexer.{End, ends_at, fails_by}
 use Rattle.swf_jq_parse.specs.Closing.{applied}
 use Rattle.swf_jq_parse.specs.Joining.{Step, misplaced, reduce}
 use Rattle.swf_jq_parse.specs.Member.{member, after_key, member_end}
 use Rattle.swf_jq_parse.specs.Operand.{want, list_start, index_start}
 use Rattle.swf_jq_parse.specs.Suffix.{have, suffix, dotted}
-use Rattle.swf_jq_parse.specs.declared.fault.ParseFault.{ParseFault}
-use Rattle.swf_jq_parse.specs.declared.fault.ParseFault.TheVariants as fault
+use Rattle.swf_jq_tokens.specs.declared.fault.ParseFault.{ParseFault}
+use Rattle.swf_jq_tokens.specs.declared.fault.ParseFault.TheVariants as fault
 use Rattle.swf_jq_parse.specs.declared.mode.Mode.{Mode}
 use Rattle.swf_jq_parse.specs.declared.mode.Mode.TheVariants as mode
 use Rattle.swf_jq_parse.specs.declared.stack.Item.{Item}
 use Rattle.swf_jq_parse.specs.declared.stack.Item.TheVariants as items
 use Rattle.swf_jq_parse.specs.declared.stack.Pending.TheVariants as pending
-use Rattle.swf_jq_parse.specs.declared.token.Sign.TheVariants as sign
-use Rattle.swf_jq_parse.specs.declared.token.Token.{Token}
-use Rattle.swf_jq_parse.specs.declared.token.Token.TheVariants as token
+use Rattle.swf_jq_tokens.specs.declared.token.Sign.TheVariants as sign
+use Rattle.swf_jq_tokens.specs.declared.token.Token.{Token}
+use Rattle.swf_jq_tokens.specs.declared.token.Token.TheVariants as token
 
 -- what may follow the name of a built-in
 unfoldable pub called_next : List Item → List ℕ → ℕ → ℕ → Token → Step
@@ -71,11 +72,6 @@ finish s m at = Err (fault.Syntax at)
 unfoldable pub called_alone : Mode → Result ⊤ ParseFault
 called_alone (mode.Called x p) = applied x p no_trees >>= λ e. Ok tt
 called_alone m = Ok tt
-
--- where the tokens of a text end: at the text's end, or at a fault
-pub data End : Type 0 where
-  ends_at : ℕ → End
-  fails_by : ParseFault → End
 
 -- what the tokens with their places give, from what is open and what may stand next
 unfoldable pub run : List Item → Mode → List (ℕ × Token) → End → Result Tree ParseFault

@@ -1,15 +1,15 @@
 -- The expression that a text is, from its tokens on.
-use Rattle.std.specs.Prelude.{◌<◌, ℕ, List, [], ◌∷◌, Result, Ok, Err, length, nat_lt, if◌then◌else◌}
+use Rattle.std.specs.Prelude.{ℕ, List, [], ◌∷◌, Result, Err, length, nat_lt, if◌then◌else◌}
 use Rattle.std.specs.Str.{encode_utf8_all}
 use Rattle.swf_value.specs.Expr.{Tree}
-use Rattle.swf_jq_parse.specs.Lexer.{Lexeme, Lexed, last, also, Nested, lex}
+use Rattle.swf_jq_tokens.specs.Lexer.{Lexed, last, also, lex}
 use Rattle.swf_jq_parse.specs.Machine.{End, run}
-use Rattle.swf_jq_parse.specs.declared.fault.ParseFault.{ParseFault}
-use Rattle.swf_jq_parse.specs.declared.fault.ParseFault.TheVariants as fault
+use Rattle.swf_jq_tokens.specs.declared.fault.ParseFault.{ParseFault}
+use Rattle.swf_jq_tokens.specs.declared.fault.ParseFault.TheVariants as fault
 use Rattle.swf_jq_parse.specs.declared.mode.Mode.{Mode}
 use Rattle.swf_jq_parse.specs.declared.mode.Mode.TheVariants as mode
 use Rattle.swf_jq_parse.specs.declared.stack.Item.{Item}
-use Rattle.swf_jq_parse.specs.declared.token.Token.{Token}
+use Rattle.swf_jq_tokens.specs.declared.token.Token.{Token}
 
 -- the tokens with their places
 abbrev pub tokens_of : Lexed → List (ℕ × Token)

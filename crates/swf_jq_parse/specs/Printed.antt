@@ -7,10 +7,10 @@ use Rattle.swf_value.specs.Value.{Value, null, boolean, int, text, list, object,
 use Rattle.swf_value.specs.declared.op.Op.TheVariants as ops
 use Rattle.swf_jq_parse.specs.Grammar.{Tokens}
 use Rattle.swf_jq_parse.specs.Print.{is_term}
-use Rattle.swf_jq_parse.specs.declared.token.Keyword.TheVariants as keyword
-use Rattle.swf_jq_parse.specs.declared.token.Sign.TheVariants as sign
-use Rattle.swf_jq_parse.specs.declared.token.Token.{Token}
-use Rattle.swf_jq_parse.specs.declared.token.Token.TheVariants as token
+use Rattle.swf_jq_tokens.specs.declared.token.Keyword.TheVariants as keyword
+use Rattle.swf_jq_tokens.specs.declared.token.Sign.TheVariants as sign
+use Rattle.swf_jq_tokens.specs.declared.token.Token.{Token}
+use Rattle.swf_jq_tokens.specs.declared.token.Token.TheVariants as token
 
 abbrev pub literal_tokens : Value → Tokens
 literal_tokens null = token.Keyword keyword.Null ∷ []

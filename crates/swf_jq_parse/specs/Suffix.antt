@@ -1,5 +1,5 @@
 -- What may follow an operand.
-use Rattle.std.specs.Prelude.{◌+◌, ◌-◌, ◌^◌, min, ℕ, List, Ok, Err}
+use Rattle.std.specs.Prelude.{◌+◌, ◌-◌, ◌^◌, min, ℕ, List, Ok}
 use Rattle.swf_value.specs.Expr.{Tree, here, lit, index, maybe}
 use Rattle.swf_value.specs.Value.{text}
 use Rattle.swf_jq_parse.specs.Joining.{Step, misplaced, reduce, infix_at, pipe_next, comma_next, bind_next}
@@ -9,12 +9,12 @@ use Rattle.swf_jq_parse.specs.declared.mode.Mode.TheVariants as mode
 use Rattle.swf_jq_parse.specs.declared.stack.Item.{Item}
 use Rattle.swf_jq_parse.specs.declared.stack.Joint.TheVariants as joint
 use Rattle.swf_jq_parse.specs.declared.stack.Purpose.TheVariants as purpose
-use Rattle.swf_jq_parse.specs.declared.token.Keyword.{Keyword}
-use Rattle.swf_jq_parse.specs.declared.token.Keyword.TheVariants as keyword
-use Rattle.swf_jq_parse.specs.declared.token.Sign.{Sign}
-use Rattle.swf_jq_parse.specs.declared.token.Sign.TheVariants as sign
-use Rattle.swf_jq_parse.specs.declared.token.Token.{Token}
-use Rattle.swf_jq_parse.specs.declared.token.Token.TheVariants as token
+use Rattle.swf_jq_tokens.specs.declared.token.Keyword.{Keyword}
+use Rattle.swf_jq_tokens.specs.declared.token.Keyword.TheVariants as keyword
+use Rattle.swf_jq_tokens.specs.declared.token.Sign.{Sign}
+use Rattle.swf_jq_tokens.specs.declared.token.Sign.TheVariants as sign
+use Rattle.swf_jq_tokens.specs.declared.token.Token.{Token}
+use Rattle.swf_jq_tokens.specs.declared.token.Token.TheVariants as token
 
 unfoldable pub have_keyword : List Item → Tree → ℕ → Keyword → Step
 have_keyword s e at keyword.As = bind_next s at e

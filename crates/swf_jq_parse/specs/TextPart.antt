@@ -1,5 +1,5 @@
 -- Texts with `\(`, piece by piece (jq 1.7 manual, «String interpolation»).
-use Rattle.std.specs.Prelude.{ℕ, Bool, true, List, [], ◌∷◌, Ok, Err, Option, Some, None}
+use Rattle.std.specs.Prelude.{ℕ, true, List, [], ◌∷◌, Ok, Option, Some, None}
 use Rattle.swf_value.specs.Expr.{Tree, lit, index, pipe, binary, apply, no_trees}
 use Rattle.swf_value.specs.Value.{text}
 use Rattle.swf_value.specs.declared.builtin.Builtin.TheVariants as builtins

@@ -1,6 +1,6 @@
 // What ends with an operand.
 ghost use Rattle.std.specs.Prelude.{◌≡◌, IfOk};
-ghost use Rattle.swf_jq_parse.specs.Gives.{Gives};
+ghost use Rattle.swf_jq_tokens.specs.Gives.{Gives};
 ghost use Rattle.swf_jq_parse.specs.Joining.{reduce};
 ghost use Rattle.swf_jq_parse.specs.Closing.{applied, paren_closed, bracket_closed, brace_closed, then_next, elif_next, else_next, if_ended, next_argument};
 

@@ -1,49 +1,8 @@
-// Why a text is no expression.
+// Faults, and letting go of what cannot stand.
 ghost use Rattle.std.specs.Prelude.{◌≡◌};
-ghost use Rattle.swf_jq_parse.specs.declared.fault.ParseFault.TheVariants.{OutOfMemory, Syntax};
+ghost use Rattle.swf_jq_tokens.specs.declared.fault.ParseFault.TheVariants.{Syntax};
 
-use std::alloc::{AllocError, AllocFailed};
-use thiserror::Error;
-
-/// Why a text was not read as an expression: the first fault from left to right, with its place in
-/// bytes from the text's start.
-#[derive(Clone, Copy, Debug, PartialEq, Eq, Error)]
-pub enum ParseFault {
-    /// The text has more than 4,096 bytes.
-    #[error("too long")]
-    TooLong,
-    /// Brackets nest deeper than 64.
-    #[error("too deep at {at}")]
-    TooDeep { at: usize },
-    /// A number has a fraction or an exponent, or is out of range.
-    #[error("no whole number at {at}")]
-    NotWhole { at: usize },
-    /// No built-in has this name and number of arguments.
-    #[error("unknown name at {at}")]
-    UnknownName { at: usize },
-    /// What stands here cannot stand here.
-    #[error("syntax error at {at}")]
-    Syntax { at: usize },
-    /// An allocation failed.
-    #[error("out of memory")]
-    OutOfMemory,
-}
-
-impl From<AllocError> for ParseFault {
-    ghost from_gives = { λ _ e. e ≡ OutOfMemory };
-
-    fn from(_e: AllocError) -> ParseFault {
-        ParseFault::OutOfMemory
-    }
-}
-
-impl<T: Drop> From<AllocFailed<T>> for ParseFault {
-    ghost from_gives = { λ _ e. e ≡ OutOfMemory };
-
-    fn from(_e: AllocFailed<T>) -> ParseFault {
-        ParseFault::OutOfMemory
-    }
-}
+pub use swf_jq_tokens::ParseFault;
 
 /// What cannot stand at a place is let go.
 pub fn refuse<T: Drop, R>(_value: T, at: usize) -> Result<R, ParseFault>

@@ -1,6 +1,6 @@
 // Joining operands by what stands between them.
 ghost use Rattle.std.specs.Prelude.{◌≡◌, ◌<◌, IfOk};
-ghost use Rattle.swf_jq_parse.specs.Gives.{Gives};
+ghost use Rattle.swf_jq_tokens.specs.Gives.{Gives};
 ghost use Rattle.swf_jq_parse.specs.Joining.{joint_level, level, joint_tree, joined, top_level, reduce, is_comparison, least, infix_at, in_value, item_in_value, pending_in_value, pipe_next, comma_next, value_end, may_bind, item_may_bind, pending_may_bind, bind_next};
 
 use crate::fault::{ParseFault, discard, refuse};

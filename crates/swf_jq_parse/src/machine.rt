@@ -1,6 +1,6 @@
 // One token after another.
 ghost use Rattle.std.specs.Prelude.{◌≡◌};
-ghost use Rattle.swf_jq_parse.specs.Gives.{Gives};
+ghost use Rattle.swf_jq_tokens.specs.Gives.{Gives};
 ghost use Rattle.swf_jq_parse.specs.Joining.{reduce};
 ghost use Rattle.swf_jq_parse.specs.Machine.{step, called_next, var_next, bar_next, finish, whole, called_alone};
 
@@ -12,8 +12,8 @@ use crate::mode::Mode;
 use crate::operand::{index_start, list_start, want};
 use crate::stack::{Arguments, Item, Pending, Stack};
 use crate::suffix::{dotted, have, suffix};
-use crate::token::{Sign, Token};
 use std::alloc::Global;
+use swf_jq_tokens::{Sign, Token};
 use swf_value::{Expr, Name};
 
 /// What may stand after a token.

@@ -1,6 +1,6 @@
 // The members of an object.
 ghost use Rattle.std.specs.Prelude.{◌≡◌, IfOk};
-ghost use Rattle.swf_jq_parse.specs.Gives.{Gives};
+ghost use Rattle.swf_jq_tokens.specs.Gives.{Gives};
 ghost use Rattle.swf_jq_parse.specs.Member.{member, member_sign, after_key, member_end, key_lit, variable_member};
 
 use crate::fault::{ParseFault, refuse};
@@ -8,8 +8,8 @@ use crate::mode::Mode;
 use crate::operand::text_expr;
 use crate::stack::{Item, Members, Purpose, Stack};
 use crate::text_part::open_text;
-use crate::token::{Keyword, Sign, Token};
 use std::alloc::{AllocError, Global};
+use swf_jq_tokens::{Keyword, Sign, Token};
 use swf_value::{Expr, Name, Text};
 
 /// The key that a keyword is.
@@ -25,7 +25,7 @@ fn keyword_key(alloc: Global, keyword: Keyword) -> Result<Expr, AllocError>
 fn bind_member(alloc: Global, members: Members, name: Name) -> Result<Mode, ParseFault>
     ensures { Gives (λ m. m) result (Ok (variable_member members name)) }
 {
-    let key = text_expr(name.text().copy(alloc)?);
+    let key = text_expr(name.text().copy()?);
     let members = members.with(key, Some(Expr::var(name)))?;
     Ok(Mode::MemberEnd(members))
 }

@@ -2,15 +2,15 @@
 ghost use Rattle.std.specs.Prelude.{◌≡◌, IfOk};
 ghost use Rattle.swf_value.specs.Value.{text as text_value};
 ghost use Rattle.swf_value.specs.Expr.{lit, index};
-ghost use Rattle.swf_jq_parse.specs.Gives.{Gives};
+ghost use Rattle.swf_jq_tokens.specs.Gives.{Gives};
 ghost use Rattle.swf_jq_parse.specs.Operand.{is_called, called, want, want_keyword, want_sign, list_start, index_start};
 
 use crate::fault::{ParseFault, refuse};
 use crate::mode::Mode;
 use crate::stack::{Item, Members, Pending, Purpose, Stack};
 use crate::text_part::open_text;
-use crate::token::{Keyword, Sign, Token};
 use std::alloc::{AllocError, Global};
+use swf_jq_tokens::{Keyword, Sign, Token};
 use swf_value::{Builtin, Expr, Json, Name, Op, Text};
 
 /// An operand, or its beginning.

@@ -2,20 +2,19 @@
 ghost use Rattle.std.specs.Prelude.{◌≡◌, ◌+◌, ◌*◌, ◌<◌, ◌≤◌, ◌^◌, [], ◌∷◌, length, IfOk, IfErr, MatchOption};
 ghost use Rattle.std.specs.Str.{chars};
 ghost use Rattle.swf_jq_parse.specs.ExpressionText.{IsTextOf, IsRefused};
-ghost use Rattle.swf_jq_parse.specs.Gives.{Fails, Gives};
-ghost use Rattle.swf_jq_parse.specs.Lexer.{lex};
+ghost use Rattle.swf_jq_tokens.specs.Gives.{Fails, Gives};
+ghost use Rattle.swf_jq_tokens.specs.Lexer.{lex};
 ghost use Rattle.swf_jq_parse.specs.Parse.{read_of, parse_of};
 ghost use Rattle.swf_jq_parse.specs.Turn.{reading, name_or_fault, token_read, turned};
-ghost use Rattle.swf_jq_parse.specs.declared.fault.ParseFault.TheVariants.{OutOfMemory};
+ghost use Rattle.swf_jq_tokens.specs.declared.fault.ParseFault.TheVariants.{OutOfMemory};
 ghost use Rattle.swf_jq_parse.specs.declared.mode.Mode.TheVariants as mode;
 
 use crate::fault::{ParseFault, discard};
-use crate::lexer::{is_blank, token};
 use crate::machine::{check_called, finish, step};
 use crate::mode::Mode;
-use crate::nest::Nest;
 use crate::stack::Stack;
 use std::alloc::{AllocError, Global};
+use swf_jq_tokens::{Lexeme, Nest, is_blank, read_token};
 use swf_value::Expr;
 
 /// How many bytes an expression may have.
@@ -129,15 +128,23 @@ fn token_turn<'a>(
     ensures gives { Gives (λ t. reading stack.new nest.new t.mode t.at t.rest.now) result (token_read stack.old nest.old mode at first tail.now) }
     ensures within { IfOk result (λ t. t.at + 4 * length t.rest.now ≤ at + 4 + 4 * length tail.now) }
 {
-    match token(alloc, nest, first, tail, at) {
-        Ok(lexeme) => match step(alloc, stack, mode, at, lexeme.token) {
-            Ok(mode) => Ok(Turn {
-                mode,
-                rest: lexeme.rest,
-                at: lexeme.at,
-            }),
-            Err(fault) => Err(fault),
-        },
+    match read_token(alloc, nest, first, tail, at) {
+        Ok(nested) => {
+            let Lexeme {
+                token,
+                rest,
+                at: end,
+            } = nested.lexeme;
+            let mode = step(alloc, stack, mode, at, token)?;
+            match nested.fault {
+                Some(fault) => Err(first_fault(alloc, mode, fault)),
+                None => Ok(Turn {
+                    mode,
+                    rest,
+                    at: end,
+                }),
+            }
+        }
         Err(fault) => Err(first_fault(alloc, mode, fault)),
     }
 }

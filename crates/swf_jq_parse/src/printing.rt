@@ -11,9 +11,8 @@ ghost use Rattle.swf_jq_parse.specs.Parse.{parse_of};
 ghost use Rattle.std.specs.Str.{encode_utf8_all};
 ghost use Rattle.swf_jq_parse.specs.Print.{literal_text, op_text, var_text, is_term, enclosed, between, print_of, print_members, member_text, arguments_text};
 
-use crate::letters::Letters;
 use std::alloc::{AllocError, Global};
-use swf_value::{Expr, ExprMember, ExprNode, Json, Name, Op, Text, write_json};
+use swf_value::{Expr, ExprMember, ExprNode, Json, Name, Op, Text, TextBuilder, write_json};
 
 /// The text of an expression, with parentheses round each operand that is no term. Within the limits on
 /// texts it is read as the same expression.
@@ -22,14 +21,14 @@ pub fn print(alloc: Global, expr: &Expr) -> Result<Text, AllocError>
     ensures kept { IfOk result (λ _. IsExpression expr.now) }
     ensures read_back { IfOk result (λ t. length (encode_utf8_all t) ≤ 4096 → nesting expr.now ≤ 64 → parse_of t ≡ Ok expr.now) }
 {
-    let mut out = Letters::new(alloc);
+    let mut out = TextBuilder::new(alloc);
     write(alloc, expr, &mut out)?;
-    Ok(out.into_text())
+    out.into_text(alloc)
 }
 
 /// Appends an expression. After an `Err` some of it may stand there.
 #[cycle(print)]
-fn write(alloc: Global, expr: &Expr, out: &mut Letters) -> Result<(), AllocError>
+fn write(alloc: Global, expr: &Expr, out: &mut TextBuilder) -> Result<(), AllocError>
     ensures text { OnOk result (out.new ≡ out.old ++ print_of expr.now) }
     ensures kept { OnOk result (IsExpression expr.now) }
 {
@@ -69,7 +68,7 @@ fn write_between(
     before: &str,
     expr: &Expr,
     after: &str,
-    out: &mut Letters,
+    out: &mut TextBuilder,
 ) -> Result<(), AllocError>
     requires before { IsTrue (is_ascii before.now) }
     requires after { IsTrue (is_ascii after.now) }
@@ -83,7 +82,7 @@ fn write_between(
 
 /// Appends an operand: in parentheses, where it is no term.
 #[cycle(print)]
-fn write_operand(alloc: Global, expr: &Expr, out: &mut Letters) -> Result<(), AllocError>
+fn write_operand(alloc: Global, expr: &Expr, out: &mut TextBuilder) -> Result<(), AllocError>
     ensures text { OnOk result (out.new ≡ out.old ++ enclosed (is_term expr.now) (print_of expr.now)) }
     ensures kept { OnOk result (IsExpression expr.now) }
 {
@@ -101,7 +100,7 @@ fn write_around(
     before: &str,
     expr: &Expr,
     after: &str,
-    out: &mut Letters,
+    out: &mut TextBuilder,
 ) -> Result<(), AllocError>
     requires before { IsTrue (is_ascii before.now) }
     requires after { IsTrue (is_ascii after.now) }
@@ -121,7 +120,7 @@ fn write_both(
     left: &Expr,
     joint: &str,
     right: &Expr,
-    out: &mut Letters,
+    out: &mut TextBuilder,
 ) -> Result<(), AllocError>
     requires { IsTrue (is_ascii joint.now) }
     ensures text { OnOk result
@@ -136,7 +135,12 @@ fn write_both(
 
 /// Appends an index.
 #[cycle(print)]
-fn write_index(alloc: Global, of: &Expr, key: &Expr, out: &mut Letters) -> Result<(), AllocError>
+fn write_index(
+    alloc: Global,
+    of: &Expr,
+    key: &Expr,
+    out: &mut TextBuilder,
+) -> Result<(), AllocError>
     ensures text { OnOk result (out.new ≡ out.old ++ print_of (index of.now key.now)) }
     ensures kept { OnOk result (IsExpression of.now × IsExpression key.now) }
 {
@@ -150,7 +154,7 @@ fn write_if_then(
     alloc: Global,
     condition: &Expr,
     then: &Expr,
-    out: &mut Letters,
+    out: &mut TextBuilder,
 ) -> Result<(), AllocError>
     ensures text { OnOk result (out.new ≡ out.old ++ print_of (if_then condition.now then.now)) }
     ensures kept { OnOk result (IsExpression condition.now × IsExpression then.now) }
@@ -166,7 +170,7 @@ fn write_if_else(
     condition: &Expr,
     then: &Expr,
     otherwise: &Expr,
-    out: &mut Letters,
+    out: &mut TextBuilder,
 ) -> Result<(), AllocError>
     ensures text { OnOk result (out.new ≡ out.old ++ print_of (if_else condition.now then.now otherwise.now)) }
     ensures kept { OnOk result (IsExpression condition.now × IsExpression then.now × IsExpression otherwise.now) }
@@ -183,7 +187,7 @@ fn write_bind(
     of: &Expr,
     name: &Name,
     then: &Expr,
-    out: &mut Letters,
+    out: &mut TextBuilder,
 ) -> Result<(), AllocError>
     ensures text { OnOk result (out.new ≡ out.old ++ print_of (bind of.now name.now then.now)) }
     ensures kept { OnOk result (IsExpression of.now × (is_name name.now ≡ true) × IsExpression then.now) }
@@ -195,7 +199,11 @@ fn write_bind(
 
 /// Appends an object.
 #[cycle(print)]
-fn write_object(alloc: Global, members: &[ExprMember], out: &mut Letters) -> Result<(), AllocError>
+fn write_object(
+    alloc: Global,
+    members: &[ExprMember],
+    out: &mut TextBuilder,
+) -> Result<(), AllocError>
     ensures text { OnOk result (out.new ≡ out.old ++ 123 ∷ (print_members false (pairs_of members.now) ++ 125 ∷ [])) }
     ensures kept { OnOk result (AreMembers (pairs_of members.now)) }
 {
@@ -209,7 +217,7 @@ fn write_object(alloc: Global, members: &[ExprMember], out: &mut Letters) -> Res
 
 /// Appends a member.
 #[cycle(print)]
-fn write_member(alloc: Global, member: &ExprMember, out: &mut Letters) -> Result<(), AllocError>
+fn write_member(alloc: Global, member: &ExprMember, out: &mut TextBuilder) -> Result<(), AllocError>
     ensures text { OnOk result (out.new ≡ out.old ++ member_text member.now.key (value_or_here member.now.key member.now.value)) }
     ensures kept { OnOk result (IsExpression member.now.key × IsExpression (value_or_here member.now.key member.now.value)) }
 {
@@ -222,7 +230,11 @@ fn write_member(alloc: Global, member: &ExprMember, out: &mut Letters) -> Result
 
 /// Appends the arguments of a built-in, if it has any.
 #[cycle(print)]
-fn write_arguments(alloc: Global, arguments: &[Expr], out: &mut Letters) -> Result<(), AllocError>
+fn write_arguments(
+    alloc: Global,
+    arguments: &[Expr],
+    out: &mut TextBuilder,
+) -> Result<(), AllocError>
     ensures text { OnOk result (out.new ≡ out.old ++ arguments_text (trees_of arguments.now)) }
     ensures kept { OnOk result (AreArguments (trees_of arguments.now)) }
 {
@@ -238,7 +250,7 @@ fn write_arguments(alloc: Global, arguments: &[Expr], out: &mut Letters) -> Resu
 }
 
 /// Appends a sign, where something stands before.
-fn write_comma(sign: char, later: bool, out: &mut Letters) -> Result<(), AllocError>
+fn write_comma(sign: char, later: bool, out: &mut TextBuilder) -> Result<(), AllocError>
     ensures { OnOk result (out.new ≡ out.old ++ between sign later) }
 {
     if later { out.push(sign) } else { Ok(()) }
@@ -257,7 +269,7 @@ fn is_term(expr: &Expr) -> bool
 }
 
 /// Appends the name of a variable.
-fn write_var(name: &Name, out: &mut Letters) -> Result<(), AllocError>
+fn write_var(name: &Name, out: &mut TextBuilder) -> Result<(), AllocError>
     ensures text { OnOk result (out.new ≡ out.old ++ var_text name.now) }
     ensures kept { OnOk result (is_name name.now ≡ true) }
 {
@@ -266,13 +278,13 @@ fn write_var(name: &Name, out: &mut Letters) -> Result<(), AllocError>
 }
 
 /// Appends a literal.
-fn write_literal(alloc: Global, value: &Json, out: &mut Letters) -> Result<(), AllocError>
+fn write_literal(alloc: Global, value: &Json, out: &mut TextBuilder) -> Result<(), AllocError>
     requires { is_literal value.now ≡ true }
     ensures text { OnOk result (out.new ≡ out.old ++ literal_text value.now) }
     ensures kept { OnOk result (IsValue value.now) }
 {
     let mut bytes = Vec::new(alloc);
-    write_json(alloc, value, &mut bytes)?;
+    write_json(value, &mut bytes)?;
     match str::from_utf8(bytes.as_slice()) {
         Ok(text) => out.push_str(text),
         Err(_) => unreachable!(),

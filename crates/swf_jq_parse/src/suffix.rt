@@ -1,6 +1,6 @@
 // What may follow an operand.
 ghost use Rattle.std.specs.Prelude.{◌≡◌};
-ghost use Rattle.swf_jq_parse.specs.Gives.{Gives};
+ghost use Rattle.swf_jq_tokens.specs.Gives.{Gives};
 ghost use Rattle.swf_jq_parse.specs.Suffix.{have, have_keyword, have_sign, suffix, dotted};
 
 use crate::closing::{
@@ -12,8 +12,8 @@ use crate::mode::Mode;
 use crate::operand::{field, text_expr};
 use crate::stack::{Joint, Purpose, Stack};
 use crate::text_part::{close_text, open_text, resume_text};
-use crate::token::{Keyword, Sign, Token};
 use std::alloc::Global;
+use swf_jq_tokens::{Keyword, Sign, Token};
 use swf_value::Expr;
 
 /// Whatever may follow an operand.

@@ -1,6 +1,6 @@
 // Texts with `\(`, piece by piece.
 ghost use Rattle.std.specs.Prelude.{◌≡◌, IfOk};
-ghost use Rattle.swf_jq_parse.specs.Gives.{Gives};
+ghost use Rattle.swf_jq_tokens.specs.Gives.{Gives};
 ghost use Rattle.swf_jq_parse.specs.Joining.{reduce};
 ghost use Rattle.swf_jq_parse.specs.TextPart.{plus, plus_piece, plus_text, first_text, open_text, resumed, closed, text_end};
 

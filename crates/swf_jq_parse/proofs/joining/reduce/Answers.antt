@@ -1,4 +1,4 @@
-use Rattle.std.proofs.Common.{◌≡◌, ◌∙◌, ◌∷◌, ap, sym, true, false}
+use Rattle.std.proofs.Common.{◌∙◌, ◌∷◌, ap, sym}
 use Rattle.swf_jq_parse.proofs.Reducing.{reduce-goes, reduce-stops}
 use Rattle.swf_jq_parse.proofs.joining.reduce.Goals as goal
 

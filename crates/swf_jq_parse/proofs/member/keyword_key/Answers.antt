@@ -1,4 +1,4 @@
-use Rattle.std.proofs.Common.{◌≡◌, ◌∙◌, ap, chars}
+use Rattle.std.proofs.Common.{◌∙◌, ap, chars}
 use Rattle.swf_value.specs.Expr.{lit}
 use Rattle.swf_value.specs.Value.{text}
 use Rattle.swf_jq_parse.proofs.Rows.{keyword_chars}

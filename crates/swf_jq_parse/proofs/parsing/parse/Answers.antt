@@ -1,8 +1,7 @@
 use Rattle.std.proofs.Common.{◌≡◌, ◌∙◌, ◌≤◌, ap, chars, length, Err, arith}
-use Rattle.swf_value.specs.Expr.{Tree}
-use Rattle.swf_jq_parse.specs.Gives.{Gives}
+use Rattle.swf_jq_tokens.specs.Gives.{Gives}
 use Rattle.swf_jq_parse.specs.Parse.{parse_of}
-use Rattle.swf_jq_parse.specs.declared.fault.ParseFault.TheVariants as fault
+use Rattle.swf_jq_tokens.specs.declared.fault.ParseFault.TheVariants as fault
 use Rattle.swf_jq_parse.proofs.ExpressionText.{read_clause, refused_clause}
 use Rattle.swf_jq_parse.proofs.Turns.{parse-long, gives-short, fewer_characters}
 use Rattle.swf_jq_parse.proofs.parsing.parse.Goals as goal

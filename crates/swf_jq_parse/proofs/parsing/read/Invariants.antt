@@ -1,5 +1,5 @@
 use Rattle.std.proofs.Common.{◌≡◌, ◌+◌, ◌-◌, ◌*◌, ◌≤◌, [], length}
-use Rattle.swf_jq_parse.specs.Lexer.{lex}
+use Rattle.swf_jq_tokens.specs.Lexer.{lex}
 use Rattle.swf_jq_parse.specs.Parse.{read_of}
 use Rattle.swf_jq_parse.specs.Turn.{reading}
 use Rattle.swf_jq_parse.specs.declared.mode.Mode.TheVariants as mode

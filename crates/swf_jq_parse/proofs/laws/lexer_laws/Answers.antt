@@ -1,5 +1,0 @@
-use Rattle.swf_jq_parse.proofs.TokenSteps.{lex-end, lex-blank, lex-token, lex-fault}
-use Rattle.swf_jq_parse.proofs.laws.lexer_laws.Goals as goal
-
-pub returns : goal.returns
-returns c = (lex-end, lex-blank, lex-token, lex-fault)

@@ -1,6 +1,0 @@
-use Rattle.std.proofs.Common.{◌≡◌, drop}
-use Rattle.swf_jq_parse.specs.Words.{keyword_in}
-use Rattle.swf_jq_parse.proofs.words.keyword_in.Given as goal
-
-abbrev pub invariant-loop-keyword : goal.invariant-loop-keyword
-invariant-loop-keyword l = keyword_in (drop l.keyword-index l.all) l.word ≡ keyword_in l.all l.word

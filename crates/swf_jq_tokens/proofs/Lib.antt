@@ -1,0 +1,9 @@
+pub mod Choices
+pub mod Pieces
+pub mod Fronts
+pub mod Decimals
+pub mod Shorter
+pub mod TokenSteps
+pub mod Lexing
+pub mod LexingNumbers
+pub mod LexingTexts
