@@ -68,7 +68,13 @@ fn refused(alloc: Global) -> Result<Json, AllocError>
     let fault = two(alloc, "kind", "not-in-profile", "place", place)?;
     let mut faults = Vec::new(alloc);
     faults.push(fault)?;
-    two(alloc, "error", "refused", "faults", Json::list(alloc, faults)?)
+    two(
+        alloc,
+        "error",
+        "refused",
+        "faults",
+        Json::list(alloc, faults)?,
+    )
 }
 
 // The value that a reply's line is of.

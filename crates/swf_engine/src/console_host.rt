@@ -1,10 +1,10 @@
 // A host over a reader and a writer: one line an input, one line a reply.
 ghost use Rattle.std.specs.Prelude.{◌≡◌, None};
 
-use swf_value::Bytes;
 use crate::host::{Failed, Host, Input};
 use std::alloc::Global;
 use std::io::{self, BufRead, Write};
+use swf_value::Bytes;
 
 /// The most bytes that a line may have, its newline left out.
 pub const MOST_LINE: usize = 1_048_576;

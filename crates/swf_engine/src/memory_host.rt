@@ -4,9 +4,9 @@ ghost use Rattle.swf_engine.specs.Script.{coming, play, first_play, input_taken,
 ghost use Rattle.swf_engine.specs.Told.{after_next, AfterSay};
 ghost use Rattle.swf_engine.specs.Causes.{HasCause};
 
-use swf_value::Bytes;
 use crate::host::{Failed, Host, Input, Said};
 use std::alloc::{AllocError, Global};
+use swf_value::Bytes;
 
 /// One turn of a script.
 #[derive(Drop)]

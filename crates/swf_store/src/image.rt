@@ -3,9 +3,9 @@ ghost use Rattle.std.specs.Prelude.{◌≡◌, ◌≤◌, ◌+◌, ◌-◌, ◌+
 ghost use Rattle.swf_store.specs.Put.{put};
 ghost use Rattle.swf_store.specs.Files.{bytes_of, with_bytes};
 
-use swf_value::Bytes;
 use std::alloc::{AllocError, Global};
 use std::mem;
+use swf_value::Bytes;
 
 /// One of the three files of a store.
 #[derive(Clone, Copy, Debug, PartialEq, Eq)]

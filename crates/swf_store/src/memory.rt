@@ -6,9 +6,9 @@ ghost use Rattle.swf_store.specs.Replay.{is_in};
 
 use crate::replay::{Files, replay};
 use crate::{Call, Failed, File, Image, OutOfMemory, Store};
-use swf_value::Bytes;
 use std::alloc::{AllocError, Global};
 use std::marker::Model;
+use swf_value::Bytes;
 
 /// Three files in memory. The calls whose numbers, from 0, are on its list fail, and so do those that find no memory.
 #[derive(Drop)]

@@ -5,9 +5,9 @@ ghost use Rattle.swf_store.specs.Replay.{step, replay as replayed, and_write, wh
 
 use crate::memory::fails;
 use crate::{Call, File, Image};
-use swf_value::Bytes;
 use std::alloc::{AllocError, Global};
 use std::marker::Model;
+use swf_value::Bytes;
 
 /// A write of a file, and whether it was done. One that failed may have reached the file in part.
 #[derive(Drop)]

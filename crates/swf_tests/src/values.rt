@@ -1,10 +1,11 @@
 // What is read and written, on examples that were worked out by hand.
-use swf_value::{
-    Json, JsonNode, Text, ValueFault, depth, may_cross, read_json, read_json_within, size, size_within, write_json,
-};
 use std::alloc::{AllocError, Global};
 use std::test::Fail;
 use std::thread;
+use swf_value::{
+    Json, JsonNode, Text, ValueFault, depth, may_cross, read_json, read_json_within, size,
+    size_within, write_json,
+};
 
 /// The text of a value.
 fn text_of(alloc: Global, value: &Json) -> Result<Vec<u8>, AllocError> {
@@ -158,7 +159,10 @@ fn grows_in_place_or_apart(rt: HostRuntime) -> Result<(), Fail> {
         b"{\"a\":1,\"b\":2,\"c\":3,\"d\":1,\"e\":5}".as_slice()
     );
     assert_eq!(rt; depth(&object), 1);
-    assert_eq!(rt; text_of(alloc, &before)?.as_slice(), b"{\"b\":[[]],\"d\":1}".as_slice());
+    assert_eq!(rt;
+        text_of(alloc, &before)?.as_slice(),
+        b"{\"b\":[[]],\"d\":1}".as_slice()
+    );
     assert_eq!(rt; (size(&before), size_within(&before, 4)), (6, 4));
     Ok(())
 }
