@@ -8,9 +8,9 @@ use Rattle.swf_engine.proofs.reader.task_of.Goals.{in_default-as_slice-via-then-
 
 pub returns-in_default-as_slice : goal.returns-in_default-as_slice
 returns-in_default-as_slice c =
-    let seen : object (members_of c.in-Object.members.items) ≡ c.args.value.now = sym (ap node_value c.in-Object.is) ∙ c.node.ensures.value in
-    let other : length c.in-Object.members.items ≡ 1 → ⊥ = elim c.in_default-as_slice.branch [
+    let seen : object c.in-Object.members ≡ c.args.value.now = sym (ap node_value c.in-Object.is) ∙ c.node.ensures.value in
+    let other : length c.as_slice.result.now ≡ 1 → ⊥ = elim c.in_default-as_slice.branch [
       | in_default-as_slice-via-then-as_slice-lt1 w ↦ λ e. grind arith
       | in_default-as_slice-via-else-as_slice-lt1+else-this-lt2 w ↦ λ e. grind arith
     ] in
-    not_one_task c.in-Object.members.items other ∙ ap task_of seen
+    not_one_task c.as_slice.result.now other ∙ ap (λ ms. task_of (object ms)) c.as_slice.ensures ∙ ap task_of seen
