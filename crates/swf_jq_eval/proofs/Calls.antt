@@ -1,17 +1,28 @@
 -- Built-ins by their number of arguments.
-use Rattle.std.proofs.Common.{◌≡◌, ◌∙◌, ◌<◌, ℕ, List, [], ◌∷◌, length, get_or, drop, suc, refl, sym, ap, arith, Ok}
+use Rattle.std.proofs.Common.{◌≡◌, ◌∙◌, ◌<◌, ◌+◌, ℕ, Bool, true, zero, if◌then◌else◌, List, [], ◌∷◌, length, get_or, drop, suc, refl, sym, ap, arith, Ok, Option, Some, None, Result, subst}
 use Rattle.swf_value.specs.declared.builtin.Builtin.{Builtin}
 use Rattle.swf_value.specs.declared.builtin.Builtin.TheVariants as builtins
 use Rattle.swf_value.specs.Expr.{Tree}
-use Rattle.swf_value.specs.ExprNode.{trees_of, pairs_of, value_or_here}
+use Rattle.swf_value.specs.ExprNode.{node_tree, trees_of, pairs_of, value_or_here}
+use Rattle.swf_value.specs.declared.expr.ExprNode.TheVariants as nodes
+use Rattle.std.specs.Option.{option_map_or}
 use Rattle.swf_value.specs.declared.expr.ExprMember.{ExprMember}
 use Rattle.swf_value.specs.Node.{items_of}
-use Rattle.swf_value.specs.Value.{Value, Items, list}
+use Rattle.swf_value.specs.Value.{Value, Items, boolean, list}
 use Rattle.swf_value.specs.Expr.{pair}
 use Rattle.swf_jq_builtins.proofs.Lists.{values_of_items_of}
 use Rattle.swf_jq_builtins.specs.Builtins.{plain, with_one}
-use Rattle.swf_jq_eval.specs.Run.{Run, made_of, over, across, each, spread, spend, clean, gave}
-use Rattle.swf_jq_eval.specs.Outputs.{Scope, run, runs, objects, alone, with_argument, applied, ranged, array_of}
+use Rattle.swf_jq_eval.specs.Run.{Ending, Run, gives, made, made_of, over, across, each, spread, spend, clean, gave, same_truth, until, decided, ended}
+use Rattle.swf_jq_eval.specs.Goes.{ahead, Comes, Goes, ending_of}
+use Rattle.swf_jq_eval.specs.declared.out.Ending.{Ending as Ends}
+use Rattle.swf_jq_eval.specs.declared.out.Stop.{Stop}
+use Rattle.swf_value.specs.declared.expr.ExprNode.{ExprNode}
+use Rattle.swf_jq_eval.specs.declared.out.Out.{Out}
+use Rattle.swf_jq_eval.specs.declared.out.Outputs.{Outputs}
+use Rattle.swf_jq_eval.proofs.Runs.{made_from}
+use Rattle.swf_jq_builtins.specs.Operations.{is_true}
+use Rattle.std.specs.List.{list_any}
+use Rattle.swf_jq_eval.specs.Outputs.{Scope, run, node, runs, objects, alone, with_argument, applied, ranged, array_of}
 
 pub alone_other : (b : Builtin) (v : Value) → (b ≡ builtins.Empty → ⊥) → (b ≡ builtins.Error → ⊥) → made_of (plain b v) ≡ alone b v
 alone_other builtins.Empty v h k = absurd (h refl)
@@ -52,3 +63,29 @@ pub objects_first : (ms : List ExprMember) (m : ExprMember) (o : Value) (r : Sco
     → objects (pair m.key (value_or_here m.key m.value) (pairs_of (drop 1 ms))) o r v ≡ objects (pairs_of ms) o r v
 objects_first [] m o r v h e = absurd (omega arith)
 objects_first (n ∷ ms) m o r v h e = λ i. objects (pair (e i).key (value_or_here (e i).key (e i).value) (pairs_of ms)) o r v
+
+-- a value with an output of the truth that is looked for
+pub until_found : (want : Bool) (f : Value → Run) (xs : List Value) (i : ℕ) (x : Value) (mid new : Out) (o : Outputs) → i < length xs → x ≡ get_or xs i x
+    → Comes mid (f x) new (Ok o) → list_any (λ v. same_truth (is_true v) want) o.values.items ≡ true → ahead new (made (boolean want)) ≡ ahead mid (until want f (drop i xs))
+until_found want f [] i x mid new o l q h b = absurd (omega (arith, l))
+until_found want f (y ∷ xs) zero x mid new o l q h b =
+    let F = λ (vs : List Value) (e : Ending). if list_any (λ v. same_truth (is_true v) want) vs then made (boolean want) else ended e (until want f xs) in
+    ap (λ (c : Bool). ahead new (if c then made (boolean want) else ended (ending_of o.end) (until want f xs))) (sym b)
+    ∙ made_from F mid new (f x) o h ∙ ap (λ z. ahead mid (decided want (f z) (until want f xs))) q
+until_found want f (y ∷ xs) (suc i) x mid new o l q h b = until_found want f xs i x mid new o (omega (arith, l)) q h b
+
+-- a second expression, or the input where there is none
+pub choose_is : (c a : _) (o : _) (r : Scope) (v : Value)
+    → over (run c.value r v) (λ x. if is_true x then run a.value r v else option_map_or (λ e. run e.value r v) o (gives v)) ≡ node (node_tree (nodes.If c a o)) r v
+choose_is c a None r v = refl
+choose_is c a (Some b) r v = refl
+
+pub choose_goes : (old new : Out) (g : Result Ends Stop) (n : ExprNode) (c a : _) (o : _) (d e : Tree) (r : Scope) (v : Value) → n ≡ nodes.If c a o → d ≡ c.value → e ≡ a.value
+    → Goes old (over (run d r v) (λ x. if is_true x then run e r v else option_map_or (λ e. run e.value r v) o (gives v))) new g → Goes old (node (node_tree n) r v) new g
+choose_goes old new g n c a o d e r v is p q h =
+    subst (λ s. Goes old s new g)
+    ((λ i. over (run (p i) r v) (λ x. if is_true x then run (q i) r v else option_map_or (λ e. run e.value r v) o (gives v))) ∙ choose_is c a o r v ∙ sym (ap (λ m. node (node_tree m) r v) is)) h
+
+pub objects_goes : (old new : Out) (g : Result Ends Stop) (ms : List ExprMember) (m : ExprMember) (o : Value) (r : Scope) (v : Value) → 0 < length ms → m ≡ get_or ms 0 m
+    → Goes old (objects (pair m.key (value_or_here m.key m.value) (pairs_of (drop 1 ms))) o r v) new g → Goes old (objects (pairs_of ms) o r v) new g
+objects_goes old new g ms m o r v l e h = subst (λ s. Goes old s new g) (objects_first ms m o r v l e) h

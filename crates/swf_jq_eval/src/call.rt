@@ -218,13 +218,20 @@ fn rebuild(alloc: Global, outer: Result<Outputs, Stop>, out: &mut Out) -> Result
     match end {
         Ending::Clean => {
             let list = Json::list(alloc, values)?;
-            if depth(&list) > DEEPEST {
-                return raise_text(alloc, "too deep", out);
-            }
-            make_of(alloc, plain(alloc, Builtin::FromEntries, &list), out)
+            rebuild_from(alloc, &list, out)
         }
         Ending::Raised(error) => Ok(Ending::Raised(error)),
     }
+}
+
+/// The object of a list of entries, which is made on the way.
+fn rebuild_from(alloc: Global, list: &Json, out: &mut Out) -> Result<Ending, Stop>
+    ensures { Goes out.old (rebuilt_from list.now) out.new result }
+{
+    if depth(list) > DEEPEST {
+        return raise_text(alloc, "too deep", out);
+    }
+    make_of(alloc, plain(alloc, Builtin::FromEntries, list), out)
 }
 
 /// The items in the order of the keys that an expression makes of them.

@@ -1,5 +1,6 @@
 // What each form of an expression gives for an input.
 ghost use Rattle.std.specs.Prelude.{◌≡◌, ◌∷◌, filter, true, false, IfOk, if◌then◌else◌};
+ghost use Rattle.std.specs.Option.{option_map_or};
 ghost use Rattle.swf_value.specs.ExprNode.{node_tree};
 ghost use Rattle.swf_value.specs.Value.{Value, boolean, list, no_items, object, no_members};
 ghost use Rattle.swf_jq_builtins.specs.Operations.{is_true, index_of, parts_of, operate, negated};
@@ -83,9 +84,8 @@ fn level(
         ExprNode::List(None) => empty_list(alloc, out),
         ExprNode::List(Some(of)) => list_of(alloc, of, scope, input, out),
         ExprNode::Object(members) => object(alloc, members, &Chosen::Nothing, scope, input, out),
-        ExprNode::If(condition, first, None) => if_then(alloc, condition, first, scope, input, out),
-        ExprNode::If(condition, first, Some(second)) => {
-            if_else(alloc, condition, first, second, scope, input, out)
+        ExprNode::If(condition, first, second) => {
+            choose(alloc, condition, first, second, scope, input, out)
         }
         ExprNode::Bind(of, name, inside) => bind(alloc, of, name.text(), inside, scope, input, out),
         ExprNode::Apply(builtin, arguments) => {
@@ -405,6 +405,26 @@ fn list_of(
     ensures { Goes out.old (gathered (run of.now (scope_of scope.now) input.now) (λ vs. made (list_with vs))) out.new result }
 {
     make_list(alloc, all(alloc, of, scope, input, out), out)
+}
+
+/// The outputs of one of two expressions, or the input where there is no second one.
+#[cycle(eval)]
+#[inline(never)]
+fn choose(
+    alloc: Global,
+    condition: &Expr,
+    first: &Expr,
+    second: &Option<Box<Expr>>,
+    scope: &Scope<'_>,
+    input: &Json,
+    out: &mut Out,
+) -> Result<Ending, Stop>
+    ensures { Goes out.old (over (run condition.now (scope_of scope.now) input.now) (λ x. if is_true x then run first.now (scope_of scope.now) input.now else option_map_or (λ e. run e.value (scope_of scope.now) input.now) second.now (gives input.now))) out.new result }
+{
+    match second {
+        None => if_then(alloc, condition, first, scope, input, out),
+        Some(second) => if_else(alloc, condition, first, second, scope, input, out),
+    }
 }
 
 /// The outputs of an expression where the condition is true, and else the input.

@@ -39,12 +39,12 @@ pub fn object(
 ) -> Result<Ending, Stop>
     ensures { Goes out.old (objects (pairs_of members.now) (object (members_so_far chosen.now)) (scope_of scope.now) input.now) out.new result }
 {
-    match members {
-        [] => {
+    match members.split_first() {
+        None => {
             let made = made_of(alloc, chosen)?;
             make(alloc, made, out)
         }
-        [member, rest @ ..] => keyed(alloc, member, rest, chosen, scope, input, out),
+        Some((member, rest)) => keyed(alloc, member, rest, chosen, scope, input, out),
     }
 }
 

@@ -1,18 +1,22 @@
 -- What each form does with each output.
-use Rattle.std.proofs.Common.{◌≡◌, ◌∙◌, ◌∷◌, if◌then◌else◌, ap, sym, subst, refl, true, false, codes, Some, None, arith}
+use Rattle.std.proofs.Common.{◌≡◌, ◌∙◌, ◌∷◌, List, if◌then◌else◌, ap, sym, subst, refl, rules, true, false, codes, Some, None, arith}
 use Rattle.swf_value.specs.Node.{node_value, items_of}
-use Rattle.swf_value.specs.Value.{Value, boolean, list}
+use Rattle.swf_value.specs.Value.{Value, boolean, list, object}
 use Rattle.swf_value.specs.ExprNode.{node_tree}
 use Rattle.swf_value.specs.declared.expr.ExprNode.TheVariants as nodes
 use Rattle.swf_jq_builtins.specs.Builtins.{with_one}
 use Rattle.swf_jq_builtins.specs.Operations.{is_true, index_of, operate}
 use Rattle.swf_jq_builtins.specs.Outcome.{several_of}
-use Rattle.swf_jq_eval.specs.Run.{Run, clean, gave, turn, gives, made, made_of, answered, over, spread, until}
+use Rattle.swf_jq_eval.specs.Run.{Run, clean, gave, turn, gives, made, made_of, answered, over, spread, same_truth, until}
 use Rattle.swf_jq_eval.specs.Outputs.{run, node, with_argument, sorted_by, key_by}
 use Rattle.swf_jq_eval.specs.Names.{scope_of}
+use Rattle.swf_jq_eval.specs.Chosen.{members_so_far}
 use Rattle.swf_jq_eval.specs.Goes.{Goes}
-use Rattle.swf_jq_eval.proofs.Runs.{over_one}
-use Rattle.swf_jq_eval.proofs.Calls.{call_two, across_list, each_is_over, with_other}
+use Rattle.std.specs.List.{list_any}
+use Rattle.std.specs.Option.{option_map_or}
+use Rattle.swf_jq_eval.proofs.Runs.{over_one, goes_from}
+use Rattle.swf_jq_eval.proofs.Calls.{call_two, across_list, each_is_over, objects_first, with_other, until_found, choose_goes}
+use Rattle.swf_jq_eval.proofs.Weights.{positive}
 use Rattle.swf_jq_eval.proofs.+eval.Goals as goal
 
 pub call::all_of-returns-in-List : goal.call::all_of-returns-in-List
@@ -72,7 +76,7 @@ search::each_part-returns-in-Values t c =
 pub search::each_key-returns : goal.search::each_key-returns
 search::each_key-returns t c =
     let g = key_by (λ (x : Value). run c.args.expr.now (scope_of c.args.scope.now) x) in
-    subst (λ s. Goes c.args.out.now s c.each.new.out c.each.result) (each_is_over _ g ∙ ap (λ vs. over (gave vs clean) g) c.in_ok-copies-outer.ensures)
+    subst (λ s. Goes c.args.out.now s c.each.new.out c.each.result) (each_is_over _ g ∙ ap (λ vs. over (gave vs clean) g) c.in_ok-copies.ensures)
     (c.each.ensures g (λ x o r o' h. h))
 
 pub forms::level-returns-in-Index : goal.forms::level-returns-in-Index
@@ -105,20 +109,25 @@ forms::level-returns-in-Binary t c =
     let v = c.args.input.now in
     subst (λ s. Goes c.args.out.now s c.binary.new.out c.binary.result) ((λ i. over (run (c.deref-in-Binary-2.ensures i) r v) (λ y. over (run (c.deref-in-Binary.ensures i) r v) (λ x. made_of (operate c.in-Binary.op x y)))) ∙ sym (ap (λ n. node (node_tree n) r v) (c.in-Binary.is))) c.binary.ensures
 
-pub forms::level-returns-in-If-default-default-None : goal.forms::level-returns-in-If-default-default-None
-forms::level-returns-in-If-default-default-None t c =
-    let r = scope_of c.args.scope.now in
-    let v = c.args.input.now in
-    subst (λ s. Goes c.args.out.now s c.if_then.new.out c.if_then.result) ((λ i. over (run (c.deref-in-If-default-default-None.ensures i) r v) (λ x. if is_true x then run (c.deref-in-If-default-default-None-2.ensures i) r v else gives v)) ∙ sym (ap (λ n. node (node_tree n) r v) (c.in-If-default-default-None.is ∙ ap (λ o. nodes.If c.in-If-default-default-None.condition c.in-If-default-default-None.first o) c.in-If-default-default-None.field-2-is))) c.if_then.ensures
-
-pub forms::level-returns-in-If-default-default-Some : goal.forms::level-returns-in-If-default-default-Some
-forms::level-returns-in-If-default-default-Some t c =
-    let r = scope_of c.args.scope.now in
-    let v = c.args.input.now in
-    subst (λ s. Goes c.args.out.now s c.if_else.new.out c.if_else.result) ((λ i. over (run (c.deref-in-If-default-default-Some.ensures i) r v) (λ x. if is_true x then run (c.deref-in-If-default-default-Some-2.ensures i) r v else run (c.deref-in-If-default-default-Some-3.ensures i) r v)) ∙ sym (ap (λ n. node (node_tree n) r v) (c.in-If-default-default-Some.is ∙ ap (λ o. nodes.If c.in-If-default-default-Some.condition c.in-If-default-default-Some.first o) c.in-If-default-default-Some.field-2-is))) c.if_else.ensures
-
 pub forms::level-returns-in-Bind : goal.forms::level-returns-in-Bind
 forms::level-returns-in-Bind t c =
     let r = scope_of c.args.scope.now in
     let v = c.args.input.now in
     subst (λ s. Goes c.args.out.now s c.bind.new.out c.bind.result) ((λ i. over (run (c.deref-in-Bind.ensures i) r v) (λ y. run (c.deref-in-Bind-2.ensures i) ((c.text-in-Bind.ensures.text i, y) ∷ r) v)) ∙ sym (ap (λ n. node (node_tree n) r v) (c.in-Bind.is))) c.bind.ensures
+
+pub object::keyed-over-over-requires : goal.object::keyed-over-over-requires
+object::keyed-over-over-requires t c = search (rules, positive)
+
+pub search::until-returns-then-has_truth : goal.search::until-returns-then-has_truth
+search::until-returns-then-has_truth t c =
+    let f = λ (x : Value). run c.args.expr.now (scope_of c.args.scope.now) x in
+    let o = c.in_ok-values.field-0 in
+    let seen : list_any (λ v. same_truth (is_true v) c.args.want) o.values.items ≡ true =
+    ap (λ (w : List Value). list_any (λ v. same_truth (is_true v) c.args.want) w) (sym c.deref.ensures.value) ∙ sym c.has_truth.ensures ∙ c.if-has_truth.true in
+    goes_from c.args.out.now c.all.new.out c.make_truth.new.out (until c.args.want f c.args.values.now) (made (boolean c.args.want)) c.make_truth.result
+    (until_found c.args.want f c.args.values.now c.loop-x.x-index c.x-item.result c.loop-x.out c.all.new.out o c.loop-x-test.true c.x-item.is c.in_ok-values.ensures seen ∙ c.loop-x.invariant)
+    c.make_truth.ensures
+
+pub forms::level-returns-in-If : goal.forms::level-returns-in-If
+forms::level-returns-in-If t c =
+    choose_goes c.args.out.now c.choose.new.out c.choose.result c.args.level.now c.in-If.condition c.in-If.first c.in-If.second _ _ _ _ c.in-If.is c.deref-in-If.ensures c.deref-in-If-2.ensures c.choose.ensures

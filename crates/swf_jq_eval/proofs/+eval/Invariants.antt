@@ -1,5 +1,6 @@
 -- How far the expressions are from being taken apart, and what has come of those of a search.
 use Rattle.std.proofs.Common.{◌≡◌, ◌+◌, ◌*◌, drop}
+use Rattle.std.specs.Option.{option_map_or}
 use Rattle.swf_value.specs.ExprNode.{node_tree, trees_of, pairs_of, value_or_here, weight, weight_trees, weight_pairs}
 use Rattle.swf_jq_eval.specs.Run.{until}
 use Rattle.swf_jq_eval.specs.Outputs.{run}
@@ -48,6 +49,9 @@ decreases-forms::negative l = 16 * (weight l.of.now) + 20
 
 abbrev pub decreases-forms::list_of : goal.decreases-forms::list_of
 decreases-forms::list_of l = 16 * (weight l.of.now) + 20
+
+abbrev pub decreases-forms::choose : goal.decreases-forms::choose
+decreases-forms::choose l = 16 * (weight l.condition.now + weight l.first.now + option_map_or (λ e. weight e.value) l.second.now 0) + 22
 
 abbrev pub decreases-forms::if_then : goal.decreases-forms::if_then
 decreases-forms::if_then l = 16 * (weight l.condition.now + weight l.first.now) + 20
