@@ -11,7 +11,9 @@ ghost use Rattle.swf_jq_eval.specs.Goes.{Goes, Comes};
 
 use crate::call::call;
 use crate::object::{Chosen, object};
-use crate::out::{Ending, Out, Outputs, Stop, answer, count, give, make, make_of, make_truth, over, spread};
+use crate::out::{
+    Ending, Out, Outputs, Stop, answer, count, give, make, make_of, make_truth, over, spread,
+};
 use crate::scope::{Scope, give_named};
 use std::alloc::{AllocError, Global};
 use swf_jq_builtins::{index, is_true, negate, operate, parts};

@@ -194,12 +194,7 @@ fn key_of(
 }
 
 /// The list of values in the order of their keys, where those end clean.
-fn make_sorted(
-    alloc: Global,
-    values: &[Json],
-    keys: Outputs,
-    out: &mut Out,
-) -> Result<Ending, Stop>
+fn make_sorted(alloc: Global, values: &[Json], keys: Outputs, out: &mut Out) -> Result<Ending, Stop>
     ensures { Goes out.old (ended (ending_of keys.end) (made (list_with (by_keys values.now keys.values.items)))) out.new result }
 {
     let Outputs { values: keys, end } = keys;
