@@ -14,11 +14,11 @@ use Rattle.swf_jq_builtins.proofs.Lists.{values_of_items_of}
 use Rattle.swf_jq_builtins.specs.Builtins.{plain, with_one}
 use Rattle.swf_jq_eval.specs.Run.{Ending, Run, gives, made, made_of, over, across, each, spread, spend, clean, gave, same_truth, until, decided, ended}
 use Rattle.swf_jq_eval.specs.Goes.{ahead, Comes, Goes, ending_of}
-use Rattle.swf_jq_eval.specs.declared.out.Ending.{Ending as Ends}
-use Rattle.swf_jq_eval.specs.declared.out.Stop.{Stop}
+use Rattle.swf_jq_eval.specs.declared.outputs.Ending.{Ending as Ends}
+use Rattle.swf_jq_eval.specs.declared.outputs.Stop.{Stop}
 use Rattle.swf_value.specs.declared.expr.ExprNode.{ExprNode}
-use Rattle.swf_jq_eval.specs.declared.out.Out.{Out}
-use Rattle.swf_jq_eval.specs.declared.out.Outputs.{Outputs}
+use Rattle.swf_jq_eval.specs.declared.outputs.Out.{Out}
+use Rattle.swf_jq_eval.specs.declared.outputs.Outputs.{Outputs}
 use Rattle.swf_jq_eval.proofs.Runs.{made_from}
 use Rattle.swf_jq_builtins.specs.Operations.{is_true}
 use Rattle.std.specs.List.{list_any}

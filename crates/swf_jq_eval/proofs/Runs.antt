@@ -1,11 +1,11 @@
 -- Runs that follow one another.
 use Rattle.std.proofs.Common.{◌≡◌, ◌+◌, ◌<◌, ◌≤◌, ℕ, List, [], ◌∷◌, ◌++◌, Result, Ok, Err, refl, sym, ap, ◌∙◌, subst, arith, zero, suc, length, get_or, drop, append-nil, append_assoc}
-use Rattle.swf_jq_eval.specs.declared.out.Ending.{Ending as Ends}
-use Rattle.swf_jq_eval.specs.declared.out.Ending.TheVariants as endings
-use Rattle.swf_jq_eval.specs.declared.out.Stop.{Stop}
-use Rattle.swf_jq_eval.specs.declared.out.Stop.TheVariants as stops
-use Rattle.swf_jq_eval.specs.declared.out.Out.{Out}
-use Rattle.swf_jq_eval.specs.declared.out.Outputs.{Outputs}
+use Rattle.swf_jq_eval.specs.declared.outputs.Ending.{Ending as Ends}
+use Rattle.swf_jq_eval.specs.declared.outputs.Ending.TheVariants as endings
+use Rattle.swf_jq_eval.specs.declared.outputs.Stop.{Stop}
+use Rattle.swf_jq_eval.specs.declared.outputs.Stop.TheVariants as stops
+use Rattle.swf_jq_eval.specs.declared.outputs.Out.{Out}
+use Rattle.swf_jq_eval.specs.declared.outputs.Outputs.{Outputs}
 use Rattle.swf_jq_eval.specs.Run.{Ending, clean, raised, Run, gave, gives, spend, turn, after, followed_by, each, over}
 use Rattle.swf_value.specs.Value.{Value, null}
 use Rattle.swf_jq_eval.specs.Goes.{ending_of, limit, ahead, Goes, Comes}

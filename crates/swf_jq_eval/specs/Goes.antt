@@ -3,12 +3,12 @@ use Rattle.std.specs.Prelude.{◌≡◌, ◌+◌, ◌<◌, ◌≤◌, ℕ, List,
 use Rattle.swf_value.specs.Members.{put}
 use Rattle.swf_value.specs.Value.{Value, Members, no_members}
 use Rattle.swf_jq_eval.specs.declared.vars.Variable.{Variable}
-use Rattle.swf_jq_eval.specs.declared.out.Ending.{Ending as Ends}
-use Rattle.swf_jq_eval.specs.declared.out.Ending.TheVariants as endings
-use Rattle.swf_jq_eval.specs.declared.out.Stop.{Stop}
-use Rattle.swf_jq_eval.specs.declared.out.Stop.TheVariants as stops
-use Rattle.swf_jq_eval.specs.declared.out.Out.{Out}
-use Rattle.swf_jq_eval.specs.declared.out.Outputs.{Outputs}
+use Rattle.swf_jq_eval.specs.declared.outputs.Ending.{Ending as Ends}
+use Rattle.swf_jq_eval.specs.declared.outputs.Ending.TheVariants as endings
+use Rattle.swf_jq_eval.specs.declared.outputs.Stop.{Stop}
+use Rattle.swf_jq_eval.specs.declared.outputs.Stop.TheVariants as stops
+use Rattle.swf_jq_eval.specs.declared.outputs.Out.{Out}
+use Rattle.swf_jq_eval.specs.declared.outputs.Outputs.{Outputs}
 use Rattle.swf_jq_eval.specs.Run.{Ending, clean, raised, Run, gave, spend, prefixed}
 
 -- the turns that an evaluation may take

@@ -6,7 +6,7 @@ ghost use Rattle.swf_jq_eval.specs.Goes.{IsAnswer, ending_of};
 ghost use Rattle.swf_jq_eval.specs.Evaluate.{end_for, values_shown, end_shown, first_in, first_shown};
 
 use crate::forms;
-use crate::out::{Ending, Out, Outputs, Stop, is_over};
+use crate::outputs::{Ending, Out, Outputs, Stop, is_over};
 use crate::scope::Scope;
 use crate::vars::{Values, Vars};
 use std::alloc::{AllocError, Global};

@@ -11,7 +11,7 @@ ghost use Rattle.swf_jq_eval.specs.Names.{scope_of};
 ghost use Rattle.swf_jq_eval.specs.Goes.{Goes, Comes, ending_of};
 
 use crate::forms::{all, make_list};
-use crate::out::{
+use crate::outputs::{
     Ending, Out, Outputs, Stop, count, make, make_of, over, raise, raise_text, room, spread,
 };
 use crate::scope::Scope;

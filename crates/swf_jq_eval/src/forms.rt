@@ -11,7 +11,7 @@ ghost use Rattle.swf_jq_eval.specs.Goes.{Goes, Comes};
 
 use crate::call::call;
 use crate::object::{Chosen, object};
-use crate::out::{
+use crate::outputs::{
     Ending, Out, Outputs, Stop, answer, count, give, make, make_of, make_truth, over, spread,
 };
 use crate::scope::{Scope, give_named};

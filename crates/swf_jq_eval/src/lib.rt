@@ -5,7 +5,7 @@ mod answer;
 mod call;
 mod forms;
 mod object;
-mod out;
+mod outputs;
 mod scope;
 mod search;
 mod vars;

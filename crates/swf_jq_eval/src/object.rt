@@ -12,7 +12,7 @@ ghost use Rattle.swf_jq_eval.specs.Chosen.{members_so_far};
 ghost use Rattle.swf_jq_eval.specs.Goes.{Goes, Comes};
 
 use crate::forms::{all, eval};
-use crate::out::{Ending, Out, Outputs, Stop, answer, count, give, make, over, raise_text};
+use crate::outputs::{Ending, Out, Outputs, Stop, answer, count, give, make, over, raise_text};
 use crate::scope::Scope;
 use std::alloc::{AllocError, Global};
 use swf_jq_builtins::index;
@@ -132,7 +132,7 @@ fn members_of_input(
     input: &Json,
     out: &mut Out,
 ) -> Result<Outputs, Stop>
-    ensures { Comes out.old (run (index here key.now) (scope_of scope.now) input.now) out.new result }
+    ensures { Comes out.old (turn (over (run key.now (scope_of scope.now) input.now) (λ y. turn (answered (index_of input.now y))))) out.new result }
 {
     let mut inner = Out {
         turns: out.turns,
@@ -157,7 +157,7 @@ fn member_of_input(
     input: &Json,
     out: &mut Out,
 ) -> Result<Ending, Stop>
-    ensures { Goes out.old (run (index here key.now) (scope_of scope.now) input.now) out.new result }
+    ensures { Goes out.old (turn (over (run key.now (scope_of scope.now) input.now) (λ y. turn (answered (index_of input.now y))))) out.new result }
 {
     count(&mut out.turns, 1)?;
     at_keys(alloc, key, scope, input, out)
@@ -173,7 +173,7 @@ fn at_keys(
     input: &Json,
     out: &mut Out,
 ) -> Result<Ending, Stop>
-    ensures { Goes out.old (over (run key.now (scope_of scope.now) input.now) (λ y. over (turn (gives input.now)) (λ x. answered (index_of x y)))) out.new result }
+    ensures { Goes out.old (over (run key.now (scope_of scope.now) input.now) (λ y. turn (answered (index_of input.now y)))) out.new result }
 {
     over(
         all(alloc, key, scope, input, out),

@@ -6,7 +6,7 @@ ghost use Rattle.swf_jq_eval.specs.Outputs.{named};
 ghost use Rattle.swf_jq_eval.specs.Run.{gives};
 ghost use Rattle.swf_jq_eval.specs.Goes.{Goes};
 
-use crate::out::{Ending, Out, Stop, give};
+use crate::outputs::{Ending, Out, Stop, give};
 use crate::vars::Variable;
 use swf_value::{Json, Text, same_texts};
 

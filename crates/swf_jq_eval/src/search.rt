@@ -10,7 +10,7 @@ ghost use Rattle.swf_jq_eval.specs.Names.{scope_of};
 ghost use Rattle.swf_jq_eval.specs.Goes.{Goes, Comes, ending_of};
 
 use crate::forms::{all, eval};
-use crate::out::{Ending, Out, Outputs, Stop, each, make, make_truth};
+use crate::outputs::{Ending, Out, Outputs, Stop, each, make, make_truth};
 use crate::scope::Scope;
 use std::alloc::{AllocError, Global};
 use swf_jq_builtins::{Several, copies, is_true, sort_by_keys};

@@ -2,7 +2,7 @@
 use Rattle.std.proofs.Common.{◌≡◌, ◌∙◌, ◌∷◌, List, if◌then◌else◌, ap, sym, subst, refl, rules, true, false, codes, Some, None, arith}
 use Rattle.swf_value.specs.Node.{node_value, items_of}
 use Rattle.swf_value.specs.Value.{Value, boolean, list, object}
-use Rattle.swf_value.specs.ExprNode.{node_tree}
+use Rattle.swf_value.specs.ExprNode.{node_tree, value_or_here}
 use Rattle.swf_value.specs.declared.expr.ExprNode.TheVariants as nodes
 use Rattle.swf_jq_builtins.specs.Builtins.{with_one}
 use Rattle.swf_jq_builtins.specs.Operations.{is_true, index_of, operate}
@@ -11,7 +11,7 @@ use Rattle.swf_jq_eval.specs.Run.{Run, clean, gave, turn, gives, made, made_of, 
 use Rattle.swf_jq_eval.specs.Outputs.{run, node, with_argument, sorted_by, key_by}
 use Rattle.swf_jq_eval.specs.Names.{scope_of}
 use Rattle.swf_jq_eval.specs.Chosen.{members_so_far}
-use Rattle.swf_jq_eval.specs.Goes.{Goes}
+use Rattle.swf_jq_eval.specs.Goes.{Goes, Comes}
 use Rattle.std.specs.List.{list_any}
 use Rattle.std.specs.Option.{option_map_or}
 use Rattle.swf_jq_eval.proofs.Runs.{over_one, goes_from}
@@ -60,12 +60,13 @@ call::with_argument-returns-in_default t c =
 pub forms::list_of-returns : goal.forms::list_of-returns
 forms::list_of-returns t c = c.make_list.ensures c.args.out.now _ c.all.ensures
 
-pub object::at_keys-returns : goal.object::at_keys-returns
-object::at_keys-returns t c =
+pub object::values-returns-in-None : goal.object::values-returns-in-None
+object::values-returns-in-None t c =
+    let r = scope_of c.args.scope.now in
     let v = c.args.input.now in
-    let s = run c.args.key.now (scope_of c.args.scope.now) v in
-    subst (λ u. Goes c.args.out.now u c.over.new.out c.over.result) (λ i. over s (λ y. over_one v (λ x. answered (index_of x y)) i))
-    (c.over.ensures c.args.out.now s (λ y. turn (answered (index_of v y))) c.all.ensures (λ x o r o' h. h))
+    let k = c.args.key.now in
+    subst (λ s. Comes c.args.out.now s c.members_of_input.new.out c.members_of_input.result)
+    ((λ i. turn (over (run k r v) (λ y. over_one v (λ x. answered (index_of x y)) i))) ∙ ap (λ o. run (value_or_here k o) r v) (sym c.in-None.is)) c.members_of_input.ensures
 
 pub search::each_part-returns-in-Values : goal.search::each_part-returns-in-Values
 search::each_part-returns-in-Values t c =

@@ -1,6 +1,6 @@
 use Rattle.std.proofs.Common.{◌≡◌, ◌+◌, ap}
 use Rattle.swf_jq_builtins.specs.Operations.{index_of}
-use Rattle.swf_jq_eval.specs.declared.out.Out.{Out}
+use Rattle.swf_jq_eval.specs.declared.outputs.Out.{Out}
 use Rattle.swf_jq_eval.specs.Run.{answered}
 use Rattle.swf_jq_eval.proofs.Runs.{turn_on}
 use Rattle.swf_jq_eval.proofs.object.at_key.Goals as goal

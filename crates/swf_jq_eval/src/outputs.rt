@@ -6,8 +6,8 @@ ghost use Rattle.swf_value.specs.Same.{is_ascii};
 ghost use Rattle.swf_value.specs.Size.{size};
 ghost use Rattle.swf_jq_builtins.specs.Operations.{Answer};
 ghost use Rattle.swf_jq_builtins.specs.Outcome.{outcome_of, several_of};
-ghost use Rattle.swf_jq_eval.specs.declared.out.Stop.TheVariants.{OutOfMemory, Limit};
-ghost use Rattle.swf_jq_eval.specs.declared.out.Out.{Out};
+ghost use Rattle.swf_jq_eval.specs.declared.outputs.Stop.TheVariants.{OutOfMemory, Limit};
+ghost use Rattle.swf_jq_eval.specs.declared.outputs.Out.{Out};
 ghost use Rattle.swf_jq_eval.specs.Run.{Run, gives, raises, each, over, made, made_of, answered, spread};
 ghost use Rattle.swf_jq_eval.specs.Goes.{Goes, Comes, ending_of, limit};
 
