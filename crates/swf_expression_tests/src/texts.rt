@@ -107,7 +107,12 @@ $if => Syntax 0
 [1e2] => NotWhole 1
 9007199254740992 => NotWhole 0
 1 | foo => UnknownName 4
-map => UnknownName 0"#;
+map => UnknownName 0
+"\(1 +)\x" => Syntax 6
+"\(1 +)\(2)\x" => Syntax 6
+"\(1)\x" => Syntax 0
+map "\x" => UnknownName 0
+$ => Syntax 0"#;
 
 fn told(alloc: Global, text: &str) -> Result<String, AllocError> {
     match parse(alloc, text) {
@@ -131,7 +136,7 @@ fn reads_the_table(rt: HostRuntime) -> Result<(), Fail> {
             rows = rows.saturating_add(1);
         }
     }
-    assert_eq!(rt; rows, 104);
+    assert_eq!(rt; rows, 109);
     Ok(())
 }
 
@@ -181,5 +186,26 @@ fn stands_hostile_texts(rt: HostRuntime) -> Result<(), Fail> {
     let mut asked = many(rt.alloc(), "?", 4095)?;
     asked.insert(0, '.')?;
     assert!(rt; parse(rt.alloc(), asked.as_str()).is_ok());
+    Ok(())
+}
+
+#[test]
+fn tells_the_bracket_that_is_too_deep(rt: HostRuntime) -> Result<(), Fail> {
+    let table: [(&str, &str); 8] = [
+        ("map(.)", "TooDeep 67"),
+        ("length(.)", "TooDeep 70"),
+        ("foo(.)", "UnknownName 64"),
+        ("map[", "UnknownName 64"),
+        ("\"\\(", "TooDeep 65"),
+        ("\"a\\(1)\"", "TooDeep 66"),
+        ("map \"a\\(", "UnknownName 64"),
+        ("1 \"a\\(", "Syntax 66"),
+    ];
+    for (text, want) in table {
+        let mut deep = many(rt.alloc(), "[", 64)?;
+        deep.push_str(text)?;
+        let got = told(rt.alloc(), deep.as_str())?;
+        assert_eq!(rt; got.as_str(), want, "{text}");
+    }
     Ok(())
 }

@@ -2,9 +2,9 @@
 // hand where whole numbers, ascending names or the texts of errors make a difference.
 use std::alloc::{AllocError, Global};
 use std::test::Fail;
-use swf_jq_eval::{End, First, Stream, Vars, eval, first_value};
+use swf_jq_eval::{End, First, Stream, Variable, Vars, eval, first_value};
 use swf_jq_parse::parse;
-use swf_value::{Json, read_json, write_json};
+use swf_value::{Json, Text, read_json, write_json};
 
 /// An expression, its input, and its outputs with the error that ended them.
 const TABLE: &str = r#". => {"b":1,"a":[2]} => {"a":[2],"b":1}
@@ -478,14 +478,38 @@ fn line_of(alloc: Global, stream: &Stream) -> Result<String, AllocError> {
 
 /// What an expression gives on an input.
 fn told(alloc: Global, expression: &str, input: &str) -> Result<String, AllocError> {
+    told_with(alloc, expression, input, &[])
+}
+
+/// What an expression gives on an input, where these names have these numbers.
+fn told_with(
+    alloc: Global,
+    expression: &str,
+    input: &str,
+    names: &[(&str, i64)],
+) -> Result<String, AllocError> {
     match (parse(alloc, expression), read_json(alloc, input.as_bytes())) {
         (Ok(expression), Ok(input)) => {
-            let vars = Vars::of(Vec::new(alloc));
+            let vars = vars_of(alloc, names)?;
             let stream = eval(alloc, &expression, &vars, &input)?;
             line_of(alloc, &stream)
         }
         _ => String::from_str(alloc, "unread"),
     }
+}
+
+fn vars_of(alloc: Global, names: &[(&str, i64)]) -> Result<Vars, AllocError> {
+    let mut vars = Vec::new(alloc);
+    for (name, number) in names {
+        let name = Text::copy_of(alloc, *name)?;
+        let value = if *number == 0 {
+            Json::null()
+        } else {
+            Json::boolean(*number > 1)
+        };
+        vars.push(Variable { name, value })?;
+    }
+    Ok(Vars::of(vars))
 }
 
 /// The first value that an expression gives on an input.
@@ -594,6 +618,62 @@ fn ends_promptly(rt: HostRuntime) -> Result<(), Fail> {
     for (expression, want) in HOSTILE {
         let got = told(rt.alloc(), expression, "null")?;
         assert_eq!(rt; got.as_str(), want, "{expression}");
+    }
+    Ok(())
+}
+
+/// Names have null at 0, false at 1 and true at 2.
+#[test]
+fn looks_names_up(rt: HostRuntime) -> Result<(), Fail> {
+    let names = [("x", 1), ("y", 0), ("x", 2)];
+    for (expression, want) in [
+        ("[$x, $y, $z]", "[true,null,null]"),
+        ("7 as $x | [$x, $y]", "[7,null]"),
+        ("[(1, 2) as $x | $x] + [$x]", "[1,2,true]"),
+        ("1 as $x | 2 as $x | [$x]", "[2]"),
+        ("[1 as $y | ($x as $y | $y), $y]", "[true,1]"),
+    ] {
+        let got = told_with(rt.alloc(), expression, "null", &names)?;
+        assert_eq!(rt; got.as_str(), want, "{expression}");
+    }
+    Ok(())
+}
+
+#[test]
+fn finds_memory_for_many_outputs(rt: HostRuntime) -> Result<(), Fail> {
+    let mut list = String::from_str(rt.alloc(), "[1")?;
+    for _ in 0..999 {
+        list.push_str(",1")?;
+    }
+    list.push(']')?;
+    let got = first_told(rt.alloc(), "first(range(4300) as $i | .[])", list.as_str())?;
+    assert_eq!(rt; got.as_str(), "1");
+    Ok(())
+}
+
+/// A text many times, and then another.
+fn deep(alloc: Global, text: &str, times: usize, end: &str) -> Result<String, AllocError> {
+    let mut all = String::new(alloc);
+    for _ in 0..times {
+        all.push_str(text)?;
+    }
+    all.push_str(end)?;
+    Ok(all)
+}
+
+#[test]
+fn nests_as_deep_as_a_text_does(rt: HostRuntime) -> Result<(), Fail> {
+    let alloc = rt.alloc();
+    for (text, times, end, want) in [
+        ("-", 4094, "1", "1"),
+        (".|", 2047, "2", "2"),
+        ("1 as $x|", 511, "$x", "1"),
+        ("if . then ", 341, ".", "unread"),
+        ("null//", 680, "3", "3"),
+    ] {
+        let expression = deep(alloc, text, times, end)?;
+        let here = told(alloc, expression.as_str(), "null")?;
+        assert_eq!(rt; here.as_str(), want, "{text}");
     }
     Ok(())
 }
