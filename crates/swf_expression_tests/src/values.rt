@@ -2,6 +2,7 @@
 // hand where whole numbers, ascending names or the texts of errors make a difference.
 use std::alloc::{AllocError, Global};
 use std::test::Fail;
+use std::thread;
 use swf_jq_eval::{End, First, Stream, Variable, Vars, eval, first_value};
 use swf_jq_parse::parse;
 use swf_value::{Json, Text, read_json, write_json};
@@ -672,8 +673,12 @@ fn nests_as_deep_as_a_text_does(rt: HostRuntime) -> Result<(), Fail> {
         ("null//", 680, "3", "3"),
     ] {
         let expression = deep(alloc, text, times, end)?;
-        let here = told(alloc, expression.as_str(), "null")?;
-        assert_eq!(rt; here.as_str(), want, "{text}");
+        let (here, there) = thread::join(
+            &rt,
+            || told(alloc, expression.as_str(), "null"),
+            || told(alloc, expression.as_str(), "null"),
+        );
+        assert_eq!(rt; (here?.as_str(), there?.as_str()), (want, want), "{text}");
     }
     Ok(())
 }

@@ -139,31 +139,49 @@ fn takes_values_apart(rt: HostRuntime) -> Result<(), Fail> {
     Ok(())
 }
 
-#[test]
-fn grows_in_place_or_apart(rt: HostRuntime) -> Result<(), Fail> {
-    let alloc = rt.alloc();
-    let mut list = read_json(alloc, b"[1]")?;
+/// A list of one number, and of one more in another copy.
+fn lists(alloc: Global) -> Result<(Json, Json), AllocError> {
+    let mut list = Json::list(alloc, Vec::new(alloc))?;
+    list.push(Json::int(1))?;
     let before = list.copy()?;
     list.push(Json::int(2))?;
-    list.push(Json::list(alloc, Vec::new(alloc))?)?;
-    assert_eq!(rt; text_of(alloc, &before)?.as_slice(), b"[1]".as_slice());
-    assert_eq!(rt; text_of(alloc, &list)?.as_slice(), b"[1,2,[]]".as_slice());
-    assert_eq!(rt; depth(&list), 2);
-    let mut object = read_json(alloc, b"{\"b\":[[]],\"d\":1}")?;
+    Ok((before, list))
+}
+
+/// An object of one member, and of another value for it and one more member in another copy.
+fn objects(alloc: Global) -> Result<(Json, Json), AllocError> {
+    let mut object = Json::object(alloc, Vec::new(alloc))?;
+    object.put(
+        Text::copy_of(alloc, "b")?,
+        Json::list(alloc, Vec::new(alloc))?,
+    )?;
     let before = object.copy()?;
-    for (name, value) in [("c", 3), ("b", 2), ("e", 5), ("a", 1)] {
-        object.put(Text::copy_of(alloc, name)?, Json::int(value))?;
-    }
+    object.put(Text::copy_of(alloc, "b")?, Json::int(2))?;
+    object.put(Text::copy_of(alloc, "a")?, Json::int(1))?;
+    Ok((before, object))
+}
+
+#[test]
+fn grows_apart_from_copies(rt: HostRuntime) -> Result<(), Fail> {
+    let (before, list) = lists(rt.alloc())?;
+    assert_eq!(rt; text_of(rt.alloc(), &before)?.as_slice(), b"[1]".as_slice());
+    assert_eq!(rt; text_of(rt.alloc(), &list)?.as_slice(), b"[1,2]".as_slice());
+    Ok(())
+}
+
+#[test]
+fn puts_apart_from_copies(rt: HostRuntime) -> Result<(), Fail> {
+    let (before, object) = objects(rt.alloc())?;
     assert_eq!(rt;
-        text_of(alloc, &object)?.as_slice(),
-        b"{\"a\":1,\"b\":2,\"c\":3,\"d\":1,\"e\":5}".as_slice()
+        text_of(rt.alloc(), &before)?.as_slice(),
+        b"{\"b\":[]}".as_slice()
     );
-    assert_eq!(rt; depth(&object), 1);
     assert_eq!(rt;
-        text_of(alloc, &before)?.as_slice(),
-        b"{\"b\":[[]],\"d\":1}".as_slice()
+        text_of(rt.alloc(), &object)?.as_slice(),
+        b"{\"a\":1,\"b\":2}".as_slice()
     );
-    assert_eq!(rt; (size(&before), size_within(&before, 4)), (6, 4));
+    assert_eq!(rt; (depth(&before), depth(&object)), (2, 1));
+    assert_eq!(rt; (size(&object), size_within(&object, 4)), (5, 4));
     Ok(())
 }
 
