@@ -10,6 +10,7 @@ pub mod PlainRuns
 pub mod Escapes
 pub mod Utf8Order
 pub mod Wholes
+pub mod Depths
 pub mod Readings
 pub mod Data
 pub mod Compact

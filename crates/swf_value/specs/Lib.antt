@@ -18,3 +18,4 @@ pub mod Order
 pub mod Size
 pub mod Same
 pub mod Ascii
+pub mod Pointer

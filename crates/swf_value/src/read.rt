@@ -1,6 +1,6 @@
 // Reading bytes as a value.
 ghost use Rattle.std.specs.Prelude.{◌≡◌, ◌≤◌, ◌⊎◌, Err, IfOk};
-ghost use Rattle.swf_value.specs.Value.{IsValue};
+ghost use Rattle.swf_value.specs.Value.{IsValue, depth as value_depth};
 ghost use Rattle.swf_value.specs.Read.{read_within};
 
 use crate::fault::ValueFault;
@@ -13,6 +13,7 @@ use std::alloc::Global;
 pub fn read_json(alloc: Global, bytes: &[u8]) -> Result<Json, ValueFault>
     ensures read { (result ≡ Err ValueFault.OutOfMemory) ⊎ (result ≡ read_within 64 bytes.now) }
     ensures value { IfOk result IsValue }
+    ensures shallow { IfOk result (λ v. value_depth v ≤ 64) }
 {
     read_json_within(alloc, bytes, 64)
 }
@@ -22,6 +23,7 @@ pub fn read_json_within(alloc: Global, bytes: &[u8], depth: u32) -> Result<Json,
     requires { depth ≤ 127 }
     ensures read { (result ≡ Err ValueFault.OutOfMemory) ⊎ (result ≡ read_within depth bytes.now) }
     ensures value { IfOk result IsValue }
+    ensures shallow { IfOk result (λ v. value_depth v ≤ depth) }
 {
     let tree = match Tree::from_slice(alloc, bytes) {
         Ok(tree) => tree,

@@ -28,6 +28,13 @@ impl Strand {
         }
     }
 
+    /// The strand of these branches. It takes no memory.
+    pub fn of(branches: Vec<u16>) -> Strand
+        ensures { result ≡ branches.items }
+    {
+        Strand { branches }
+    }
+
     /// The numbers of the branches.
     pub fn as_slice(&self) -> &[u16]
         ensures { result.now ≡ self.now }

@@ -1,14 +1,18 @@
 // Text that several values share, seen as its list of characters.
+ghost use Rattle.std.proofs.Common.{rules};
 ghost use Rattle.std.specs.Prelude.{◌≡◌, ◌==◌, ◌↔◌, true, chars, string_bytes, IfOk, IsTrue, Some, refl, bytes_eq};
 ghost use Rattle.std.specs.Ordering.{nat_cmp};
 ghost use Rattle.std.specs.Cmp.{partial_equiv_from_equiv};
 ghost use Rattle.std.specs.Cmp.Lexicographic.{slice_cmp, nat_list_eq_equiv, nat_list_cmp_total, texts_ties, texts_po};
 ghost use Rattle.std.specs.Str.{encode_utf8_all, all_scalars};
+ghost use Rattle.std.specs.Hash as fed;
+ghost use Rattle.std.specs.Cmp.Rules.{hashing};
 
 use crate::order::compare_strs;
 use crate::same::same_texts;
 use std::alloc::{AllocError, Global};
 use std::cmp::Ordering;
+use std::hash::{Hash, Hasher};
 use std::marker::Model;
 use std::sync::Arc;
 
@@ -104,5 +108,16 @@ impl Ord for Text {
 
     fn cmp(&self, other: &Text) -> Ordering {
         compare_strs(self.as_str(), other.as_str())
+    }
+}
+
+/// By the bytes of its UTF-8.
+impl Hash for Text {
+    ghost hash_input = { λ t. fed.str (encode_utf8_all t) };
+
+    ghost respects_eq = { Prim.search (hashing, rules) };
+
+    fn hash<H: Hasher>(&self, state: &mut H) {
+        self.as_str().hash(state);
     }
 }

@@ -3,6 +3,7 @@ use Rattle.std.proofs.lemmas.Bool.{cases_lt}
 use Rattle.serde_json.specs.Data.{depth}
 use Rattle.serde_json.specs.View.{view}
 use Rattle.swf_value.specs.Read.{whole_or_fault}
+use Rattle.swf_value.proofs.Depths.{within_most}
 use Rattle.swf_value.proofs.Readings.{not_json, too_deep, shallow}
 use Rattle.swf_value.proofs.read.read_json_within.Goals as goal
 
@@ -29,3 +30,8 @@ pub returns-in-Ok-None-clause-read : goal.returns-in-Ok-None-clause-read
 returns-in-Ok-None-clause-read c =
     let within = c.nests_within.ensures.0 c.if-not-nests_within.false in
     inr (sym (shallow c.args.depth c.args.bytes.now (view c.in-Ok.tree) c.in-Ok-None.field-0 c.in-Ok.ensures.ok within c.in-Ok-None.ensures.is ∙ ap whole_or_fault c.in-Ok-None.field-0-is))
+
+pub returns-in-Ok-Some-clause-shallow : goal.returns-in-Ok-Some-clause-shallow
+returns-in-Ok-Some-clause-shallow c =
+    let within = c.nests_within.ensures.0 c.if-not-nests_within.false in
+    within_most (view c.in-Ok.tree) c.in-Ok-Some.value c.args.depth (sym c.in-Ok-Some.field-0-is ∙ c.in-Ok-Some.ensures.is) within
