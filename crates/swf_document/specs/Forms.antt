@@ -3,13 +3,8 @@ use Rattle.std.specs.Prelude.{◌==◌, ◌&&◌, ◌||◌, ◌-◌, ℕ, List, 
 use Rattle.std.specs.List.{list_all, before_first, after_first, starts_with, position_or_len}
 use Rattle.std.specs.Str.{encode_utf8_all}
 use Rattle.swf_value.specs.Value.{Value, null, boolean, int, text, list, object, Items, no_items, item, Members, no_members, member}
+use Rattle.swf_value.specs.Ascii.{is_digit, is_lower}
 use Rattle.swf_value.specs.Same.{same}
-
-abbrev pub is_digit : ℕ → Bool
-is_digit c = nat_le 48 c && nat_le c 57
-
-abbrev pub is_lower : ℕ → Bool
-is_lower c = nat_le 97 c && nat_le c 122
 
 -- `1.0.` and digits
 abbrev pub is_dsl : List ℕ → Bool

@@ -1,9 +1,12 @@
 // The types of a document (Serverless Workflow DSL 1.0.0, reference, "Workflow" and "Set").
+ghost use Rattle.std.specs.Prelude.{◌≡◌, IfOk};
+
 use crate::tasks::Tasks;
+use std::alloc::AllocError;
 use swf_value::{Json, Text};
 
 /// The namespace, name and version by which a document is known.
-#[derive(Drop)]
+#[derive(PartialEq, Eq, Hash, Drop)]
 pub struct DocKey {
     pub namespace: Text,
     pub name: Text,
@@ -42,4 +45,20 @@ pub enum Kind {
 pub enum Template {
     /// A value as it is.
     Const(Json),
+}
+
+impl DocKey {
+    /// The same key once more. It copies no characters.
+    pub fn copy(&self) -> Result<DocKey, AllocError>
+        ensures { IfOk result (λ key. key ≡ self.now) }
+    {
+        let namespace = self.namespace.copy()?;
+        let name = self.name.copy()?;
+        let version = self.version.copy()?;
+        Ok(DocKey {
+            namespace,
+            name,
+            version,
+        })
+    }
 }

@@ -2,7 +2,9 @@
 #![tactic(auto)]
 
 mod document;
+mod fault;
 mod tasks;
 
 pub use document::{DocKey, Document, Kind, Named, Task, Template};
+pub use fault::{Fault, FaultKind, Faults};
 pub use tasks::Tasks;

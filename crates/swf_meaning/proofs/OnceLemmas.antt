@@ -129,15 +129,15 @@ Grown None w m = m.keys ≡ w.keys
 Grown (Some k) w m = (is_used k w ≡ false) × (m.keys ≡ w.keys ++ (k, w.count) ∷ [])
 
 -- a load asks for a new key, which it uses
-loaded_grown : (w m : World) (d : Document) → loaded w d ≡ Some m → Grown (Some (OfDocument d.key)) w m
-loaded_grown w m d e =
-    let h = refused_some (is_used (OfDocument d.key) w || nat_le most_documents (length w.documents)) (Some (with_document w d)) m e in
-    ((or_parts (is_used (OfDocument d.key) w) (nat_le most_documents (length w.documents)) h.0).0, ap (λ u. u.keys) (sym (same_Some (with_document w d) m h.1)))
+loaded_grown : (w m : World) (v : Value) (d : Document) → loaded w v d ≡ Some m → Grown (Some (OfDocument d.key)) w m
+loaded_grown w m v d e =
+    let h = refused_some (is_used (OfDocument d.key) w || nat_le most_documents (length w.documents)) (Some (with_document w v d)) m e in
+    ((or_parts (is_used (OfDocument d.key) w) (nat_le most_documents (length w.documents)) h.0).0, ap (λ u. u.keys) (sym (same_Some (with_document w v d) m h.1)))
 
 -- a label that has a key asks for a new one, which it uses
 after_grown : (w m : World) (l : Label) → after w l ≡ Some m → Grown (key_of l) w m
-after_grown w m (Load v) e = option_and_then_some (loaded w) (document_of v) m e
-    (λ d p q. subst (λ k. Grown (Some (OfDocument k)) w m) (sym (doc_key_read v d p)) (loaded_grown w m d q))
+after_grown w m (Load v) e = option_and_then_some (loaded w v) (document_of v) m e
+    (λ d p q. subst (λ k. Grown (Some (OfDocument k)) w m) (sym (doc_key_read v d p)) (loaded_grown w m v d q))
 after_grown w m (Start id key input) e =
     let h = refused_some (is_used (OfInstance id) w || nat_le most_instances (length w.instances)) (option_map (λ d. with_instance w (begun id input w.now d)) (document_at key w.documents)) m e in
     ((or_parts (is_used (OfInstance id) w) (nat_le most_instances (length w.instances)) h.0).0, mapped_some (λ d. with_instance w (begun id input w.now d)) (document_at key w.documents) m h.1 (λ d p q. ap (λ u. u.keys) (sym q)))

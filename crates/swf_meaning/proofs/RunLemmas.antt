@@ -32,3 +32,7 @@ world_of_run h w e = rw e refl
 
 pub legal_run : (h : List Label) (w : World) → run h ≡ Some w → Legal h
 legal_run h w e = rw e refl
+
+-- a run of one label
+pub run_one : (w m : World) (l : Label) → after w l ≡ Some m → run_from w (l ∷ []) ≡ Some m
+run_one w m l e = some_again (after w l) ∙ e

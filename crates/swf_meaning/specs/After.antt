@@ -11,7 +11,7 @@ use Rattle.swf_meaning.specs.declared.label.Label.TheVariants.{Load, Start, Step
 use Rattle.swf_meaning.specs.Node.{Workflow, Node, Fresh}
 use Rattle.swf_meaning.specs.Local.{local}
 use Rattle.swf_meaning.specs.Keys.{Key, Document as OfDocument, Instance as OfInstance, same_doc, same_key}
-use Rattle.swf_meaning.specs.World.{Instance, World}
+use Rattle.swf_meaning.specs.World.{Instance, Loaded, World}
 
 abbrev pub most_documents : ℕ
 most_documents = 1000
@@ -26,17 +26,17 @@ is_used k w = list_any (λ p. same_key k p.0) w.keys
 abbrev pub counted : Key → World → World
 counted k w = record w { keys = w.keys ++ (k, w.count) ∷ []; count = w.count + 1 }
 
-abbrev pub with_document : World → Document → World
-with_document w d = record (counted (OfDocument d.key) w) { documents = w.documents ++ d ∷ [] }
+abbrev pub with_document : World → Value → Document → World
+with_document w v d = record (counted (OfDocument d.key) w) { documents = w.documents ++ (record { value = v; document = d }) ∷ [] }
 
 -- a document is added that is new, while there is room
-abbrev pub loaded : World → Document → Option World
-loaded w d = if is_used (OfDocument d.key) w || nat_le most_documents (length w.documents) then None else Some (with_document w d)
+abbrev pub loaded : World → Value → Document → Option World
+loaded w v d = if is_used (OfDocument d.key) w || nat_le most_documents (length w.documents) then None else Some (with_document w v d)
 
 -- the loaded document of a key
-abbrev pub document_at : DocKey → List Document → Option Document
+abbrev pub document_at : DocKey → List Loaded → Option Document
 document_at k [] = None
-document_at k (d ∷ ds) = if same_doc k d.key then Some d else document_at k ds
+document_at k (d ∷ ds) = if same_doc k d.document.key then Some d.document else document_at k ds
 
 -- an instance that has just begun
 abbrev pub begun : List ℕ → Value → ℕ → Document → Instance
@@ -66,6 +66,6 @@ with_instances w is = record w { instances = is; count = w.count + 1 }
 
 -- the world after a label; none where the label's condition does not hold
 abbrev pub after : World → Label → Option World
-after w (Load v) = option_and_then (loaded w) (document_of v)
+after w (Load v) = option_and_then (loaded w v) (document_of v)
 after w (Start id key input) = started w id key input
 after w (Step id strand) = if is_root strand then option_map (with_instances w) (stepped id w.instances) else None

@@ -16,10 +16,15 @@ pub record Instance : Type 0 where
   pub node : Node
   pub number : ℕ
 
+-- a document that was loaded, beside the value that it was read from
+pub record Loaded : Type 0 where
+  pub value : Value
+  pub document : Document
+
 -- the documents in load order, the instances in start order, the used keys with their places, the moment,
 -- the events that were emitted, and how many labels came before
 pub record World : Type 0 where
-  pub documents : List Document
+  pub documents : List Loaded
   pub instances : List Instance
   pub keys : List (Key × ℕ)
   pub now : ℕ
