@@ -21,7 +21,7 @@ first_is f g r s fits fits' is =
     record { same = bodies.0; rest = bodies.1 }
 
 -- without the open gate
-peeled : (f : List ℕ) (fs : List (List ℕ)) (g : List ℕ) (gs : List (List ℕ)) (r s : List ℕ) → frames_bytes (f ∷ fs) ++ r ≡ frames_bytes (g ∷ gs) ++ s
+pub peeled : (f : List ℕ) (fs : List (List ℕ)) (g : List ℕ) (gs : List (List ℕ)) (r s : List ℕ) → frames_bytes (f ∷ fs) ++ r ≡ frames_bytes (g ∷ gs) ++ s
     → length_bytes (length f) ++ (f ++ (frames_bytes fs ++ r)) ≡ length_bytes (length g) ++ (g ++ (frames_bytes gs ++ s))
 peeled f fs g gs r s is =
     let lf = length_bytes (length f) in

@@ -57,6 +57,13 @@ impl Reading {
         }
     }
 
+    /// The place of the next gate.
+    pub fn gate(&self) -> u64
+        ensures { result ≡ self.now.gate }
+    {
+        self.gate
+    }
+
     /// The body of the next frame, or none exactly where the next gate is not open. It reads no byte twice.
     pub fn next_frame<S: Store>(
         &mut self,
@@ -73,6 +80,7 @@ impl Reading {
         // Memory is taken only for a body that is there.
         ensures enough { ForSome (S.seen store.old) (λ image. IsErrOf result OpenFault.OutOfMemory → (body : List ℕ) × (after : List ℕ) × IsFrame (drop self.old.gate (bytes_of image self.old.file)) body after) }
         ensures place { IfOk result (λ next. self.new ≡ record self.old { gate = self.new.gate; ended = is_none next }) }
+        ensures bound { IfOk result (λ next. IfSome next (λ body. self.old.gate + 10 + length body.items < 2 ^ 64)) }
         ensures err { OnErr result (self.new ≡ self.old) }
 
         // It only reads.
