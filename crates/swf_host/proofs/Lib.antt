@@ -1,2 +1,2 @@
-mod EpochLemmas
+mod HostedLemmas
 mod TurnLemmas

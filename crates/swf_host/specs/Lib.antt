@@ -1,4 +1,7 @@
-pub mod EpochLaws
-pub mod Epochs
+pub mod Console
+pub mod Hosted
+pub mod HostedLaws
+pub mod HostedView
+pub mod Script
 pub mod Taken
 pub mod Turns

@@ -1,12 +1,14 @@
 //! The host of the engine: a store from which inputs come too, and which says replies.
 #![tactic(auto)]
 
+mod console_host;
 mod host;
+mod memory_host;
 mod script;
-mod spoke;
 mod turn;
 
+pub use console_host::{ConsoleHost, MOST_LINE};
 pub use host::{Host, Input};
-pub use script::ScriptHost;
-pub use spoke::Spoke;
+pub use memory_host::MemoryHost;
+pub use script::{Said, Turn};
 pub use turn::{TurnFault, append_then_say, two_turns};

@@ -133,7 +133,7 @@ fn calls_of(store: &MemoryStore) -> u64 {
 }
 
 // How many frames the journal of an image has, opened again.
-fn frames_in(alloc: Global, image: &Image) -> Result<u64, Fail> {
+pub(crate) fn frames_in(alloc: Global, image: &Image) -> Result<u64, Fail> {
     let mut store = store_over(alloc, image, Vec::new(alloc))?;
     Ok(append_frames(alloc, &mut store, 0)?.found)
 }

@@ -1,7 +1,0 @@
-use Rattle.swf_host.proofs.EpochLemmas.{call_elapses}
-use Rattle.swf_host.proofs.script.ScriptHostStore.read_at.Goals as goal
-
-pub returns-clause-time : goal.returns-clause-time
-returns-clause-time g c =
-    let S = g.S.Store in
-    call_elapses S.moment S.left_since c.args.self.now.spoken.items c.args.self.now.store c.read_at.new.self _ _ c.args.self.now.in_order c.read_at.ensures.time
