@@ -1,0 +1,10 @@
+pub mod MachineLemmas
+pub mod ReportLemmas
+pub mod Lookups
+pub mod Steps
+pub mod Grows
+pub mod RefusalLaws
+pub mod Checks
+pub mod Waiting
+pub mod Versions
+pub mod EarlyLemmas

@@ -1,0 +1,100 @@
+-- A label has a cause for which it is refused exactly where there is no world after it.
+use Rattle.std.proofs.Common.{◌≡◌, ◌∙◌, ap, sym, refl, cond, ℕ, ◌||◌, ◌&&◌, List, [], ◌∷◌, length, nat_le, Bool, true, false, not, is_some, Option, Some, None, option_map, option_and_then}
+use Rattle.swf_value.specs.Value.{Value}
+use Rattle.swf_value.specs.Same.{same}
+use Rattle.swf_document.specs.declared.document.Document.{Document}
+use Rattle.swf_document.specs.Reads.{document_of}
+use Rattle.swf_meaning.specs.declared.label.Label.{Label}
+use Rattle.swf_meaning.specs.declared.label.Label.TheVariants.{Load, Start, Step}
+use Rattle.swf_meaning.specs.Local.{local, is_enabled}
+use Rattle.swf_meaning.specs.Keys.{Document as OfDocument, Instance as OfInstance}
+use Rattle.swf_meaning.specs.World.{World, Instance}
+use Rattle.swf_meaning.specs.Answer.{instance_at}
+use Rattle.swf_meaning.specs.After.{after, loaded, document_at, most_documents, most_instances, with_document, with_instance, begun, stepped, is_root, with_node, with_instances}
+use Rattle.swf_world.specs.declared.refusal.Refusal.{Refusal}
+use Rattle.swf_world.specs.declared.refusal.Refusal.TheVariants.{Full, NotEnabled}
+use Rattle.swf_world.specs.UsedKey.{used_at}
+use Rattle.swf_world.specs.Refusals.{refusal, refusal_of_load, refusal_of_start, refusal_of_step, duplicate, cause}
+use Rattle.swf_world.proofs.Lookups.{used_some}
+
+some_mapped : {A B : Type 0} (f : A → B) (o : Option A) → is_some (option_map f o) ≡ is_some o
+some_mapped f None = refl
+some_mapped f (Some x) = refl
+
+-- a label that has no refusal has a world after it, and the other way round
+abbrev Agree : {A : Type 0} → Option A → Option Refusal → Type 0
+Agree a r = is_some a ≡ not (is_some r)
+
+load_agrees : (w : World) (d : Document) (v : Value) (o : Option ℕ) (full : Bool) → Agree (cond (is_some o || full) None (Some (with_document w v d))) (duplicate o (cause full Full None))
+load_agrees w d v (Some p) full = refl
+load_agrees w d v None true = refl
+load_agrees w d v None false = refl
+
+start_agrees : (w : World) (f : Document → World) (o : Option ℕ) (d : Option Document) → Agree (cond (is_some o || nat_le most_instances (length w.instances)) None (option_map f d)) (duplicate o (refusal_of_start w d))
+start_agrees w f (Some p) d = refl
+start_agrees w f None None = by (nat_le most_instances (length w.instances))
+  where
+    by : (b : Bool) → is_some (cond b None (option_map f None)) ≡ false
+    by true = refl
+    by false = refl
+start_agrees w f None (Some d) = by (nat_le most_instances (length w.instances))
+  where
+    by : (b : Bool) → Agree (cond b None (Some (f d))) (cause b Full None)
+    by true = refl
+    by false = refl
+
+-- the instance of an id takes a step where it can
+stepped_some : (id : List ℕ) (is : List Instance) → is_some (stepped id is) ≡ is_some (option_and_then (λ i. local i.node) (instance_at id is))
+stepped_some id [] = refl
+stepped_some id (i ∷ is) = by (same id i.id) (stepped_some id is)
+  where
+    by : (b : Bool) → is_some (stepped id is) ≡ is_some (option_and_then (λ i. local i.node) (instance_at id is)) →
+        is_some (cond b (option_map (λ n. with_node i n ∷ is) (local i.node)) (option_map (λ js. i ∷ js) (stepped id is))) ≡ is_some (option_and_then (λ i. local i.node) (cond b (Some i) (instance_at id is)))
+    by true h = some_mapped (λ n. with_node i n ∷ is) (local i.node)
+    by false h = some_mapped (λ js. i ∷ js) (stepped id is) ∙ h
+
+step_agrees : {A : Type 0} (strand : List ℕ) (s : Option A) (o : Option Instance) → is_some s ≡ is_some (option_and_then (λ i. local i.node) o) → Agree (cond (is_root strand) s None) (refusal_of_step strand o)
+step_agrees strand s None e = by (is_root strand)
+  where
+    by : (b : Bool) → is_some (cond b s None) ≡ false
+    by true = e
+    by false = refl
+step_agrees strand s (Some i) e = by (is_root strand) (is_enabled i.node) e
+  where
+    by : (b t : Bool) → is_some s ≡ t → is_some (cond b s None) ≡ not (is_some (cond (b && t) None (Some NotEnabled)))
+    by true true e = e
+    by true false e = e
+    by false t e = refl
+
+pub agree : (w : World) (l : Label) → Agree (after w l) (refusal w l)
+agree w (Load v) = by (document_of v)
+  where
+    by : (o : Option Document) → Agree (option_and_then (loaded w v) o) (refusal_of_load w o)
+    by None = refl
+    by (Some d) =
+        ap (λ b. is_some (cond (b || nat_le most_documents (length w.documents)) None (Some (with_document w v d)))) (sym (used_some (OfDocument d.key) w.keys))
+        ∙ load_agrees w d v (used_at (OfDocument d.key) w.keys) (nat_le most_documents (length w.documents))
+agree w (Start id key input) =
+    ap (λ b. is_some (cond (b || nat_le most_instances (length w.instances)) None (option_map (λ d. with_instance w (begun id input w.now d)) (document_at key w.documents)))) (sym (used_some (OfInstance id) w.keys))
+    ∙ start_agrees w (λ d. with_instance w (begun id input w.now d)) (used_at (OfInstance id) w.keys) (document_at key w.documents)
+agree w (Step id strand) =
+    step_agrees strand (option_map (with_instances w) (stepped id w.instances)) (instance_at id w.instances)
+    (some_mapped (with_instances w) (stepped id w.instances) ∙ stepped_some id w.instances)
+
+-- a label that is refused leads nowhere
+pub refused_nowhere : (w : World) (l : Label) (r : Refusal) → refusal w l ≡ Some r → after w l ≡ None
+refused_nowhere w l r e = by (after w l) (agree w l ∙ ap (λ o. not (is_some o)) e)
+  where
+    by : (o : Option World) → is_some o ≡ false → o ≡ None
+    by None h = refl
+    by (Some m) h = cc
+
+pub taken_somewhere : (w : World) (l : Label) → refusal w l ≡ None → is_some (after w l) ≡ true
+taken_somewhere w l e = agree w l ∙ ap (λ o. not (is_some o)) e
+
+pub somewhere_taken : (w : World) (l : Label) → is_some (after w l) ≡ true → refusal w l ≡ None
+somewhere_taken w l e = by (refusal w l) (sym (agree w l) ∙ e)
+  where
+    by : (o : Option Refusal) → not (is_some o) ≡ true → o ≡ None
+    by None h = refl
+    by (Some r) h = cc

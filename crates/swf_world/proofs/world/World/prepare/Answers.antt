@@ -1,0 +1,29 @@
+use Rattle.std.proofs.Common.{subst}
+use Rattle.swf_meaning.specs.declared.label.Label.TheVariants.{Load, Start, Step}
+use Rattle.swf_world.specs.Prepares.{Prepares}
+use Rattle.swf_world.proofs.Checks.{refused_from}
+use Rattle.swf_world.proofs.EarlyLemmas.{refusal_early}
+use Rattle.swf_world.proofs.world.World.prepare.Goals as goal
+
+pub returns-in-Load-clause-refused : goal.returns-in-Load-clause-refused
+returns-in-Load-clause-refused c = refused_from c.make_room.new.self.world c.args.self.now.world (Load c.in-Load.value) c.args.label.now c.prepare_load.result c.make_room.ensures.same c.in-Load.is c.prepare_load.ensures
+
+pub returns-in-Start-clause-refused : goal.returns-in-Start-clause-refused
+returns-in-Start-clause-refused c =
+    refused_from c.make_room.new.self.world c.args.self.now.world (Start c.in-Start.id c.in-Start.key c.in-Start.input) c.args.label.now c.prepare_start.result c.make_room.ensures.same c.in-Start.is c.prepare_start.ensures
+
+pub returns-in-Step-clause-refused : goal.returns-in-Step-clause-refused
+returns-in-Step-clause-refused c =
+    refused_from c.make_room.new.self.world c.args.self.now.world (Step c.in-Step.id c.in-Step.strand) c.args.label.now c.prepare_step.result c.make_room.ensures.same c.in-Step.is c.prepare_step.ensures
+
+pub returns-in-Load-clause-early : goal.returns-in-Load-clause-early
+returns-in-Load-clause-early c = λ r is.
+    let w = c.make_room.new.self.world in
+    let label = Load c.in-Load.value in
+    refusal_early w label r c.make_room.ensures.early (subst (Prepares w label) is c.prepare_load.ensures)
+
+pub returns-in-Start-clause-early : goal.returns-in-Start-clause-early
+returns-in-Start-clause-early c = λ r is.
+    let w = c.make_room.new.self.world in
+    let label = Start c.in-Start.id c.in-Start.key c.in-Start.input in
+    refusal_early w label r c.make_room.ensures.early (subst (Prepares w label) is c.prepare_start.ensures)

@@ -1,0 +1,19 @@
+-- How large the places of used keys are.
+use Rattle.std.specs.Prelude.{ℕ, ◌≤◌}
+use Rattle.swf_meaning.specs.Keys.{Key}
+use Rattle.swf_world.specs.declared.refusal.Refusal.{Refusal}
+use Rattle.swf_world.specs.declared.refusal.Refusal.TheVariants.{Refused, Duplicate, UnknownDocument, UnknownInstance, Full, NotEnabled}
+use Rattle.swf_world.specs.Fields.{most_labels}
+
+-- a key was used at a place that a world has
+abbrev pub IsEarly : Key × ℕ → Type 0
+IsEarly p = p.1 ≤ most_labels
+
+-- the place of a refusal is one that a world has
+abbrev pub IsEarlyRefusal : Refusal → Type 0
+IsEarlyRefusal (Refused faults) = Unit {0}
+IsEarlyRefusal (Duplicate place) = place ≤ most_labels
+IsEarlyRefusal UnknownDocument = Unit {0}
+IsEarlyRefusal UnknownInstance = Unit {0}
+IsEarlyRefusal Full = Unit {0}
+IsEarlyRefusal NotEnabled = Unit {0}

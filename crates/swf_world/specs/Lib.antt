@@ -1,0 +1,15 @@
+pub mod Progress
+pub mod Machine
+pub mod Reports
+pub mod UsedKey
+pub mod Held
+pub mod Fields
+pub mod Queued
+pub mod Early
+pub mod Kept
+pub mod Refusals
+pub mod Changes
+pub mod Prepares
+pub mod Latest
+pub mod Enabled
+pub mod Answers

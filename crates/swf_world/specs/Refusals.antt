@@ -1,0 +1,58 @@
+-- Why a label is not taken: the first cause in order.
+use Rattle.std.specs.Prelude.{◌&&◌, ℕ, List, Bool, nat_le, length, Option, Some, None, Result, Ok, Err, unwrap_or, if◌then◌else◌}
+use Rattle.swf_document.specs.Faults.{not_in_profile}
+use Rattle.swf_document.specs.Reads.{document_of}
+use Rattle.swf_document.specs.declared.document.Document.{Document}
+use Rattle.swf_meaning.specs.declared.label.Label.{Label}
+use Rattle.swf_meaning.specs.declared.label.Label.TheVariants.{Load, Start, Step}
+use Rattle.swf_meaning.specs.Keys.{Key, Document as OfDocument, Instance as OfInstance}
+use Rattle.swf_meaning.specs.World.{World, Instance}
+use Rattle.swf_meaning.specs.Local.{is_enabled}
+use Rattle.swf_meaning.specs.Answer.{instance_at}
+use Rattle.swf_meaning.specs.After.{document_at, most_documents, most_instances, is_root}
+use Rattle.swf_world.specs.UsedKey.{used_at}
+use Rattle.swf_world.specs.declared.refusal.Refusal.{Refusal}
+use Rattle.swf_world.specs.declared.refusal.Refusal.TheVariants.{Refused, Duplicate, UnknownDocument, UnknownInstance, Full, NotEnabled}
+
+-- the place at which a key was used
+abbrev pub place_of : Key → World → ℕ
+place_of k w = unwrap_or (used_at k w.keys) 0
+
+-- a duplicate of what stands at that place, and else the next cause
+abbrev pub duplicate : Option ℕ → Option Refusal → Option Refusal
+duplicate None next = next
+duplicate (Some place) next = Some (Duplicate place)
+
+-- a cause where it applies, and else the next one
+abbrev pub cause : Bool → Refusal → Option Refusal → Option Refusal
+cause b r next = if b then Some r else next
+
+-- a document is refused where its key was used, or there are too many
+abbrev pub refusal_of_load : World → Option Document → Option Refusal
+refusal_of_load w None = Some (Refused not_in_profile)
+refusal_of_load w (Some d) = duplicate (used_at (OfDocument d.key) w.keys) (cause (nat_le most_documents (length w.documents)) Full None)
+
+-- a start is refused where its document is not loaded, or there are too many instances
+abbrev pub refusal_of_start : World → Option Document → Option Refusal
+refusal_of_start w None = Some UnknownDocument
+refusal_of_start w (Some d) = cause (nat_le most_instances (length w.instances)) Full None
+
+-- a step is refused where there is no such instance, or its strand can take none
+abbrev pub refusal_of_step : List ℕ → Option Instance → Option Refusal
+refusal_of_step strand None = Some UnknownInstance
+refusal_of_step strand (Some i) = if is_root strand && is_enabled i.node then None else Some NotEnabled
+
+abbrev pub refusal : World → Label → Option Refusal
+refusal w (Load v) = refusal_of_load w (document_of v)
+refusal w (Start id key input) = duplicate (used_at (OfInstance id) w.keys) (refusal_of_start w (document_at key w.documents))
+refusal w (Step id strand) = refusal_of_step strand (instance_at id w.instances)
+
+-- the cause that an answer gives, where it is no success
+abbrev pub refused_by : {T : Type 0} → Result T Refusal → Option Refusal
+refused_by (Ok u) = None
+refused_by (Err r) = Some r
+
+abbrev pub IsLoad : Label → Type 0
+IsLoad (Load v) = Unit {0}
+IsLoad (Start id key input) = ⊥
+IsLoad (Step id strand) = ⊥

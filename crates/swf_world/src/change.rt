@@ -1,0 +1,125 @@
+// Changes of the world, and how they are made.
+ghost use Rattle.std.specs.Prelude.{◌≡◌, ◌≤◌, ◌<◌, ◌^◌, ◌++◌, ◌∷◌, [], None, true};
+ghost use Rattle.std.specs.List.{AllByRecursion};
+ghost use Rattle.indexmap.specs.IndexMap.{get, keys, spare};
+ghost use Rattle.swf_meaning.specs.After.{with_document, with_instance, with_instances};
+ghost use Rattle.swf_world.specs.Fields.{instances_in};
+ghost use Rattle.swf_world.specs.Machine.{instance_of};
+ghost use Rattle.swf_world.specs.Kept.{IsPlaced};
+ghost use Rattle.swf_world.specs.Queued.{enabled_at};
+ghost use Rattle.swf_world.specs.Changes.{Suits, SuitsLoad, SuitsStart, step_at, changed};
+
+use crate::key::Key;
+use crate::machine::{Instance, next_of_instance};
+use crate::world::{Loaded, World};
+use indexmap::IndexMap;
+use std::hash::Hash;
+use swf_document::DocKey;
+use swf_value::Text;
+
+/// What was installed.
+#[derive(Clone, Copy)]
+pub struct Installed {
+    /// The number of labels before.
+    pub place: u64,
+    /// How many listens took the event.
+    pub taken: u32,
+}
+
+/// What a change adds with the key that it uses, or which instance takes a step.
+#[derive(Drop)]
+pub enum ChangeKind {
+    Load {
+        key: DocKey,
+        used: Key,
+        loaded: Loaded,
+    },
+    Start {
+        id: Text,
+        used: Key,
+        instance: Instance,
+    },
+    Step {
+        number: usize,
+    },
+}
+
+/// A change that was prepared, for which the world has room.
+#[derive(Drop)]
+pub struct Change {
+    pub(crate) kind: ChangeKind,
+}
+
+impl World {
+    /// Makes a change that was prepared on this world. It takes no memory.
+    pub fn install(&mut self, change: Change) -> Installed
+        requires suits { Suits self.old.world change }
+        requires room { 0 < self.old.room }
+        ensures world { self.new.world ≡ changed self.old.world change }
+        ensures place { result.place ≡ self.old.world.count }
+        ensures taken { result.taken ≡ 0 }
+        ensures few { result.place ≤ 2 ^ 40 }
+    {
+        let place = self.count;
+        match change.kind {
+            ChangeKind::Load { key, used, loaded } => self.install_load(key, used, loaded),
+            ChangeKind::Start { id, used, instance } => self.install_start(id, used, instance),
+            ChangeKind::Step { number } => self.install_step(number),
+        }
+        Installed { place, taken: 0 }
+    }
+
+    fn install_load(&mut self, key: DocKey, used: Key, loaded: Loaded)
+        requires suits { SuitsLoad self.old.world key used loaded }
+        requires room { 0 < self.old.room }
+        ensures { self.new.world ≡ with_document self.old.world loaded.value loaded.document }
+    {
+        add(&mut self.documents, key, loaded);
+        add(&mut self.keys, used, self.count);
+        self.count += 1;
+    }
+
+    fn install_start(&mut self, id: Text, used: Key, instance: Instance)
+        requires suits { SuitsStart self.old.world id used instance }
+        requires room { 0 < self.old.room }
+        ensures { self.new.world ≡ with_instance self.old.world (instance_of id instance) }
+    {
+        let number = self.instances.len();
+        let place = self.count;
+        add(&mut self.instances, id, instance);
+        add(&mut self.keys, used, place);
+        self.queue.push_back(number).unwrap();
+        self.count += 1;
+    }
+
+    fn install_step(&mut self, number: usize)
+        requires suits { enabled_at self.old.world.instances number ≡ true }
+        requires room { 0 < self.old.room }
+        ensures { self.new.world ≡ with_instances self.old.world (step_at number self.old.world.instances) }
+    {
+        go_on(&mut self.instances, number);
+        self.count += 1;
+    }
+}
+
+// The instance of a number takes a step.
+fn go_on(instances: &mut IndexMap<Text, Instance>, number: usize)
+    requires placed { AllByRecursion IsPlaced instances.old.entries }
+    requires can { enabled_at (instances_in instances.old.entries) number ≡ true }
+    ensures stepped { instances_in instances.new.entries ≡ step_at number (instances_in instances.old.entries) }
+    ensures placed { AllByRecursion IsPlaced instances.new.entries }
+    ensures ids { keys instances.new ≡ keys instances.old }
+{
+    if let Some(progress) = next_of_instance(&instances[number]) {
+        instances[number].progress = progress;
+    }
+}
+
+// Adds a pair whose key is new, where there is room.
+fn add<K: Eq + Hash + Drop, V: Drop>(map: &mut IndexMap<K, V>, key: K, value: V)
+    requires new { get K.eq map.old key ≡ None }
+    requires room { 0 < spare map.old }
+    ensures { map.new.entries ≡ map.old.entries ++ (key, value) ∷ [] }
+{
+    map.insert(key, value).unwrap();
+}

@@ -1,0 +1,56 @@
+// By what an outcome is known, and how it is looked up without a copy.
+ghost use Rattle.std.specs.Prelude.{◌≡◌, refl};
+ghost use Rattle.swf_world.specs.UsedKey.{stands_for, hashed_alike, stands_alike, keys_alike, sought_alike, docs_alike, used_at, sought_key};
+ghost use Rattle.swf_world.specs.Fields.{keys_in};
+ghost use Rattle.swf_meaning.specs.Keys.{same_doc};
+
+use indexmap::{Equivalent, IndexMap};
+use std::hash::Hash;
+use swf_document::DocKey;
+use swf_value::{Text, same_texts};
+
+/// The key of a document, or the id of an instance.
+#[derive(PartialEq, Eq, Hash, Drop)]
+pub enum Key {
+    Document(DocKey),
+    Instance(Text),
+}
+
+/// A key that is looked up.
+#[derive(Clone, Copy, PartialEq, Eq, Hash)]
+pub enum Sought<'a> {
+    Document(&'a DocKey),
+    Instance(&'a Text),
+}
+
+impl<'a> Equivalent<Key> for Sought<'a> {
+    ghost equivalent = { stands_for };
+
+    ghost respects_hash = { hashed_alike ⟦<Sought<'a> as Hash>⟧.hash_input ⟦<Key as Hash>⟧.hash_input (sought_alike ⟦<Sought<'a> as Hash>⟧.hash_input ⟦<Key as Hash>⟧.hash_input (λ k. refl) (λ id. refl)) };
+
+    ghost respects_eq = { stands_alike ⟦<Key as PartialEq>⟧.eq (keys_alike ⟦<Key as PartialEq>⟧.eq docs_alike (λ a b. refl) (λ a b. refl) (λ a b. refl)) };
+
+    fn equivalent(&self, key: &Key) -> bool {
+        match (*self, key) {
+            (Sought::Document(a), Key::Document(b)) => same_key(a, b),
+            (Sought::Instance(a), Key::Instance(b)) => same_texts(a, b),
+            _ => false,
+        }
+    }
+}
+
+// Whether two keys are one.
+fn same_key(a: &DocKey, b: &DocKey) -> bool
+    ensures { result ≡ same_doc a.now b.now }
+{
+    same_texts(&a.namespace, &b.namespace)
+        && same_texts(&a.name, &b.name)
+        && same_texts(&a.version, &b.version)
+}
+
+/// The place at which a key was used.
+pub fn used_place(keys: &IndexMap<Key, u64>, sought: Sought<'_>) -> Option<u64>
+    ensures { result ≡ used_at (sought_key sought.entry) (keys_in keys.now.entries) }
+{
+    keys.get(sought).copied()
+}

@@ -1,0 +1,21 @@
+//! The world: all instances, the keys that were used, and why a label is refused, as maps that equal the lists of the definitions.
+#![tactic(auto)]
+
+mod change;
+mod key;
+mod latest;
+mod laws;
+mod machine;
+mod prepare;
+mod query;
+mod refusal;
+mod reports;
+mod shared;
+mod turns;
+mod world;
+
+pub use change::{Change, Installed};
+pub use laws::refusal_laws;
+pub use query::{Answer, QueryFault};
+pub use refusal::{PrepareFault, Refusal};
+pub use world::World;

@@ -1,0 +1,226 @@
+// Whether a label is taken, and the change that it makes.
+ghost use Rattle.std.specs.Prelude.{◌≡◌, ◌<◌, ◌&&◌, Err, IfOk, OnOk, None, Some, true, is_some, length};
+ghost use Rattle.swf_document.specs.declared.document.Document.{Document as Read};
+ghost use Rattle.swf_meaning.specs.Keys.{Instance as OfInstance};
+ghost use Rattle.swf_meaning.specs.Answer.{instance_at};
+ghost use Rattle.swf_meaning.specs.After.{after, document_at, stepped, is_root};
+ghost use Rattle.std.specs.List.{AllByRecursion};
+ghost use Rattle.swf_world.specs.Early.{IsEarly, IsEarlyRefusal};
+ghost use Rattle.swf_world.specs.Changes.{Suits, step_at, changed};
+ghost use Rattle.swf_world.specs.Refusals.{refusal, refusal_of_load, refusal_of_start, refusal_of_step, duplicate, refused_by, IsLoad};
+ghost use Rattle.swf_world.specs.Progress.{InList, next_of};
+ghost use Rattle.swf_world.specs.Queued.{enabled_at};
+ghost use Rattle.swf_world.specs.UsedKey.{used_at};
+ghost use Rattle.swf_world.specs.Prepares.{Prepares, load_of, start_of, or_memory};
+
+use crate::change::{Change, ChangeKind};
+use crate::key::{Key, Sought, used_place};
+use crate::machine::{Instance, Progress, next_of_instance};
+use crate::refusal::{PrepareFault, Refusal};
+use crate::shared::Shared;
+use crate::world::{Loaded, World};
+use std::alloc::{AllocError, Global};
+use swf_document::{DocKey, Document};
+use swf_meaning::Label;
+use swf_reader::{ReadFault, read_small};
+use swf_value::{Json, Strand, Text};
+
+/// How many documents may be loaded.
+const MOST_DOCUMENTS: usize = 1000;
+
+/// How many instances may be started.
+const MOST_INSTANCES: usize = 10_000;
+
+/// How many labels a world takes.
+const MOST_LABELS: u64 = 1 << 40;
+
+impl World {
+    /// Whether a label is taken that is no load, or why not. It takes no memory.
+    pub fn check(&self, label: &Label) -> Result<(), Refusal>
+        requires { ¬ IsLoad label.now }
+        ensures { refused_by result ≡ refusal self.now.world label.now }
+    {
+        match label {
+            Label::Load(_) => Ok(()),
+            Label::Start { id, key, .. } => match self.startable(id, key) {
+                Ok(_) => Ok(()),
+                Err(refusal) => Err(refusal),
+            },
+            Label::Step { id, strand } => match self.steppable(id, strand) {
+                Ok(_) => Ok(()),
+                Err(refusal) => Err(refusal),
+            },
+        }
+    }
+
+    /// Makes room for a label's change, or says why it is not taken. The world stays as it was.
+    pub fn prepare(&mut self, label: &Label) -> Result<Change, PrepareFault>
+        ensures same { self.new.world ≡ self.old.world }
+        ensures ready { IfOk result (λ c. Suits self.new.world c × (after self.old.world label.now ≡ Some (changed self.old.world c)) × (0 < self.new.room)) }
+        ensures refused { (r : Refusal) → result ≡ Err (PrepareFault.Refused r) → (refusal self.old.world label.now ≡ Some r) × (after self.old.world label.now ≡ None) }
+        ensures taken { IfOk result (λ _. refusal self.old.world label.now ≡ None) }
+        ensures early { (r : Refusal) → result ≡ Err (PrepareFault.Refused r) → IsEarlyRefusal r }
+    {
+        if self.make_room().is_err() {
+            return Err(PrepareFault::OutOfMemory);
+        }
+        match label {
+            Label::Load(value) => self.prepare_load(value),
+            Label::Start { id, key, input } => self.prepare_start(id, key, input),
+            Label::Step { id, strand } => self.prepare_step(id, strand),
+        }
+    }
+
+    // Makes room for one change more.
+    fn make_room(&mut self) -> Result<(), AllocError>
+        ensures same { self.new.world ≡ self.old.world }
+        ensures room { OnOk result (0 < self.new.room) }
+        ensures early { AllByRecursion IsEarly self.new.world.keys }
+    {
+        if self.count >= MOST_LABELS {
+            return Err(AllocError);
+        }
+        self.documents.reserve(1)?;
+        self.instances.reserve(1)?;
+        self.keys.reserve(1)?;
+        self.queue.reserve(1)
+    }
+
+    fn prepare_load(&self, value: &Json) -> Result<Change, PrepareFault>
+        ensures { Prepares self.now.world (Label.Load value.now) result }
+    {
+        let document = match read_small(self.alloc, value) {
+            Ok(document) => document,
+            Err(ReadFault::Faults(faults)) => {
+                return Err(PrepareFault::Refused(Refusal::Refused(faults)));
+            }
+            Err(ReadFault::OutOfMemory) => return Err(PrepareFault::OutOfMemory),
+        };
+        match self.loadable(&document.key) {
+            Err(refusal) => Err(PrepareFault::Refused(refusal)),
+            Ok(()) => ready(load_change(self.alloc, value, document)),
+        }
+    }
+
+    fn prepare_start(&self, id: &Text, key: &DocKey, input: &Json) -> Result<Change, PrepareFault>
+        ensures { Prepares self.now.world (Label.Start id.now key.now input.now) result }
+    {
+        let _ = &self.alloc;
+        match self.startable(id, key) {
+            Err(refusal) => Err(PrepareFault::Refused(refusal)),
+            Ok(loaded) => ready(start_change(id, &loaded.document, input)),
+        }
+    }
+
+    fn prepare_step(&self, id: &Text, strand: &Strand) -> Result<Change, PrepareFault>
+        ensures { Prepares self.now.world (Label.Step id.now strand.now) result }
+    {
+        match self.steppable(id, strand) {
+            Err(refusal) => Err(PrepareFault::Refused(refusal)),
+            Ok(number) => Ok(Change {
+                kind: ChangeKind::Step { number },
+            }),
+        }
+    }
+
+    // Whether a document of this key can be added, or why not.
+    fn loadable(&self, key: &DocKey) -> Result<(), Refusal>
+        ensures { (d : Read) → d.key ≡ key.now → refused_by result ≡ refusal_of_load self.now.world (Some d) }
+    {
+        if let Some(place) = used_place(&self.keys, Sought::Document(key)) {
+            return Err(Refusal::Duplicate { place });
+        }
+        if self.documents.len() >= MOST_DOCUMENTS {
+            return Err(Refusal::Full);
+        }
+        Ok(())
+    }
+
+    // The document of an instance that can be started, or why it cannot.
+    fn startable(&self, id: &Text, key: &DocKey) -> Result<&Loaded, Refusal>
+        ensures refused { refused_by result ≡ duplicate (used_at (OfInstance id.now) self.now.world.keys) (refusal_of_start self.now.world (document_at key.now self.now.world.documents)) }
+        ensures found { IfOk result (λ l. document_at key.now self.now.world.documents ≡ Some l.now.document) }
+    {
+        if let Some(place) = used_place(&self.keys, Sought::Instance(id)) {
+            return Err(Refusal::Duplicate { place });
+        }
+        let Some(loaded) = self.documents.get(key) else {
+            return Err(Refusal::UnknownDocument);
+        };
+        if self.instances.len() >= MOST_INSTANCES {
+            return Err(Refusal::Full);
+        }
+        Ok(loaded)
+    }
+
+    // The number of the instance that can take a step, or why it cannot.
+    fn steppable(&self, id: &Text, strand: &Strand) -> Result<usize, Refusal>
+        ensures refused { refused_by result ≡ refusal_of_step strand.now (instance_at id.now self.now.world.instances) }
+        ensures found { IfOk result (λ n. (enabled_at self.now.world.instances n ≡ true) × (stepped id.now self.now.world.instances ≡ Some (step_at n self.now.world.instances))) }
+    {
+        let Some(number) = self.instances.get_index_of(id) else {
+            return Err(Refusal::UnknownInstance);
+        };
+        if can_step(&self.instances[number], strand) {
+            Ok(number)
+        } else {
+            Err(Refusal::NotEnabled)
+        }
+    }
+}
+
+// Whether a strand of an instance can take a step: the one outside every branch, where the instance is not done.
+fn can_step(instance: &Instance, strand: &Strand) -> bool
+    requires { InList instance.now.progress (length instance.now.document.tasks) }
+    ensures { result ≡ (is_root strand.now && is_some (next_of (length instance.now.document.tasks) instance.now.progress)) }
+{
+    strand.as_slice().is_empty() && next_of_instance(instance).is_some()
+}
+
+// A change that was made, where memory was found.
+fn ready(made: Result<Change, AllocError>) -> Result<Change, PrepareFault>
+    ensures { result ≡ or_memory made }
+{
+    match made {
+        Ok(change) => Ok(change),
+        Err(_) => Err(PrepareFault::OutOfMemory),
+    }
+}
+
+// The change that adds a document.
+fn load_change(alloc: Global, value: &Json, document: Document) -> Result<Change, AllocError>
+    ensures { IfOk result (λ c. c ≡ record { kind = load_of value.now document }) }
+{
+    let key = document.key.copy()?;
+    let used = Key::Document(document.key.copy()?);
+    let value = value.copy()?;
+    let document = Shared::of(alloc, document)?;
+    Ok(Change {
+        kind: ChangeKind::Load {
+            key,
+            used,
+            loaded: Loaded { value, document },
+        },
+    })
+}
+
+// The change that adds an instance which has not begun.
+fn start_change(id: &Text, document: &Shared, input: &Json) -> Result<Change, AllocError>
+    ensures { IfOk result (λ c. c ≡ record { kind = start_of id.now document.now input.now }) }
+{
+    let used = Key::Instance(id.copy()?);
+    let id = id.copy()?;
+    let document = document.copy()?;
+    let input = input.copy()?;
+    Ok(Change {
+        kind: ChangeKind::Start {
+            id,
+            used,
+            instance: Instance {
+                document,
+                input,
+                progress: Progress::Fresh,
+            },
+        },
+    })
+}

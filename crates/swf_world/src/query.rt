@@ -1,0 +1,86 @@
+// Queries, which change nothing.
+ghost use Rattle.std.specs.Prelude.{◌≡◌, ◌⊎◌, ◌++◌, Err, IfOk, OnOk};
+ghost use Rattle.swf_world.specs.Answers.{answer, found};
+ghost use Rattle.swf_meaning.specs.Answer.{status};
+ghost use Rattle.swf_world.specs.Enabled.{enabled_strands, strand_at};
+ghost use Rattle.swf_world.specs.Fields.{instances_in};
+ghost use Rattle.swf_world.specs.Kept.{IsPlaced};
+ghost use Rattle.std.specs.List.{AllByRecursion};
+
+use crate::machine::{Instance, next_of_instance};
+use crate::reports::report;
+use crate::world::World;
+use indexmap::IndexMap;
+use std::alloc::{AllocError, Global};
+use swf_meaning::Query;
+use swf_value::{Json, Strand, Text};
+use thiserror::Error;
+
+/// What a query is answered.
+#[derive(Drop)]
+pub enum Answer {
+    /// The report of an instance.
+    Status(Json),
+}
+
+/// Why a query has no answer.
+#[derive(Clone, Copy, Debug, PartialEq, Eq, Error)]
+pub enum QueryFault {
+    #[error("unknown instance")]
+    UnknownInstance,
+    #[error("out of memory")]
+    OutOfMemory,
+}
+
+impl World {
+    /// Answers a query.
+    pub fn answer(&self, query: &Query) -> Result<Answer, QueryFault>
+        ensures { (result ≡ Err QueryFault.OutOfMemory) ⊎ (result ≡ answer self.now.world query.now) }
+    {
+        match query {
+            Query::Status(id) => self.status(id),
+        }
+    }
+
+    // The report of an instance.
+    fn status(&self, id: &Text) -> Result<Answer, QueryFault>
+        ensures { (result ≡ Err QueryFault.OutOfMemory) ⊎ (result ≡ found (status self.now.world id.now)) }
+    {
+        let Some(instance) = self.instances.get(id) else {
+            return Err(QueryFault::UnknownInstance);
+        };
+        match report(self.alloc, id, instance) {
+            Ok(value) => Ok(Answer::Status(value)),
+            Err(_) => Err(QueryFault::OutOfMemory),
+        }
+    }
+
+    /// Every strand that can take a step with the id of its instance, in start order.
+    pub fn enabled_strands(&self) -> Result<Vec<(Text, Strand)>, AllocError>
+        ensures { IfOk result (λ v. v.items ≡ enabled_strands self.now.world) }
+    {
+        let mut strands = Vec::new(self.alloc);
+        for number in 0..self.instances.len() {
+            push_enabled(self.alloc, &mut strands, &self.instances, number)?;
+        }
+        Ok(strands)
+    }
+}
+
+// Adds the strand of the instance of a number, where it can take a step.
+fn push_enabled(
+    alloc: Global,
+    strands: &mut Vec<(Text, Strand)>,
+    instances: &IndexMap<Text, Instance>,
+    number: usize,
+) -> Result<(), AllocError>
+    requires { AllByRecursion IsPlaced instances.now.entries }
+    ensures { OnOk result (strands.new.items ≡ strands.old.items ++ strand_at (instances_in instances.now.entries) number) }
+{
+    if let Some((id, instance)) = instances.get_index(number) {
+        if next_of_instance(instance).is_some() {
+            strands.push((id.copy()?, Strand::root(alloc)))?;
+        }
+    }
+    Ok(())
+}

@@ -1,0 +1,85 @@
+// Whose turn it is: the enabled instances take steps in turn.
+ghost use Rattle.std.specs.Prelude.{◌≡◌, ◌<◌, Ok, None, true, IfOk, IfSome, IfNone, [], length};
+ghost use Rattle.std.specs.List.{AllByRecursion};
+ghost use Rattle.swf_meaning.specs.Runs.{is_quiet};
+ghost use Rattle.swf_meaning.specs.World.{World as TheWorld};
+ghost use Rattle.swf_world.specs.Enabled.{CanGo};
+ghost use Rattle.swf_world.specs.Fields.{instances_in};
+ghost use Rattle.swf_world.specs.Kept.{IsPlaced};
+ghost use Rattle.swf_world.specs.Queued.{enabled_at, Queued};
+
+use crate::machine::{Instance, next_of_instance};
+use crate::world::World;
+use indexmap::IndexMap;
+use std::alloc::{AllocError, Global};
+use std::collections::VecDeque;
+use swf_meaning::Label;
+use swf_value::{Strand, Text};
+
+impl World {
+    /// The next step that can be taken, where there is one. The instance that takes it has its next turn after all others.
+    pub fn next_step(&mut self) -> Result<Option<Label>, AllocError>
+        ensures same { self.new.world ≡ self.old.world }
+        ensures none { result ≡ Ok None → is_quiet self.new.world ≡ true }
+        ensures some { IfOk result (λ o. IfSome o (CanGo self.new.world)) }
+    {
+        let Some(number) = first_enabled(&mut self.queue, &self.instances) else {
+            return Ok(None);
+        };
+        let label = step_label(self.alloc, &self.instances, number)?;
+        self.queue.rotate_left(1);
+        Ok(Some(label))
+    }
+
+    /// Whether no strand can take a step.
+    pub fn is_quiet(&mut self) -> bool
+        ensures same { self.new.world ≡ self.old.world }
+        ensures quiet { result ≡ is_quiet self.new.world }
+    {
+        first_enabled(&mut self.queue, &self.instances).is_none()
+    }
+}
+
+// The number of the first instance in the queue that can take a step. Those before it leave the queue.
+fn first_enabled(queue: &mut VecDeque<usize>, instances: &IndexMap<Text, Instance>) -> Option<usize>
+    requires placed { AllByRecursion IsPlaced instances.now.entries }
+    requires turns { Queued (instances_in instances.now.entries) queue.old.items }
+    ensures turns { Queued (instances_in instances.now.entries) queue.new.items }
+    ensures none { IfNone result (queue.new.items ≡ []) }
+    ensures some { IfSome result (λ n. (enabled_at (instances_in instances.now.entries) n ≡ true) × (0 < length queue.new.items)) }
+{
+    while let Some(number) = queue.front() {
+        let number = *number;
+        if is_enabled(instances, number) {
+            return Some(number);
+        }
+        queue.pop_front();
+    }
+    None
+}
+
+// Whether the instance of a number can take a step.
+fn is_enabled(instances: &IndexMap<Text, Instance>, number: usize) -> bool
+    requires placed { AllByRecursion IsPlaced instances.now.entries }
+    ensures { result ≡ enabled_at (instances_in instances.now.entries) number }
+{
+    match instances.get_index(number) {
+        Some((_, instance)) => next_of_instance(instance).is_some(),
+        None => false,
+    }
+}
+
+// The step of the instance of a number.
+fn step_label(
+    alloc: Global,
+    instances: &IndexMap<Text, Instance>,
+    number: usize,
+) -> Result<Label, AllocError>
+    requires { enabled_at (instances_in instances.now.entries) number ≡ true }
+    ensures { IfOk result (λ l. (w : TheWorld) → w.instances ≡ instances_in instances.now.entries → CanGo w l) }
+{
+    let (id, _) = instances.get_index(number).unwrap();
+    let id = id.copy()?;
+    let strand = Strand::root(alloc);
+    Ok(Label::Step { id, strand })
+}

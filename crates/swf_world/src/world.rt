@@ -1,0 +1,77 @@
+// All instances and documents, by maps that equal the lists of the definitions.
+ghost use Rattle.std.specs.Prelude.{◌≡◌, slice_get, option_map};
+ghost use Rattle.swf_meaning.specs.World.{empty};
+
+use crate::key::Key;
+use crate::machine::Instance;
+use crate::shared::Shared;
+use indexmap::IndexMap;
+use std::alloc::Global;
+use std::collections::VecDeque;
+use std::marker::Model;
+use swf_document::DocKey;
+use swf_value::{Json, Text};
+
+/// A document, and the value that it was read from.
+#[derive(Drop)]
+pub struct Loaded {
+    pub value: Json,
+    pub document: Shared,
+}
+
+/// The world. Contracts see it as the world of the definitions, and how many more changes fit without memory.
+#[derive(Drop)]
+pub struct World {
+    pub(crate) alloc: Global,
+    pub(crate) documents: IndexMap<DocKey, Loaded>,
+    /// In start order.
+    pub(crate) instances: IndexMap<Text, Instance>,
+    /// Every used key with its place.
+    pub(crate) keys: IndexMap<Key, u64>,
+    /// The numbers of the instances that may be enabled, in the order of their turns.
+    pub(crate) queue: VecDeque<usize>,
+    /// How many labels came.
+    pub(crate) count: u64,
+}
+
+impl Model for World {
+    ghost use Rattle.std.specs.Prelude.{◌-◌};
+    ghost use Rattle.std.specs.VecDeque.{deque_len, deque_capacity};
+    ghost use Rattle.indexmap.specs.IndexMap.{spare};
+    ghost use Rattle.swf_world.specs.Held.{Held, held_code};
+
+    ghost Value = { Held };
+
+    ghost coded = { held_code };
+
+    ghost use Rattle.swf_world.specs.Fields.{world_of, room_of};
+    ghost use Rattle.swf_world.specs.Kept.{Kept};
+
+    ghost view = { λ w. record { world = world_of w.documents.entries w.instances.entries w.keys.entries w.count; room = room_of (spare w.documents) (spare w.instances) (spare w.keys) (deque_capacity w.queue - deque_len w.queue) w.count } };
+
+    ghost invariant = { λ w. Kept w.documents.entries w.instances.entries w.keys.entries w.queue.items w.count };
+}
+
+impl World {
+    /// A world in which nothing happened. It takes no memory.
+    pub fn new(alloc: Global) -> World
+        ensures { result.world ≡ empty }
+    {
+        World {
+            alloc,
+            documents: IndexMap::new(alloc),
+            instances: IndexMap::new(alloc),
+            keys: IndexMap::new(alloc),
+            queue: VecDeque::new(alloc),
+            count: 0,
+        }
+    }
+
+    /// The id of the instance of that number, from 0, in start order. It takes no memory.
+    pub fn instance(&self, number: u64) -> Option<&Text>
+        ensures { option_map (λ id. id.now) result ≡ option_map (λ i. i.id) (slice_get self.now.world.instances number) }
+    {
+        let (id, _) = self.instances.get_index(number as usize)?;
+        Some(id)
+    }
+}
