@@ -1,0 +1,152 @@
+// Writing a reply as its line.
+ghost use Rattle.std.specs.Prelude.{◌≡◌, ◌≤◌, ◌^◌, IsTrue, IfOk, codes};
+ghost use Rattle.swf_value.specs.Same.{is_ascii};
+ghost use Rattle.swf_value.specs.Value.{IsBefore};
+ghost use Rattle.swf_protocol.specs.Spoken.{one, two, ok_with, fault_text, kind_text, fault_value, faults_value, reply_value, spoken};
+ghost use Rattle.swf_protocol.specs.Sayable.{IsSayable};
+
+use crate::command::LineFault;
+use crate::reply::Reply;
+use std::alloc::{AllocError, Global};
+use swf_document::{Fault, FaultKind, Faults};
+use swf_value::{Json, member, pointer_text, word, write_json};
+
+// An object of one text.
+fn one(alloc: Global, name: &str, text: &str) -> Result<Json, AllocError>
+    requires name { IsTrue (is_ascii name.now) }
+    requires text { IsTrue (is_ascii text.now) }
+    ensures { IfOk result (λ v. v ≡ one name.now text.now) }
+{
+    let mut members = Vec::new(alloc);
+    members.push(member(alloc, name, Json::text(word(alloc, text)?))?)?;
+    Json::object(alloc, members)
+}
+
+// An object of a text and another value.
+fn two(alloc: Global, name: &str, text: &str, other: &str, value: Json) -> Result<Json, AllocError>
+    requires name { IsTrue (is_ascii name.now) }
+    requires text { IsTrue (is_ascii text.now) }
+    requires other { IsTrue (is_ascii other.now) }
+    requires order { IsBefore name.now other.now }
+    ensures { IfOk result (λ v. v ≡ two name.now text.now other.now value) }
+{
+    let mut members = Vec::new(alloc);
+    members.push(member(alloc, name, Json::text(word(alloc, text)?))?)?;
+    members.push(member(alloc, other, value)?)?;
+    Json::object(alloc, members)
+}
+
+// An `ok` with a number.
+fn ok_with(alloc: Global, text: &str, name: &str, number: u64) -> Result<Json, AllocError>
+    requires text { IsTrue (is_ascii text.now) }
+    requires name { IsTrue (is_ascii name.now) }
+    requires order { IsBefore (codes "ok") name.now }
+    requires small { number ≤ 2 ^ 40 }
+    ensures { IfOk result (λ v. v ≡ ok_with text.now name.now number) }
+{
+    two(alloc, "ok", text, name, Json::int(number as i64))
+}
+
+fn fault_text(fault: LineFault) -> &'static str
+    ensures text { result.now ≡ fault_text fault }
+    ensures ascii { IsTrue (is_ascii result.now) }
+{
+    match fault {
+        LineFault::Command => "command",
+        LineFault::Word => "word",
+        LineFault::Number => "number",
+        LineFault::NotJson => "not-json",
+        LineFault::TooDeep => "too-deep",
+        LineFault::NotWhole => "not-whole",
+    }
+}
+
+fn kind_text(kind: FaultKind) -> &'static str
+    ensures text { result.now ≡ kind_text kind }
+    ensures ascii { IsTrue (is_ascii result.now) }
+{
+    match kind {
+        FaultKind::NotInProfile => "not-in-profile",
+    }
+}
+
+// The value of a fault: its kind, and its place as a JSON Pointer.
+fn fault_json(alloc: Global, fault: &Fault) -> Result<Json, AllocError>
+    ensures { IfOk result (λ v. v ≡ fault_value fault.now) }
+{
+    let place = Json::text(pointer_text(alloc, &fault.place)?);
+    two(alloc, "kind", kind_text(fault.kind), "place", place)
+}
+
+fn faults_json(alloc: Global, faults: &[Fault]) -> Result<Json, AllocError>
+    ensures { IfOk result (λ v. v ≡ faults_value faults.now) }
+{
+    let mut items = Vec::new(alloc);
+    for fault in faults {
+        items.push(fault_json(alloc, fault)?)?;
+    }
+    Json::list(alloc, items)
+}
+
+// The value of a refusal with its faults.
+fn refused(alloc: Global, faults: Faults) -> Result<Json, AllocError>
+    ensures { IfOk result (λ v. v ≡ reply_value (Reply.Refused faults)) }
+{
+    let faults = faults_json(alloc, faults.as_slice())?;
+    two(alloc, "error", "refused", "faults", faults)
+}
+
+fn duplicate(alloc: Global, place: u64) -> Result<Json, AllocError>
+    requires { place ≤ 2 ^ 40 }
+    ensures { IfOk result (λ v. v ≡ reply_value (Reply.Duplicate place)) }
+{
+    two(
+        alloc,
+        "error",
+        "duplicate",
+        "place",
+        Json::int(place as i64),
+    )
+}
+
+// The value that a reply's line is of.
+fn reply_json(alloc: Global, reply: Reply) -> Result<Json, AllocError>
+    requires { IsSayable reply }
+    ensures { IfOk result (λ v. v ≡ reply_value reply) }
+{
+    match reply {
+        Reply::Loaded(place) => ok_with(alloc, "loaded", "place", place),
+        Reply::Started(place) => ok_with(alloc, "started", "place", place),
+        Reply::Quiet(steps) => ok_with(alloc, "quiet", "steps", steps),
+        Reply::Budget(steps) => ok_with(alloc, "budget", "steps", steps),
+        Reply::Report(value) => Ok(value),
+        Reply::Quit => one(alloc, "ok", "quit"),
+        Reply::BadLine(fault) => bad_line(alloc, fault),
+        Reply::TooLong => one(alloc, "error", "too-long"),
+        Reply::Refused(faults) => refused(alloc, faults),
+        Reply::Duplicate(place) => duplicate(alloc, place),
+        Reply::UnknownDocument => one(alloc, "error", "unknown-document"),
+        Reply::UnknownInstance => one(alloc, "error", "unknown-instance"),
+        Reply::Full => one(alloc, "error", "full"),
+        Reply::Memory => one(alloc, "error", "memory"),
+    }
+}
+
+fn bad_line(alloc: Global, fault: LineFault) -> Result<Json, AllocError>
+    ensures { IfOk result (λ v. v ≡ reply_value (Reply.BadLine fault)) }
+{
+    let text = Json::text(word(alloc, fault_text(fault))?);
+    two(alloc, "error", "bad-line", "fault", text)
+}
+
+/// The line of a reply, with its newline.
+pub fn reply_line(alloc: Global, reply: Reply) -> Result<Vec<u8>, AllocError>
+    requires { IsSayable reply }
+    ensures { IfOk result (λ bytes. bytes.items ≡ spoken reply) }
+{
+    let value = reply_json(alloc, reply)?;
+    let mut line = Vec::new(alloc);
+    write_json(&value, &mut line)?;
+    line.push(b'\n')?;
+    Ok(line)
+}
