@@ -1,4 +1,7 @@
-pub mod MachineLemmas
-pub mod SubmitLemmas
-pub mod ReportLemmas
-pub mod ReadLemmas
+pub mod HistoryLemmas
+pub mod MoveLemmas
+pub mod AddLemmas
+pub mod OpenLemmas
+pub mod LawLemmas
+pub mod StepLemmas
+pub mod ReplayLemmas

@@ -1,11 +1,8 @@
-pub mod Told
+pub mod History
+pub mod Core
+pub mod Moves
 pub mod Causes
-pub mod Progress
-pub mod Machine
-pub mod Stands
-pub mod Submits
-pub mod Steps
 pub mod Answers
-pub mod ReadSmall
-pub mod Reports
-pub mod Script
+pub mod Damage
+pub mod Reading
+pub mod Opening

@@ -1,17 +1,13 @@
-//! The engine: instances, what was loaded, and the host from which inputs come and to which replies go.
+//! The engine: a world and the journal of its labels.
 #![tactic(auto)]
 
-mod console_host;
+mod add;
 mod engine;
-mod forms;
-mod host;
-mod machine;
-mod memory_host;
-mod reader;
-mod reports;
+mod fault;
+mod law;
+mod open;
+mod replay;
 
-pub use console_host::{ConsoleHost, MOST_LINE};
-pub use engine::{Answer, Engine, Installed, QueryFault, Refusal, Settled, Submitted};
-pub use host::{Failed, Host, Input, Said};
-pub use memory_host::{MemoryHost, Turn};
-pub use reader::{ReadFault, read_small};
+pub use engine::{Engine, Settled, Submitted};
+pub use fault::EngineFault;
+pub use law::history_laws;

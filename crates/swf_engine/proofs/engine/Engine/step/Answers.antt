@@ -1,26 +1,18 @@
-use Rattle.std.proofs.Common.{◌≡◌, ◌<◌, Some, length, arith}
-use Rattle.swf_engine.specs.Progress.{next_of}
-use Rattle.swf_engine.specs.Stands.{most_labels}
-use Rattle.swf_engine.proofs.MachineLemmas.{stands_from, legal_stands}
+use Rattle.std.proofs.Common.{Bool, Result, sym, subst}
+use Rattle.swf_engine.specs.declared.fault.EngineFault.{EngineFault}
+use Rattle.swf_engine.specs.declared.engine.Submitted.{Submitted}
+use Rattle.swf_engine.specs.Causes.{WhereUsable}
+use Rattle.swf_engine.specs.Core.{Core, IsEngineOf}
+use Rattle.swf_engine.proofs.StepLemmas.{engine_of, where_fault}
 use Rattle.swf_engine.proofs.engine.Engine.step.Goals as goal
+use Rattle.swf_engine.proofs.engine.Engine.step.Goals.{in-Ok, in-Err}
 
-pub invariant_of-self-in-Some-self-2 : goal.invariant_of-self-in-Some-self-2
-invariant_of-self-in-Some-self-2 c =
-    let document : c.self.inside.loaded ≡ Some c.in-Some-Some.document = cc in
-    let instance : c.self.inside.instance ≡ Some c.in-Some-Some.instance = cc in
-    let goes : next_of (length c.in-Some-Some.document.tasks) c.in-Some-Some.instance.progress ≡ Some c.in-Some.progress = cc in
-    let room : length c.self.inside.labels.items < most_labels = omega arith in
-    stands_from c.self.inside.labels.items c.push_step.new.labels.items c.self.inside.loaded c.self.inside.instance
-    c.in-Some-Some.document c.in-Some-Some.instance c.in-Some.progress c.self.invariant
-    document instance c.in_ok-push_step-in-Some-Some.ensures.ok goes room
-
-pub returns-in_ok-push_step-in-Some-Some-clause-legal :
-    goal.returns-in_ok-push_step-in-Some-Some-clause-legal
-returns-in_ok-push_step-in-Some-Some-clause-legal c =
-    let document : c.self.inside.loaded ≡ Some c.in-Some-Some.document = cc in
-    let instance : c.self.inside.instance ≡ Some c.in-Some-Some.instance = cc in
-    let goes : next_of (length c.in-Some-Some.document.tasks) c.in-Some-Some.instance.progress ≡ Some c.in-Some.progress = cc in
-    let room : length c.self.inside.labels.items < most_labels = omega arith in
-    legal_stands c.push_step.new.labels.items _ _ (stands_from c.self.inside.labels.items c.push_step.new.labels.items c.self.inside.loaded c.self.inside.instance
-    c.in-Some-Some.document c.in-Some-Some.instance c.in-Some.progress c.self.invariant
-    document instance c.in_ok-push_step-in-Some-Some.ensures.ok goes room)
+pub returns-clause-place : goal.returns-clause-place
+returns-clause-place g c =
+    let seen = g.S.Store.seen c.add_label.new.store in
+    let later : Core = record { world = c.add_label.new.world.world; gate = c.add_label.new.journal.at } in
+    elim c.match-add_label.branch [
+      | in-Ok w ↦ subst (λ (r : Result Bool EngineFault). WhereUsable r (IsEngineOf seen later)) (sym w.result-is) (engine_of seen c.add_label.new.journal later.world c.add_label.ensures.file w.in-Ok.ensures.place)
+      | in-Err w ↦ subst (λ (r : Result Bool EngineFault). WhereUsable r (IsEngineOf seen later)) (sym w.result-is)
+          (where_fault Submitted Bool w.in-Err.fault _ _ w.in-Err.ensures.place (λ p. engine_of seen c.add_label.new.journal later.world c.add_label.ensures.file p))
+    ]

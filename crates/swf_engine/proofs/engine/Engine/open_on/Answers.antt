@@ -1,0 +1,34 @@
+use Rattle.std.proofs.Common.{◌≡◌, ◌∙◌, ap, sym, subst, inl, ℕ, Ok, Err, Result}
+use Rattle.swf_store.specs.Disk.{Only}
+use Rattle.swf_journal.specs.Opening.{opened, begun}
+use Rattle.swf_journal.specs.declared.fault.OpenFault.{OpenFault}
+use Rattle.swf_engine.specs.declared.fault.EngineFault.{EngineFault}
+use Rattle.swf_engine.proofs.OpenLemmas.{replayed_none, all_damaged, all_opened, opens_on, opens_short, failed_damage}
+use Rattle.swf_engine.proofs.engine.Engine.open_on.Goals as goal
+
+pub returns-in-Ok-clause-opened : goal.returns-in-Ok-clause-opened
+returns-in-Ok-clause-opened g c = λ image seen.
+    let S = g.S.Store in
+    let mid = c.in-Ok.ensures.opened image seen in
+    let all = c.read_all.ensures.reads (opened image) mid (replayed_none (begun image.journal) c.in-Ok.reading (c.in-Ok.ensures.reading image seen)) in
+    let durable : Only (opened image) (S.may_leave c.read_all.new.store) = λ other may. c.in-Ok.ensures.durable image seen other (c.read_all.ensures.stop other may) in
+    all_opened S.moment S.left_since S.said S.may_leave S.seen image c.read_all.new.store c.read_all.result (c.read_all.ensures.seen ∙ mid) durable all
+
+pub returns-in-Ok-clause-any_moment : goal.returns-in-Ok-clause-any_moment
+returns-in-Ok-clause-any_moment g c = λ image seen history h.
+    let S = g.S.Store in
+    opens_on S.moment S.left_since S.said S.may_leave S.seen c.args.store.now c.begin.new.store c.read_all.new.store image history h c.begin.ensures.said (c.begin.ensures.any_moment image seen) (c.in-Ok.ensures.durable image seen)
+    c.read_all.ensures.any_moment
+
+pub returns-in-Ok-clause-damaged : goal.returns-in-Ok-clause-damaged
+returns-in-Ok-clause-damaged g c = λ image seen at is.
+    let mid = c.in-Ok.ensures.opened image seen in
+    all_damaged image c.read_all.result at (c.read_all.ensures.reads (opened image) mid (replayed_none (begun image.journal) c.in-Ok.reading (c.in-Ok.ensures.reading image seen))) is
+
+pub returns-in-Err-clause-any_moment : goal.returns-in-Err-clause-any_moment
+returns-in-Err-clause-any_moment g c = λ image seen history h.
+    let S = g.S.Store in
+    opens_short S.moment S.left_since S.said S.may_leave S.seen c.args.store.now c.begin.new.store image history h (c.begin.ensures.any_moment image seen)
+
+pub returns-in-Err-clause-damaged : goal.returns-in-Err-clause-damaged
+returns-in-Err-clause-damaged g c = λ image seen at is. failed_damage image c.in-Err.fault c.from.result at c.from.ensures is (c.in-Err.ensures.damaged image seen)

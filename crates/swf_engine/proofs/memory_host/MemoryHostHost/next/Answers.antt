@@ -1,8 +1,0 @@
-use Rattle.std.proofs.Common.{◌≡◌, inl, true}
-use Rattle.swf_engine.specs.Script.{is_among, play, failed, next_counted}
-use Rattle.swf_engine.proofs.memory_host.MemoryHostHost.next.Goals as goal
-
-pub returns-then-contains-clause-play : goal.returns-then-contains-clause-play
-returns-then-contains-clause-play c =
-    let listed : is_among c.args.self.now.nexts c.args.self.now.failing_next.items ≡ true = cc in
-    inl (listed, cc)

@@ -1,8 +1,0 @@
-use Rattle.std.proofs.Common.{◌≡◌, inl, true}
-use Rattle.swf_engine.specs.Script.{is_among, play, failed, say_counted}
-use Rattle.swf_engine.proofs.memory_host.MemoryHostHost.say.Goals as goal
-
-pub returns-then-contains-clause-play : goal.returns-then-contains-clause-play
-returns-then-contains-clause-play c =
-    let listed : is_among c.args.self.now.says c.args.self.now.failing_say.items ≡ true = cc in
-    inl (listed, cc)

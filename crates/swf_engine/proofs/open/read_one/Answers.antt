@@ -1,0 +1,58 @@
+use Rattle.std.proofs.Common.{◌≡◌, ◌∙◌, ap, sym, subst, ℕ, ◌+◌, List, [], ◌∷◌, ◌++◌, Option, Some, None, Vec, Global, Err, is_none, true, drop}
+use Rattle.std.specs.Option.{MatchOption}
+use Rattle.swf_store.specs.Files.{bytes_of}
+use Rattle.swf_store.specs.declared.image.Image.{Image}
+use Rattle.swf_store.specs.declared.image.File.{File}
+use Rattle.swf_store.specs.declared.image.File.TheVariants.{Journal}
+use Rattle.swf_journal.specs.Frames.{header}
+use Rattle.swf_journal.specs.Opening.{IsDamage}
+use Rattle.swf_journal.specs.Place.{Place, HasRead}
+use Rattle.swf_journal.specs.Stands.{IsShutAfter}
+use Rattle.swf_engine.specs.declared.fault.EngineFault.{EngineFault}
+use Rattle.swf_engine.specs.Reading.{Reads}
+use Rattle.swf_engine.proofs.OpenLemmas.{read_more, read_bad, read_ended, read_failed}
+use Rattle.swf_engine.proofs.open.read_one.Goals as goal
+
+-- what the reading found, of the journal
+of_journal : (image : Image) (file : File) (new : Place) (bodies : List (List ℕ)) (o p : Option (Vec ℕ Global)) → file ≡ Journal → o ≡ p
+    → MatchOption o (HasRead (bytes_of image file) new header bodies × IsShutAfter header (bytes_of image file) bodies) (λ body. HasRead (bytes_of image file) new header (bodies ++ body.items ∷ []))
+    → MatchOption p (HasRead image.journal new header bodies × IsShutAfter header image.journal bodies) (λ body. HasRead image.journal new header (bodies ++ body.items ∷ []))
+of_journal image file new bodies o p is same found =
+    subst (λ (f : File). MatchOption p (HasRead (bytes_of image f) new header bodies × IsShutAfter header (bytes_of image f) bodies) (λ body. HasRead (bytes_of image f) new header (bodies ++ body.items ∷ []))) is
+    (subst (λ (q : Option (Vec ℕ Global)). MatchOption q (HasRead (bytes_of image file) new header bodies × IsShutAfter header (bytes_of image file) bodies) (λ body. HasRead (bytes_of image file) new header (bodies ++ body.items ∷ []))) same found)
+
+in_file : (image : Image) (file : File) (place : Place) (bodies : List (List ℕ)) → file ≡ Journal → HasRead image.journal place header bodies → HasRead (bytes_of image file) place header bodies
+in_file image file place bodies is read = subst (λ (f : File). HasRead (bytes_of image f) place header bodies) (sym is) read
+
+pub returns-in-Ok-clause-reads : goal.returns-in-Ok-clause-reads
+returns-in-Ok-clause-reads g c = λ image seen s.
+    let place = c.args.reading.now in
+    let new = c.next_frame.new.self in
+    let next = c.in-Ok-Some.ensures.next image seen header s.bodies (in_file image place.file place s.bodies c.requires.file s.read) in
+    let read = of_journal image place.file new s.bodies c.in-Ok-Some.field-0 (Some c.in-Ok-Some.body) c.requires.file c.in-Ok-Some.field-0-is next in
+    read_more image.journal place new c.args.world.now.world c.replay.new.world.world s c.in-Ok-Some.body.items c.as_slice.result.now read c.as_slice.ensures.value c.in-Ok.ensures.ok
+
+pub returns-in-Ok-Some-clause-reads : goal.returns-in-Ok-Some-clause-reads
+returns-in-Ok-Some-clause-reads g c = λ image seen s.
+    let place = c.args.reading.now in
+    let new = c.next_frame.new.self in
+    let next = c.in-Ok-Some.ensures.next image seen header s.bodies (in_file image place.file place s.bodies c.requires.file s.read) in
+    let read = of_journal image place.file new s.bodies c.in-Ok-Some.field-0 (Some c.in-Ok-Some.body) c.requires.file c.in-Ok-Some.field-0-is next in
+    read_bad image.journal place new c.args.world.now.world c.replay.new.world.world s c.in-Ok-Some.body.items c.as_slice.result.now c.gate-gate.result c.in-Err-replay.fault read c.as_slice.ensures.value c.gate-gate.ensures
+    c.in-Err-replay.ensures.damaged c.in-Err-replay.ensures.full
+
+pub returns-in-Ok-None-clause-reads : goal.returns-in-Ok-None-clause-reads
+returns-in-Ok-None-clause-reads g c = λ image seen s.
+    let place = c.args.reading.now in
+    let new = c.next_frame.new.self in
+    let next = c.in-Ok-None.ensures.next image seen header s.bodies (in_file image place.file place s.bodies c.requires.file s.read) in
+    let read = of_journal image place.file new s.bodies c.in-Ok-None.field-0 None c.requires.file c.in-Ok-None.field-0-is next in
+    read_ended image.journal place new c.args.world.now.world s read.0 read.1 (ap (λ (p : Place). p.ended) c.in-Ok-None.ensures.place ∙ ap is_none c.in-Ok-None.field-0-is)
+
+pub returns-clause-reads : goal.returns-clause-reads
+returns-clause-reads g c = λ image seen s.
+    let place = c.args.reading.now in
+    let new = c.next_frame.new.self in
+    subst (λ (e : EngineFault). Reads image.journal new c.args.world.now.world (Err e)) (sym c.from.ensures)
+    (read_failed image.journal place new c.args.world.now.world c.args.world.now.world s c.in-Err.fault
+    (λ at is. subst (λ (f : File). (at ≡ place.gate + 1) × IsDamage (drop place.gate (bytes_of image f))) c.requires.file (c.in-Err.ensures.damaged image seen at is)))

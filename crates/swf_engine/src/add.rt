@@ -1,0 +1,63 @@
+// How a label is added: its change is prepared, its frame appended, and then the change is made.
+ghost use Rattle.std.specs.Prelude.{◌≡◌, ◌<◌, ◌∷◌, [], OnOk, IfOk, length, is_some};
+ghost use Rattle.swf_store.specs.declared.image.File.TheVariants.{Journal as JournalFile};
+ghost use Rattle.swf_journal.specs.Place.{IsJournalOf};
+ghost use Rattle.swf_record.specs.Encodes.{Nests, Encodes};
+ghost use Rattle.swf_engine.specs.Answers.{Submits, IsSmall};
+ghost use Rattle.swf_engine.specs.Causes.{EngineCause, WhereUsable};
+ghost use Rattle.swf_engine.specs.Core.{most_bytes};
+
+use crate::{EngineFault, Submitted};
+use std::alloc::{AllocError, Global};
+use swf_journal::{FrameBytes, Journal, build};
+use swf_meaning::Label;
+use swf_record::encode_labels;
+use swf_store::Store;
+use swf_world::{PrepareFault, World};
+
+// The frame of one label.
+fn frame_of(alloc: Global, label: &Label) -> Result<FrameBytes, AllocError>
+    requires { Nests label.now }
+    ensures { IfOk result (λ frame. Encodes (label.now ∷ []) frame) }
+{
+    let body = encode_labels(alloc, std::slice::from_ref(label))?;
+    match build(alloc, &body) {
+        Ok(frame) => Ok(frame),
+        Err(_) => Err(AllocError),
+    }
+}
+
+/// Adds a label in a frame of its own, or says why it is not taken. Memory is found before the frame is written.
+pub fn add_label<S: Store>(
+    alloc: Global,
+    world: &mut World,
+    journal: &mut Journal,
+    store: &mut S,
+    label: Label,
+) -> Result<Submitted, EngineFault>
+    requires place { IsJournalOf (S.seen store.old) journal.old }
+    requires file { journal.old.file ≡ JournalFile }
+    requires limit { journal.old.limit ≡ most_bytes }
+    requires nests { Nests label }
+    ensures place { WhereUsable result (IsJournalOf (S.seen store.new) journal.new) }
+    ensures file { journal.new.file ≡ JournalFile }
+    ensures limit { journal.new.limit ≡ most_bytes }
+    ensures submits { Submits S.moment S.left_since S.said S.may_leave S.seen store.old store.new
+        (record { world = world.old.world; gate = journal.old.at }) (record { world = world.new.world; gate = journal.new.at }) label result }
+    ensures small { IfOk result IsSmall }
+    ensures said { S.said store.new ≡ S.said store.old }
+    ensures beside { S.beside store.new ≡ S.beside store.old }
+    ensures honest { is_some (S.seen store.new) ≡ is_some (S.seen store.old) }
+    ensures cause { EngineCause (S.store_faults store.old) (S.store_faults store.new) result }
+{
+    let change = match world.prepare(&label) {
+        Ok(change) => change,
+        Err(PrepareFault::Refused(refusal)) => return Ok(Submitted::Refused(refusal)),
+        Err(PrepareFault::OutOfMemory) => return Err(EngineFault::OutOfMemory),
+    };
+    let frame = frame_of(alloc, &label)?;
+    match journal.append(store, &frame) {
+        Ok(()) => Ok(Submitted::Accepted(world.install(change))),
+        Err(fault) => Err(EngineFault::from(fault)),
+    }
+}
