@@ -5,11 +5,15 @@ use std::env;
 use std::io::{self, BufReader, ErrorKind};
 use std::process::ExitCode;
 use std::rt::Env;
-use swf_cli::swf_run;
-use swf_engine::ConsoleHost;
+use swf_cli::{is_session, swf_run};
+use swf_host::ConsoleHost;
+use swf_store::{FileStore, StoreFault};
 
 /// The words of the command line have no meaning.
 const NO_MEANING: u8 = 2;
+
+/// The store could not be made.
+const STORE_FAULT: u8 = 3;
 
 /// No memory was found.
 const NO_MEMORY: u8 = 6;
@@ -20,10 +24,19 @@ fn main(rt: HostRuntime) -> ExitCode {
         Ok(words) => words,
         Err(status) => return ExitCode::from(status),
     };
+    // Nothing is made where the words have no meaning.
+    if !is_session(&words) {
+        return ExitCode::from(NO_MEANING);
+    }
     let Ok(reader) = BufReader::new(alloc, rt.reader()) else {
         return ExitCode::from(NO_MEMORY);
     };
-    let mut host = ConsoleHost::new(alloc, reader, io::writer(&rt));
+    let store = match FileStore::in_folder(rt, alloc, "") {
+        Ok(store) => store,
+        Err(StoreFault::Failed) => return ExitCode::from(STORE_FAULT),
+        Err(StoreFault::OutOfMemory) => return ExitCode::from(NO_MEMORY),
+    };
+    let mut host = ConsoleHost::new(alloc, store, reader, io::writer(&rt));
     ExitCode::from(swf_run(alloc, &words, &mut host))
 }
 

@@ -1,4 +1,4 @@
-pub mod DigitLemmas
-pub mod LineLemmas
+pub mod AnswerLemmas
 pub mod TurnLemmas
 pub mod SessionLemmas
+pub mod OpeningLemmas

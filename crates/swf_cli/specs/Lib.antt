@@ -1,9 +1,7 @@
 pub mod Words
-pub mod Line
-pub mod Spoken
 pub mod Turns
-pub mod Session
-pub mod Reading
-pub mod Sayable
+pub mod Follows
+pub mod Moments
 pub mod Steps
+pub mod Finish
 pub mod Statuses

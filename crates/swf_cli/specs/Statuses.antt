@@ -1,6 +1,13 @@
--- The statuses of a session.
-use Rattle.std.specs.Prelude.{◌≡◌, ◌⊎◌, ℕ}
+-- The statuses of a session, and what each blames.
+use Rattle.std.specs.Prelude.{◌≡◌, ◌≢◌, ◌⊎◌, ℕ}
+use Rattle.swf_store.specs.Faults.{RoseOnce}
 
--- read to the end, no meaning, the host failed, or want of memory
+-- read to the end, no meaning, the store failed, the host failed, damage, want of memory, or a full journal
 abbrev pub IsStatus : ℕ → Type 0
-IsStatus s = (s ≡ 0) ⊎ (s ≡ 2) ⊎ (s ≡ 4) ⊎ (s ≡ 6)
+IsStatus s = (s ≡ 0) ⊎ (s ≡ 2) ⊎ (s ≡ 3) ⊎ (s ≡ 4) ⊎ (s ≡ 5) ⊎ (s ≡ 6) ⊎ (s ≡ 7)
+
+-- A call that failed is the last: at 3 the store's count of faults has risen by one, at 4 the host's, and else both stay.
+pub record IsBlamed (status host host_now store store_now : ℕ) : Type 0 where
+  pub of_store : status ≡ 3 → RoseOnce store store_now × (host_now ≡ host)
+  pub of_host : status ≡ 4 → RoseOnce host host_now × (store_now ≡ store)
+  pub of_none : status ≢ 3 → status ≢ 4 → (host_now ≡ host) × (store_now ≡ store)

@@ -1,53 +1,173 @@
--- One turn of the session, by what the host tells before and after it.
-use Rattle.std.specs.Prelude.{◌≡◌, ◌⊎◌, ◌≤◌, ℕ, List, ◌++◌, Bool, true, false, Option, Some, None, option_map}
+-- What one turn of a session does: to the history, to what was taken and said, and at a stop at any moment of it.
+use Rattle.std.specs.Prelude.{◌≡◌, ◌⊎◌, ◌≢◌, ℕ, ◌+◌, List, [], ◌∷◌, ◌++◌, length, Bool, true, false, Option, Some, None, Result, Ok, Err}
+use Rattle.std.specs.Option.{ForSome}
+use Rattle.swf_store.specs.declared.image.Image.{Image}
+use Rattle.swf_store.specs.declared.said.Piece.{Piece}
+use Rattle.swf_store.specs.Disk.{NothingNew}
+use Rattle.swf_store.specs.Said.{SaidPart, and_piece}
+use Rattle.swf_store.specs.Stops.{Leaves, LeavesOnly}
 use Rattle.swf_meaning.specs.declared.label.Label.{Label}
-use Rattle.swf_engine.specs.Told.{Told, with_input, with_piece, SaysPart}
-use Rattle.swf_engine.specs.Causes.{Rose}
-use Rattle.swf_cli.specs.declared.reply.Reply.{Reply}
-use Rattle.swf_cli.specs.declared.session.After.{After}
-use Rattle.swf_cli.specs.declared.session.After.TheVariants.{GoesOn, Ends, Stops}
-use Rattle.swf_cli.specs.Spoken.{spoken}
-use Rattle.swf_cli.specs.Turns.{Turn, IsAnswered, ends}
-use Rattle.swf_cli.specs.Session.{conn_of, after_turn}
+use Rattle.swf_host.specs.declared.host.Input.{Input}
+use Rattle.swf_engine.specs.declared.fault.EngineFault.{EngineFault}
+use Rattle.swf_engine.specs.declared.fault.EngineFault.TheVariants.{Store, Damaged, Full, OutOfMemory}
+use Rattle.swf_engine.specs.Core.{Core, StandFor}
+use Rattle.swf_engine.specs.History.{IsHistory, Begins, IsGrown}
+use Rattle.swf_engine.specs.Moves.{IsFull}
+use Rattle.swf_world.specs.Refusals.{refusal}
+use Rattle.swf_protocol.specs.Line.{command_of}
+use Rattle.swf_protocol.specs.Spoken.{full_bytes}
+use Rattle.swf_protocol.specs.declared.command.Command.{Command}
+use Rattle.swf_protocol.specs.declared.command.LineFault.{LineFault}
+use Rattle.swf_protocol.specs.declared.reply.Reply.{Reply}
+use Rattle.swf_protocol.specs.declared.reply.Reply.TheVariants.{Memory}
+use Rattle.swf_cli.specs.declared.answer.Answered.{Answered}
+use Rattle.swf_cli.specs.declared.turn.After.{After}
+use Rattle.swf_cli.specs.declared.turn.After.TheVariants.{GoesOn, Ends, Stops}
+use Rattle.swf_cli.specs.Turns.{Turn, LineTurn, AskTurn, IsAnswered, is_long, ends}
+use Rattle.swf_cli.specs.Follows.{Heard, MayAdd, MayBegin, conn_of, heard}
 
-abbrev pub IsFault : ℕ → Type 0
-IsFault s = (s ≡ 4) ⊎ (s ≡ 6)
+-- a label that would be taken, and whose frame would end past the most bytes of a journal
+pub record IsFilled (engine : Core) (size : ℕ) : Type 0 where
+  pub label : Label
+  pub legal : refusal engine.world label ≡ None
+  pub full : IsFull engine (label ∷ []) size
 
--- saying a reply: whole, or not at all or in part where the program stops
-abbrev pub Says : Bool → ℕ → Reply → Option Told → Option Told → After → Type 0
-Says over conn reply old new GoesOn = (over ≡ false) × (new ≡ option_map (with_piece conn (spoken reply)) old)
-Says over conn reply old new Ends = (over ≡ true) × (new ≡ option_map (with_piece conn (spoken reply)) old)
-Says over conn reply old new (Stops s) = IsFault s × SaysPart conn (spoken reply) old new
+-- the piece that says a reply, if there is one, behind so many inputs
+abbrev pub piece_of : ℕ → List Heard → List Piece
+piece_of n [] = []
+piece_of n (h ∷ hs) = (record { conn = h.conn; bytes = h.bytes; inputs = n }) ∷ piece_of n hs
 
--- a turn that was taken and whose reply, if any, was said
-pub record Whole (before after : List Label) (old new : Option Told) (over : Bool) : Type 0 where
-  pub turn : Turn
-  pub joined : after ≡ before ++ turn.labels
-  pub answered : IsAnswered before turn.input turn.labels turn.reply
-  pub told : new ≡ option_map (after_turn turn) old
-  pub ends : ends turn.input ≡ over
+-- the reply of an answer
+abbrev pub reply_of : Result Answered EngineFault → Result Reply EngineFault
+reply_of (Ok answered) = Ok answered.reply
+reply_of (Err fault) = Err fault
 
--- a turn whose reply was not said whole
-pub record Short (before after : List Label) (old new : Option Told) : Type 0 where
-  pub turn : Turn
-  pub reply : Reply
-  pub joined : after ≡ before ++ turn.labels
-  pub answered : IsAnswered before turn.input turn.labels turn.reply
-  pub owed : turn.reply ≡ Some reply
-  pub part : SaysPart (conn_of turn.input) (spoken reply) (option_map (with_input turn.input) old) new
+-- a call that found no memory is answered so, and any other fault stays
+abbrev pub or_memory : EngineFault → Result Reply EngineFault
+or_memory Store = Err Store
+or_memory (Damaged at) = Err (Damaged at)
+or_memory (Full size) = Err (Full size)
+or_memory OutOfMemory = Ok Memory
 
--- no input was taken
-pub record Nothing (before after : List Label) (old new : Option Told) : Type 0 where
-  pub labels : after ≡ before
-  pub told : new ≡ old
+-- of a call of the engine nothing is left but a fault of the store or a full journal
+abbrev pub IsBreak : {T : Type 0} → Result T EngineFault → Type 0
+IsBreak (Ok x) = Unit {0}
+IsBreak (Err Store) = Unit {0}
+IsBreak (Err (Damaged at)) = ⊥
+IsBreak (Err (Full size)) = Unit {0}
+IsBreak (Err OutOfMemory) = ⊥
 
-abbrev pub TurnDone : List Label → List Label → Option Told → Option Told → After → Type 0
-TurnDone before after old new GoesOn = Whole before after old new false
-TurnDone before after old new Ends = Whole before after old new true
-TurnDone before after old new (Stops s) = IsFault s × (Nothing before after old new ⊎ Short before after old new)
+-- a line has added these labels so far
+abbrev pub MayAsk : List Label → List ℕ → List Label → Type 0
+MayAsk history line part = (is_long line ≡ true → part ≡ []) × (is_long line ≡ false → MayAdd history (command_of line) part)
 
--- the host's count has not fallen, and has risen where the status is its fault
-abbrev pub IsCaused : ℕ → ℕ → After → Type 0
-IsCaused old new GoesOn = old ≤ new
-IsCaused old new Ends = old ≤ new
-IsCaused old new (Stops s) = (old ≤ new) × (s ≡ 4 → Rose old new)
+-- whether what follows a turn is the end of the input
+abbrev pub follows_end : Bool → After
+follows_end true = Ends
+follows_end false = GoesOn
+
+-- the status of what follows; 0 where the program goes on
+abbrev pub status_of : After → ℕ
+status_of GoesOn = 0
+status_of Ends = 0
+status_of (Stops s) = s
+
+-- A stop in a turn that was taken behind so many inputs: the image stands for the history and the first labels of the group, and
+-- nothing was said; or for all of them, and a part of these bytes was said, if there are some.
+abbrev pub TurnLeft : List Label → ℕ → List Piece → List Label → List Heard → Image → List Piece → Type 0
+TurnLeft history inputs pieces group line image now =
+    (IsGrown history group image × (now ≡ pieces))
+    ⊎ ((one : Heard) × (line ≡ one ∷ []) × IsHistory image (history ++ group) × SaidPart one.conn one.bytes (inputs + 1) pieces now)
+
+-- a turn stops the program only where the store or the host failed, for want of memory, or at a full journal
+abbrev pub IsStop : After → Type 0
+IsStop GoesOn = Unit {0}
+IsStop Ends = Unit {0}
+IsStop (Stops s) = (s ≡ 3) ⊎ (s ≡ 4) ⊎ (s ≡ 6) ⊎ (s ≡ 7)
+
+module _ {S : Type 0} (moment : S → ℕ) (left_since : S → ℕ → Image → List Piece → Type 0) (said : S → Option (List Piece)) (may_leave : S → Image → Type 0) (seen : S → Option Image) where
+  -- a call that says nothing: at every moment of it an image stands for the history and the first labels of the group
+  abbrev pub Passes : S → S → List Label → List Label → Type 0
+  Passes old new history group = LeavesOnly moment left_since said old new (IsGrown history group)
+
+  -- engine and store stand for this history
+  abbrev pub Stand : S → Core → List Label → Type 0
+  Stand host engine history = (image : Image) × (seen host ≡ Some image) × StandFor image (may_leave host) engine history
+
+  -- a command was done, which added labels and owes the reply; or the store failed, or the journal is full, behind some labels
+  abbrev pub CommandDone : (List Label → Type 0) → (List Label → Reply → Type 0) → List Label → S → S → Core → Result Reply EngineFault → Type 0
+  CommandDone May Does history old new after (Ok reply) = (labels : List Label) × Does labels reply × Passes old new history labels × Stand new after (history ++ labels)
+  CommandDone May Does history old new after (Err Store) = (labels : List Label) × ((part : List Label) → Begins part labels → May part) × Passes old new history labels
+  CommandDone May Does history old new after (Err (Damaged at)) = ⊥
+  CommandDone May Does history old new after (Err (Full size)) =
+      (labels : List Label) × ((part : List Label) → Begins part labels → May part) × Passes old new history labels × Stand new after (history ++ labels) × IsFilled after size
+  CommandDone May Does history old new after (Err OutOfMemory) = ⊥
+
+  -- where engine and store stood for a history before it, a line was answered so
+  abbrev pub LineDone : Result Command LineFault → S → S → Core → Core → Result Reply EngineFault → Type 0
+  LineDone command old new before after result = ForSome (seen old) (λ image. (history : List Label) → StandFor image (may_leave old) before history
+      → CommandDone (MayAdd history command) (LineTurn history command) history old new after result)
+
+  -- the same of an Ask, which may be too long
+  abbrev pub AskDone : List ℕ → S → S → Core → Core → Result Reply EngineFault → Type 0
+  AskDone line old new before after result = ForSome (seen old) (λ image. (history : List Label) → StandFor image (may_leave old) before history
+      → CommandDone (MayAsk history line) (AskTurn (is_long line) history line) history old new after result)
+
+  module _ (taken : S → Option (List Input)) where
+    -- bytes were said to a connection, or they are not made for want of memory, or the host failed
+    pub record Says (old new : S) (conn : ℕ) (line : List ℕ) (done : After) (result : After) : Type 0 where
+      pub whole : ForSome (taken old) (λ inputs. ForSome (said old) (λ pieces. result ≡ done → said new ≡ Some (and_piece conn line (length inputs) pieces)))
+      pub leaves : ForSome (taken old) (λ inputs. ForSome (said old) (λ pieces. Leaves moment left_since old new (λ image now. may_leave old image × SaidPart conn line (length inputs) pieces now)))
+      -- for want of memory nothing is said
+      pub quiet : result ≡ Stops 6 → said new ≡ said old
+      pub which : (result ≡ done) ⊎ (result ≡ Stops 6) ⊎ (result ≡ Stops 4)
+      pub stop : NothingNew (may_leave old) (may_leave new)
+      pub seen_same : seen new ≡ seen old
+      pub taken_same : taken new ≡ taken old
+
+    -- a turn has taken this input; while it added the group nothing was said, and then a part of these bytes, if there are some
+    pub record Turned (old new : S) (history : List Label) (inputs : List Input) (pieces : List Piece) (input : Input) (group : List Label) (line : List Heard) : Type 0 where
+      pub may : (part : List Label) → Begins part group → MayBegin history input part
+      pub took : taken new ≡ Some (inputs ++ input ∷ [])
+      pub leaves : Leaves moment left_since old new (TurnLeft history (length inputs) pieces group line)
+
+    -- the turn is whole: its labels were added and its reply was said
+    pub record Whole (old new : S) (after : Core) (history : List Label) (inputs : List Input) (pieces : List Piece) (over : Bool) : Type 0 where
+      pub turn : Turn
+      pub turned : Turned old new history inputs pieces turn.input turn.labels (heard (conn_of turn.input) turn.reply)
+      pub answered : IsAnswered history turn.input turn.labels turn.reply
+      pub ends : ends turn.input ≡ over
+      pub stands : Stand new after (history ++ turn.labels)
+      pub said_all : said new ≡ Some (pieces ++ piece_of (length inputs + 1) (heard (conn_of turn.input) turn.reply))
+
+    -- its labels were added, and its reply was not said whole
+    pub record Unsaid (old new : S) (history : List Label) (inputs : List Input) (pieces : List Piece) : Type 0 where
+      pub turn : Turn
+      pub turned : Turned old new history inputs pieces turn.input turn.labels (heard (conn_of turn.input) turn.reply)
+      pub answered : IsAnswered history turn.input turn.labels turn.reply
+
+    -- the store failed, or the journal is full, of which a line was said
+    pub record Broken (old new : S) (history : List Label) (inputs : List Input) (pieces : List Piece) : Type 0 where
+      pub input : Input
+      pub group : List Label
+      pub line : List Heard
+      pub turned : Turned old new history inputs pieces input group line
+      pub is_full : (one : Heard) → line ≡ one ∷ [] → (size : ℕ) × (one.bytes ≡ full_bytes size)
+
+    -- no input was taken
+    pub record Nothing (old new : S) (history : List Label) (inputs : List Input) (pieces : List Piece) : Type 0 where
+      pub took : taken new ≡ Some inputs
+      pub leaves : Leaves moment left_since old new (λ image now. IsHistory image history × (now ≡ pieces))
+
+    -- What is left where the journal is full, behind this history: engine and store stand for it and some labels more, the next
+    -- frame does not fit, and that was said.
+    abbrev pub IsTold : S → Core → List Label → List Input → List Piece → Type 0
+    IsTold new after history inputs pieces = (group : List Label) × (size : ℕ) × Stand new after (history ++ group) × IsFilled after size
+        × ((conn : ℕ) × (said new ≡ Some (and_piece conn (full_bytes size) (length inputs + 1) pieces)))
+
+    abbrev pub TurnDone : S → S → Core → List Label → List Input → List Piece → After → Type 0
+    TurnDone old new after history inputs pieces GoesOn = Whole old new after history inputs pieces false
+    TurnDone old new after history inputs pieces Ends = Whole old new after history inputs pieces true
+    TurnDone old new after history inputs pieces (Stops s) =
+        (Nothing old new history inputs pieces ⊎ Unsaid old new history inputs pieces ⊎ Broken old new history inputs pieces)
+        × (s ≢ 0) × (s ≡ 7 → IsTold new after history inputs pieces) × (s ≢ 4 → s ≢ 7 → said new ≡ Some pieces)

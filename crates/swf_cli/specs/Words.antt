@@ -1,5 +1,5 @@
 -- What the words of the command line mean.
-use Rattle.std.specs.Prelude.{List, [], ◌∷◌, Bool, true, false, String, string_bytes, codes}
+use Rattle.std.specs.Prelude.{List, [], ◌∷◌, Bool, false, String, string_bytes, codes}
 use Rattle.std.specs.declared.alloc.Global.{Global}
 use Rattle.swf_value.specs.Same.{same}
 

@@ -1,0 +1,278 @@
+-- What a call of the engine is to a line of a session.
+use Rattle.std.proofs.Common.{◌≡◌, ◌∙◌, ap, sym, refl, subst, ◌⊎◌, inl, inr, ⊎_elim, ℕ, ◌≤◌, List, [], ◌∷◌, ◌++◌, length, length-append, ◌^◌, Bool, true, false, Option, Some, None, Ok, Err, Result, IfOk, arith, if◌then◌else◌}
+use Rattle.std.specs.List.{AllByRecursion}
+use Rattle.swf_store.specs.declared.image.Image.{Image}
+use Rattle.swf_store.specs.declared.said.Piece.{Piece}
+use Rattle.swf_store.specs.Said.{IsSaid}
+use Rattle.swf_meaning.specs.declared.label.Label.{Label}
+use Rattle.swf_meaning.specs.declared.label.Outcome.{Outcome}
+use Rattle.swf_meaning.specs.declared.label.Outcome.TheVariants.{Load, Start}
+use Rattle.swf_meaning.specs.declared.label.Query.{Query}
+use Rattle.swf_meaning.specs.Runs.{run, world_at, is_quiet}
+use Rattle.swf_meaning.specs.World.{World}
+use Rattle.swf_meaning.proofs.RunLemmas.{world_of_run}
+use Rattle.swf_record.specs.Encodes.{Nests}
+use Rattle.swf_world.specs.Answers.{answer}
+use Rattle.swf_world.specs.Latest.{label_of}
+use Rattle.swf_world.specs.Refusals.{refusal}
+use Rattle.swf_world.specs.declared.refusal.Refusal.{Refusal}
+use Rattle.swf_world.specs.declared.refusal.Refusal.TheVariants.{Refused as NotRead, Duplicate, UnknownDocument, UnknownInstance, Full as TooMany, NotEnabled}
+use Rattle.swf_engine.specs.declared.engine.Settled.{Settled as HasSettled}
+use Rattle.swf_engine.specs.declared.engine.Submitted.{Submitted}
+use Rattle.swf_engine.specs.declared.engine.Submitted.TheVariants.{Accepted, Refused}
+use Rattle.swf_engine.specs.declared.fault.EngineFault.{EngineFault}
+use Rattle.swf_engine.specs.declared.fault.EngineFault.TheVariants.{Store, Damaged, Full, OutOfMemory}
+use Rattle.swf_engine.specs.Answers.{Submits, Settles, Stays, IsSmallRefusal}
+use Rattle.swf_engine.specs.Causes.{EngineCause, WhereUsable}
+use Rattle.swf_engine.specs.Core.{Core, StandFor}
+use Rattle.swf_engine.specs.History.{Begins}
+use Rattle.swf_engine.specs.Moves.{Adds, Breaks, IsStep, AreSteps}
+use Rattle.swf_engine.proofs.MoveLemmas.{some_of, stays_adds}
+use Rattle.swf_protocol.specs.Line.{is_quit}
+use Rattle.swf_protocol.specs.Sayable.{IsSayable, IsModest}
+use Rattle.swf_protocol.specs.declared.command.Command.{Command}
+use Rattle.swf_protocol.specs.declared.command.Command.TheVariants.{Do, Ask, Settle, Quit}
+use Rattle.swf_protocol.specs.declared.command.LineFault.{LineFault}
+use Rattle.swf_protocol.specs.declared.reply.Reply.{Reply}
+use Rattle.swf_protocol.specs.declared.reply.Reply.TheVariants.{Loaded, Started, Memory}
+use Rattle.swf_cli.specs.Follows.{MayAdd}
+use Rattle.swf_cli.specs.Steps.{CommandDone, LineDone, IsFilled, IsBreak, or_memory}
+use Rattle.swf_cli.specs.Turns.{Outcomes, Settled, Lacks, LineTurn, accepted, refused, is_load, settle_reply, query_reply}
+
+-- the label of an outcome has its value
+pub shallow_nests : (w : World) (o : Outcome) → IsModest (Do o) → Nests (label_of w o)
+shallow_nests w (Load v) m = m
+shallow_nests w (Start id key input) m = m
+
+accepted_by : (o : Outcome) (n : ℕ) → (if is_load o then Loaded n else Started n) ≡ accepted o n
+accepted_by (Load v) n = refl
+accepted_by (Start id key input) n = refl
+
+accepted_sayable : (o : Outcome) (n : ℕ) → n ≤ 2 ^ 40 → IsSayable (accepted o n)
+accepted_sayable (Load v) n h = h
+accepted_sayable (Start id key input) n h = h
+
+-- what the code says of an outcome that was taken
+pub accepted_as : (o : Outcome) (n : ℕ) (b : Bool) (reply : Reply) → b ≡ is_load o → reply ≡ (if b then Loaded n else Started n) → accepted o n ≡ reply
+accepted_as o n b reply e is = sym (is ∙ ap (λ (c : Bool). if c then Loaded n else Started n) e ∙ accepted_by o n)
+
+pub said_accepted : (o : Outcome) (n : ℕ) (reply : Reply) → accepted o n ≡ reply → n ≤ 2 ^ 40 → IsSayable reply
+said_accepted o n reply e h = subst IsSayable e (accepted_sayable o n h)
+
+pub refused_sayable : (r : Refusal) → IsSmallRefusal r → IsSayable (refused r)
+refused_sayable (NotRead faults) h = tt
+refused_sayable (Duplicate place) h = h
+refused_sayable UnknownDocument h = tt
+refused_sayable UnknownInstance h = tt
+refused_sayable TooMany h = tt
+refused_sayable NotEnabled h = tt
+
+-- where the world is that of the history, so is the answer
+outcome_in : (v w : World) (o : Outcome) (r : Option Refusal) (labels : List Label) (reply : Reply) → v ≡ w → refusal w (label_of w o) ≡ r → Outcomes w o r labels reply
+    → Outcomes v o (refusal v (label_of v o)) labels reply
+outcome_in v w o r labels reply e is h =
+    subst (λ (u : World). Outcomes u o (refusal u (label_of u o)) labels reply) (sym e) (subst (λ (q : Option Refusal). Outcomes w o q labels reply) (sym is) h)
+
+-- a beginning of one label is nothing or the label
+begins_one : (part : List Label) (l : Label) → Begins part (l ∷ []) → (part ≡ []) ⊎ (part ≡ l ∷ [])
+begins_one [] l b = inl refl
+begins_one (x ∷ []) l b = let e : l ∷ [] ≡ x ∷ b.rest = b.joined in inr (cc)
+begins_one (x ∷ y ∷ ys) l b = let e : l ∷ [] ≡ x ∷ y ∷ (ys ++ b.rest) = b.joined in absurd (cc)
+
+pub begins_none : (part : List Label) → Begins part [] → part ≡ []
+begins_none [] b = refl
+begins_none (x ∷ xs) b = let e : [] ≡ x ∷ (xs ++ b.rest) = b.joined in absurd (cc)
+
+pub may_outcome : (history : List Label) (w : World) (o : Outcome) (part : List Label) → world_at history ≡ w → refusal w (label_of w o) ≡ None → Begins part (label_of w o ∷ [])
+    → MayAdd history (Ok (Do o)) part
+may_outcome history w o part e is b =
+    let P : World → Type 0 = λ v. (part ≡ []) ⊎ ((refusal v (label_of v o) ≡ None) × (part ≡ label_of v o ∷ [])) in
+    subst P (sym e) (⊎_elim (λ none. inl none) (λ all. inr (is, all)) (begins_one part (label_of w o) b))
+
+all_first : (a b : List Label) → AllByRecursion IsStep (a ++ b) → AllByRecursion IsStep a
+all_first [] b h = tt
+all_first (x ∷ xs) b h = (h.0, all_first xs b h.1)
+
+-- the first of some steps are steps
+pub steps_first : (a b : List Label) (limit : ℕ) → AreSteps (a ++ b) limit → AreSteps a limit
+steps_first a b limit s = record { each = all_first a b s.each; most = omega (arith, s.most, length-append a b) }
+
+pub steps_begin : (part steps : List Label) (limit : ℕ) → AreSteps steps limit → Begins part steps → AreSteps part limit
+steps_begin part steps limit s b = steps_first part b.rest limit (subst (λ (l : List Label). AreSteps l limit) b.joined s)
+
+-- the faults of the engine: what a caller knows of them is known of the answer
+usable_or_memory : (T : Type 0) (fault : EngineFault) (P : Type 0) → WhereUsable {T = T} (Err fault) P → WhereUsable (or_memory fault) P
+usable_or_memory T Store P h = tt
+usable_or_memory T (Damaged at) P h = tt
+usable_or_memory T (Full size) P h = tt
+usable_or_memory T OutOfMemory P h = h
+
+cause_or_memory : (T : Type 0) (fault : EngineFault) (before now : ℕ) → EngineCause {T = T} before now (Err fault) → EngineCause before now (or_memory fault)
+cause_or_memory T Store before now h = h
+cause_or_memory T (Damaged at) before now h = h
+cause_or_memory T (Full size) before now h = h
+cause_or_memory T OutOfMemory before now h = h
+
+pub or_memory_usable : (T : Type 0) (fault : EngineFault) (r : Result Reply EngineFault) (P : Type 0) → r ≡ or_memory fault → WhereUsable {T = T} (Err fault) P → WhereUsable r P
+or_memory_usable T fault r P e h = subst (λ (x : Result Reply EngineFault). WhereUsable x P) (sym e) (usable_or_memory T fault P h)
+
+pub or_memory_cause : (T : Type 0) (fault : EngineFault) (r : Result Reply EngineFault) (before now : ℕ) → r ≡ or_memory fault → EngineCause {T = T} before now (Err fault) → EngineCause before now r
+or_memory_cause T fault r before now e h = subst (λ (x : Result Reply EngineFault). EngineCause before now x) (sym e) (cause_or_memory T fault before now h)
+
+pub sayable_or_memory : (fault : EngineFault) → IfOk (or_memory fault) IsSayable
+sayable_or_memory Store = tt
+sayable_or_memory (Damaged at) = tt
+sayable_or_memory (Full size) = tt
+sayable_or_memory OutOfMemory = tt
+
+-- the reply to an outcome that was handed in, and to a settling
+abbrev pub submit_reply : Outcome → Result Submitted EngineFault → Result Reply EngineFault
+submit_reply o (Ok (Accepted i)) = Ok (accepted o i.place)
+submit_reply o (Ok (Refused r)) = Ok (refused r)
+submit_reply o (Err fault) = or_memory fault
+
+abbrev pub settled_reply : ℕ → Result HasSettled EngineFault → Result Reply EngineFault
+settled_reply limit (Ok settled) = Ok (settle_reply settled.quiet settled.steps limit)
+settled_reply limit (Err fault) = or_memory fault
+
+module _ {S : Type 0} (moment : S → ℕ) (left_since : S → ℕ → Image → List Piece → Type 0) (said : S → Option (List Piece)) (may_leave : S → Image → Type 0) (seen : S → Option Image)
+    (only_now : (s : S) (image : Image) (pieces : List Piece) → left_since s (moment s) image pieces → may_leave s image × IsSaid (said s) pieces) where
+  -- labels were added
+  pub done_by : (May : List Label → Type 0) (Does : List Label → Reply → Type 0) (old new : S) (before after : Core) (image : Image) (history labels : List Label) (reply : Reply)
+      → Adds moment left_since said may_leave seen old new before after labels → seen old ≡ Some image → StandFor image (may_leave old) before history → Does labels reply
+      → CommandDone moment left_since said may_leave seen May Does history old new after (Ok reply)
+  done_by May Does old new before after image history labels reply a is stands does =
+      let there = some_of (seen new) (seen old) image a.honest is in
+      (labels, does, a.passes image is history stands, (there.0, there.1, a.stands image is history stands there.0 there.1))
+
+  -- the store failed behind some labels
+  broken_by : (May : List Label → Type 0) (Does : List Label → Reply → Type 0) (old new : S) (before after : Core) (image : Image) (history labels : List Label)
+      → Breaks moment left_since said may_leave seen old new before labels → seen old ≡ Some image → StandFor image (may_leave old) before history
+      → ((part : List Label) → Begins part labels → May part)
+      → CommandDone moment left_since said may_leave seen May Does history old new after (Err Store)
+  broken_by May Does old new before after image history labels b is stands may = (labels, may, b.passes image is history stands)
+
+  -- the journal is full behind some labels
+  full_by : (May : List Label → Type 0) (Does : List Label → Reply → Type 0) (old new : S) (before after : Core) (image : Image) (history labels : List Label) (size : ℕ)
+      → Adds moment left_since said may_leave seen old new before after labels → seen old ≡ Some image → StandFor image (may_leave old) before history
+      → ((part : List Label) → Begins part labels → May part) → IsFilled after size
+      → CommandDone moment left_since said may_leave seen May Does history old new after (Err (Full size))
+  full_by May Does old new before after image history labels size a is stands may filled =
+      let there = some_of (seen new) (seen old) image a.honest is in
+      (labels, may, a.passes image is history stands, (there.0, there.1, a.stands image is history stands there.0 there.1), filled)
+
+  adds_none : (old new : S) (before after : Core) → Stays old new before after → Adds moment left_since said may_leave seen old new before after []
+  adds_none old new before after s =
+      subst (λ (n : S). Adds moment left_since said may_leave seen old n before after []) (sym s.0)
+      (subst (λ (e : Core). Adds moment left_since said may_leave seen old old before e []) (sym s.1) (stays_adds moment left_since said may_leave seen only_now old before))
+
+  -- a line that adds nothing
+  pub line_stays : (command : Result Command LineFault) (old : S) (engine : Core) (reply : Reply) → ((history : List Label) → run history ≡ Some engine.world → LineTurn history command [] reply)
+      → LineDone moment left_since said may_leave seen command old old engine engine (Ok reply)
+  line_stays command old engine reply does = λ image is history stands.
+      done_by (MayAdd history command) (LineTurn history command) old old engine engine image history [] reply (stays_adds moment left_since said may_leave seen only_now old engine) is stands (does history stands.run)
+
+  pub submit_breaks : (o : Outcome) (old new : S) (before after : Core) (fault : EngineFault) → Submits moment left_since said may_leave seen old new before after (label_of before.world o) (Err fault) → IsBreak (or_memory fault)
+  submit_breaks o old new before after Store h = tt
+  submit_breaks o old new before after (Damaged at) h = absurd h
+  submit_breaks o old new before after (Full size) h = tt
+  submit_breaks o old new before after OutOfMemory h = tt
+
+  pub settle_breaks : (limit : ℕ) (old new : S) (before after : Core) (fault : EngineFault) → Settles moment left_since said may_leave seen old new before after limit (Err fault) → IsBreak (or_memory fault)
+  settle_breaks limit old new before after Store h = tt
+  settle_breaks limit old new before after (Damaged at) h = absurd h
+  settle_breaks limit old new before after (Full size) h = tt
+  settle_breaks limit old new before after OutOfMemory h = tt
+
+  pub submit_done : (o : Outcome) (old new : S) (before after : Core) (result : Result Submitted EngineFault)
+      → Submits moment left_since said may_leave seen old new before after (label_of before.world o) result
+      → LineDone moment left_since said may_leave seen (Ok (Do o)) old new before after (submit_reply o result)
+  submit_done o old new before after (Ok (Accepted i)) h = λ image is history stands.
+      let l = label_of before.world o in
+      let e : world_at history ≡ before.world = world_of_run history before.world stands.run in
+      done_by (MayAdd history (Ok (Do o))) (LineTurn history (Ok (Do o))) old new before after image history (l ∷ []) (accepted o i.place) h.0 is stands
+      (inl (outcome_in (world_at history) before.world o None (l ∷ []) (accepted o i.place) e h.1 (refl, ap (accepted o) h.3)))
+  submit_done o old new before after (Ok (Refused r)) h = λ image is history stands.
+      let e : world_at history ≡ before.world = world_of_run history before.world stands.run in
+      done_by (MayAdd history (Ok (Do o))) (LineTurn history (Ok (Do o))) old new before after image history [] (refused r) (adds_none old new before after h.2) is stands
+      (inl (outcome_in (world_at history) before.world o (Some r) [] (refused r) e h.0 (refl, refl)))
+  submit_done o old new before after (Err Store) h = λ image is history stands.
+      let e : world_at history ≡ before.world = world_of_run history before.world stands.run in
+      broken_by (MayAdd history (Ok (Do o))) (LineTurn history (Ok (Do o))) old new before after image history (label_of before.world o ∷ []) h.0 is stands
+      (λ part b. may_outcome history before.world o part e h.1 b)
+  submit_done o old new before after (Err (Damaged at)) h = absurd h
+  submit_done o old new before after (Err (Full size)) h = λ image is history stands.
+      full_by (MayAdd history (Ok (Do o))) (LineTurn history (Ok (Do o))) old new before after image history [] size (adds_none old new before after h.2) is stands
+      (λ part b. inl (begins_none part b))
+      (subst (λ (c : Core). IsFilled c size) (sym h.2.1) (record { label = label_of before.world o; legal = h.1; full = h.0 }))
+  submit_done o old new before after (Err OutOfMemory) h = λ image is history stands.
+      done_by (MayAdd history (Ok (Do o))) (LineTurn history (Ok (Do o))) old new before after image history [] Memory (adds_none old new before after h) is stands (inr (refl, refl))
+
+  pub submit_done_as : (o : Outcome) (old new : S) (before after : Core) (result : Result Submitted EngineFault) (r : Result Reply EngineFault)
+      → Submits moment left_since said may_leave seen old new before after (label_of before.world o) result → submit_reply o result ≡ r
+      → LineDone moment left_since said may_leave seen (Ok (Do o)) old new before after r
+  submit_done_as o old new before after result r h e =
+      subst (λ (x : Result Reply EngineFault). LineDone moment left_since said may_leave seen (Ok (Do o)) old new before after x) e (submit_done o old new before after result h)
+
+  -- what a settling answers, where the world is that of the history with its steps
+  settled_in : (history steps : List Label) (limit : ℕ) (w : World) (settled : HasSettled) → world_at (history ++ steps) ≡ w → AreSteps steps limit → length steps ≡ settled.steps
+      → settled.quiet ≡ is_quiet w → (settled.quiet ≡ false → settled.steps ≡ limit) → Settled history limit steps (settle_reply settled.quiet settled.steps limit)
+  settled_in history steps limit w settled e are count quiet enough =
+      let same : is_quiet (world_at (history ++ steps)) ≡ settled.quiet = ap is_quiet e ∙ sym quiet in
+      record {
+        steps = are;
+        enough = λ is. count ∙ enough (sym same ∙ is);
+        told = ap (λ (b : Bool). settle_reply b settled.steps limit) (sym same) ∙ ap (λ (n : ℕ). settle_reply (is_quiet (world_at (history ++ steps))) n limit) (sym count);
+      }
+
+  pub settle_done : (limit : ℕ) (old new : S) (before after : Core) (result : Result HasSettled EngineFault) → Settles moment left_since said may_leave seen old new before after limit result
+      → LineDone moment left_since said may_leave seen (Ok (Settle (Some limit))) old new before after (settled_reply limit result)
+  settle_done limit old new before after (Ok settled) h = λ image is history stands.
+      let there = some_of (seen new) (seen old) image h.2.honest is in
+      let stood = h.2.stands image is history stands there.0 there.1 in
+      done_by (MayAdd history (Ok (Settle (Some limit)))) (LineTurn history (Ok (Settle (Some limit)))) old new before after image history h.0 (settle_reply settled.quiet settled.steps limit) h.2 is stands
+      (inl (settled_in history h.0 limit after.world settled (world_of_run (history ++ h.0) after.world stood.run) h.1 h.3 h.4 h.5))
+  settle_done limit old new before after (Err Store) h = λ image is history stands.
+      broken_by (MayAdd history (Ok (Settle (Some limit)))) (LineTurn history (Ok (Settle (Some limit)))) old new before after image history h.0 h.2 is stands
+      (λ part b. steps_begin part h.0 limit h.1 b)
+  settle_done limit old new before after (Err (Damaged at)) h = absurd h
+  settle_done limit old new before after (Err (Full size)) h = λ image is history stands.
+      full_by (MayAdd history (Ok (Settle (Some limit)))) (LineTurn history (Ok (Settle (Some limit)))) old new before after image history h.0 size h.5 is stands
+      (λ part b. steps_begin part h.0 limit (steps_first h.0 (h.1 ∷ []) limit h.4) b)
+      (record { label = h.1; legal = h.3; full = h.6 })
+  settle_done limit old new before after (Err OutOfMemory) h = λ image is history stands.
+      done_by (MayAdd history (Ok (Settle (Some limit)))) (LineTurn history (Ok (Settle (Some limit)))) old new before after image history h.0 Memory h.2 is stands (inr (refl, h.1))
+
+  pub settle_done_as : (limit : ℕ) (old new : S) (before after : Core) (result : Result HasSettled EngineFault) (r : Result Reply EngineFault)
+      → Settles moment left_since said may_leave seen old new before after limit result → settled_reply limit result ≡ r
+      → LineDone moment left_since said may_leave seen (Ok (Settle (Some limit))) old new before after r
+  settle_done_as limit old new before after result r h e =
+      subst (λ (x : Result Reply EngineFault). LineDone moment left_since said may_leave seen (Ok (Settle (Some limit))) old new before after x) e (settle_done limit old new before after result h)
+
+  -- the same of equal commands and answers
+  pub line_as : (a b : Result Command LineFault) (old new : S) (before after : Core) (r s : Result Reply EngineFault) → a ≡ b → r ≡ s
+      → LineDone moment left_since said may_leave seen b old new before after r → LineDone moment left_since said may_leave seen a old new before after s
+  line_as a b old new before after r s e f h =
+      subst (λ (c : Result Command LineFault). LineDone moment left_since said may_leave seen c old new before after s) (sym e)
+      (subst (λ (x : Result Reply EngineFault). LineDone moment left_since said may_leave seen b old new before after x) f h)
+
+-- a settling's numbers fit
+pub settled_sayable : (quiet : Bool) (steps limit : ℕ) → limit ≤ 1000000 → (quiet ≡ true → steps ≤ limit) → IsSayable (settle_reply quiet steps limit)
+settled_sayable true steps limit m h = let le : steps ≤ limit = h refl in omega (arith, le, m)
+settled_sayable false steps limit m h = omega (arith, m)
+
+-- what a query is answered, and what a line is that was not read
+pub asked : (history : List Label) (w : World) (q : Query) (reply : Reply) → run history ≡ Some w → (reply ≡ Memory) ⊎ (reply ≡ query_reply (answer w q)) → LineTurn history (Ok (Ask q)) [] reply
+asked history w q reply e (inl m) = inr (m, refl)
+asked history w q reply e (inr is) = inl (refl, subst (λ (u : World). reply ≡ query_reply (answer u q)) (sym (world_of_run history w e)) is)
+
+steps_none : (limit : ℕ) → AreSteps [] limit
+steps_none limit = record { each = tt; most = omega arith }
+
+pub lacks_none : (command : Result Command LineFault) → is_quit command ≡ false → Lacks command []
+lacks_none (Err f) e = refl
+lacks_none (Ok (Do o)) e = refl
+lacks_none (Ok (Ask q)) e = refl
+lacks_none (Ok (Settle None)) e = refl
+lacks_none (Ok (Settle (Some n))) e = steps_none n
+lacks_none (Ok Quit) e = absurd (cc)

@@ -1,0 +1,96 @@
+-- How a session ends.
+use Rattle.std.specs.Prelude.{◌≡◌, ◌⊎◌, ℕ, ◌+◌, ◌-◌, ◌^◌, List, [], ◌∷◌, ◌++◌, length, true, Option, Some}
+use Rattle.swf_store.specs.declared.image.Image.{Image}
+use Rattle.swf_store.specs.declared.said.Piece.{Piece}
+use Rattle.swf_meaning.specs.declared.label.Label.{Label}
+use Rattle.swf_host.specs.declared.host.Input.{Input}
+use Rattle.swf_engine.specs.Core.{Core}
+use Rattle.swf_engine.specs.History.{IsHistory}
+use Rattle.swf_engine.specs.declared.fault.EngineFault.{EngineFault}
+use Rattle.swf_engine.specs.declared.fault.EngineFault.TheVariants.{Store, Damaged, Full, OutOfMemory}
+use Rattle.swf_store.specs.Said.{and_piece}
+use Rattle.swf_store.specs.Stops.{Leaves}
+use Rattle.std.specs.Option.{ForSome}
+use Rattle.swf_cli.specs.Statuses.{IsBlamed}
+use Rattle.swf_protocol.specs.Spoken.{damaged_bytes}
+use Rattle.swf_cli.specs.Turns.{Turn, AreTurns, labels_of, inputs_of, ends}
+use Rattle.swf_cli.specs.Follows.{conn_of, heard}
+use Rattle.swf_cli.specs.Moments.{IsMoment}
+use Rattle.swf_cli.specs.Steps.{piece_of, Stand, IsTold}
+
+-- the last turn ends the input
+abbrev pub IsOver : List Turn → Type 0
+IsOver [] = ⊥
+IsOver (t ∷ []) = ends t.input ≡ true
+IsOver (t ∷ u ∷ ts) = IsOver (u ∷ ts)
+
+-- how many inputs a session takes
+abbrev pub most_turns : ℕ
+most_turns = 2 ^ 64 - 1
+
+-- the pieces that say the replies of turns, of which the first is taken behind so many inputs
+abbrev pub pieces_of : ℕ → List Turn → List Piece
+pieces_of n [] = []
+pieces_of n (t ∷ ts) = piece_of (n + 1) (heard (conn_of t.input) t.reply) ++ pieces_of (n + 1) ts
+
+-- Read to its end: the inputs that were taken are turns, each with its labels in the history that every image stands for, and
+-- each with its reply said whole.
+pub record Finished (before : List Label) (first : List Input) (said : List Piece) (taken_now : Option (List Input)) (said_now : Option (List Piece)) (may_leave : Image → Type 0) : Type 0 where
+  pub turns : List Turn
+  pub allowed : AreTurns before turns
+  pub over : IsOver turns ⊎ (length turns ≡ most_turns)
+  pub taken : taken_now ≡ Some (first ++ inputs_of turns)
+  pub told : said_now ≡ Some (said ++ pieces_of (length first) turns)
+  pub stands : (image : Image) → may_leave image → IsHistory image (before ++ labels_of turns)
+
+-- Where the store failed or memory was missing, whole replies were said and no part of another, and what else was taken is
+-- behind their inputs.
+pub record IsShort (before : List Label) (first : List Input) (said : List Piece) (taken_now : Option (List Input)) (said_now : Option (List Piece)) : Type 0 where
+  pub turns : List Turn
+  pub allowed : AreTurns before turns
+  pub more : List Input
+  pub taken : taken_now ≡ Some ((first ++ inputs_of turns) ++ more)
+  pub told : said_now ≡ Some (said ++ pieces_of (length first) turns)
+
+-- the line that tells of damage was said to connection 0, and no input was taken
+pub record TellsDamage (at : ℕ) (first : List Input) (said : List Piece) (taken_now : Option (List Input)) (said_now : Option (List Piece)) : Type 0 where
+  pub taken : taken_now ≡ Some first
+  pub told : said_now ≡ Some (and_piece 0 (damaged_bytes at) (length first) said)
+
+-- what an engine that was not opened is answered, and whose fault it is
+abbrev pub ClosesWith : EngineFault → ℕ → ℕ → ℕ → ℕ → ℕ → Type 0
+ClosesWith Store status host host_now store store_now = (status ≡ 3) × (host_now ≡ host) × (store_now ≡ store)
+ClosesWith (Damaged at) status host host_now store store_now = ((status ≡ 5) ⊎ (status ≡ 6) ⊎ (status ≡ 4)) × IsBlamed status host host_now store store_now
+ClosesWith (Full size) status host host_now store store_now = ⊥
+ClosesWith OutOfMemory status host host_now store store_now = (status ≡ 6) × (host_now ≡ host) × (store_now ≡ store)
+
+-- only damage is told
+abbrev pub Tells : {S : Type 0} → EngineFault → S → S → ℕ → Option (List Input) → Option (List Input) → Option (List Piece) → Option (List Piece) → Type 0
+Tells Store old new status taken taken_now said said_now = new ≡ old
+Tells (Damaged at) old new status taken taken_now said said_now =
+    ForSome taken (λ inputs. ForSome said (λ pieces. status ≡ 5 → TellsDamage at inputs pieces taken_now said_now))
+Tells (Full size) old new status taken taken_now said said_now = ⊥
+Tells OutOfMemory old new status taken taken_now said said_now = new ≡ old
+
+module _ {S : Type 0} (moment : S → ℕ) (left_since : S → ℕ → Image → List Piece → Type 0) (said : S → Option (List Piece)) (may_leave : S → Image → Type 0) (seen : S → Option Image) (taken : S → Option (List Input)) where
+  -- Where the journal is full: turns were taken and answered, and behind their labels and perhaps some steps more engine and store
+  -- stand for a history whose next label is legal and has no room. That was said whole, last.
+  pub record TellsFull (new : S) (before : List Label) (first : List Input) (pieces : List Piece) : Type 0 where
+    pub engine : Core
+    pub turns : List Turn
+    pub allowed : AreTurns before turns
+    pub told : IsTold moment left_since said may_leave seen taken new engine (before ++ labels_of turns) (first ++ inputs_of turns) (pieces ++ pieces_of (length first) turns)
+
+  -- What turns make of a store that stands for a history since some state. `all` are the inputs in the end.
+  pub record Ran (start new : S) (before : List Label) (first : List Input) (pieces : List Piece) (status : ℕ) : Type 0 where
+    pub all : List Input
+    pub took : taken new ≡ Some all
+    pub leaves : Leaves moment left_since start new (IsMoment before first pieces all)
+    pub finish : status ≡ 0 → Finished before first pieces (taken new) (said new) (may_leave new)
+    pub full : status ≡ 7 → TellsFull new before first pieces
+    pub short : (status ≡ 3) ⊎ (status ≡ 6) → IsShort before first pieces (taken new) (said new)
+
+  -- the same for whatever the store stands for
+  abbrev pub RunsOn : S → S → Core → ℕ → Type 0
+  RunsOn old new engine status = (start : S) (before : List Label) (first : List Input) (pieces : List Piece) → taken old ≡ Some first → said old ≡ Some pieces
+      → Stand moment left_since said may_leave seen old engine before → Leaves moment left_since start old (IsMoment before first pieces first) → Ran start new before first pieces status

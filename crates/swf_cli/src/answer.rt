@@ -1,0 +1,221 @@
+// What a line is answered, and what it adds to the journal.
+ghost use Rattle.std.specs.Prelude.{◌≡◌, ◌⊎◌, ◌≤◌, ◌^◌, Some, Ok, IfOk, false, is_some, if◌then◌else◌};
+ghost use Rattle.std.specs.Option.{ForSome};
+ghost use Rattle.swf_engine.specs.Causes.{EngineCause, WhereUsable};
+ghost use Rattle.swf_engine.specs.Core.{IsEngineOf};
+ghost use Rattle.swf_world.specs.Answers.{answer};
+ghost use Rattle.swf_protocol.specs.Line.{command_of, is_quit};
+ghost use Rattle.swf_protocol.specs.Sayable.{IsSayable, IsModest};
+ghost use Rattle.swf_cli.specs.Steps.{LineDone, reply_of, or_memory, IsBreak};
+ghost use Rattle.swf_cli.specs.Turns.{is_load, refused, query_reply, settle_reply};
+
+use std::alloc::Global;
+use swf_engine::{Engine, EngineFault, Settled, Submitted};
+use swf_meaning::{Outcome, Query};
+use swf_protocol::{Command, LineFault, ReadFault, Reply, read_line};
+use swf_store::Store;
+use swf_world::{Answer, QueryFault, Refusal};
+
+/// What a line is answered, and whether the input ends with it.
+#[derive(Drop)]
+pub struct Answered {
+    pub reply: Reply,
+    pub ends: bool,
+}
+
+// The reply to an outcome whose label was added at this place.
+fn accepted(is_load: bool, place: u64) -> Reply
+    ensures { result ≡ (if is_load then Reply.Loaded place else Reply.Started place) }
+{
+    if is_load {
+        Reply::Loaded(place)
+    } else {
+        Reply::Started(place)
+    }
+}
+
+fn refused(refusal: Refusal) -> Reply
+    ensures { result ≡ refused refusal }
+{
+    match refusal {
+        Refusal::Refused(faults) => Reply::Refused(faults),
+        Refusal::Duplicate { place } => Reply::Duplicate(place),
+        Refusal::UnknownDocument => Reply::UnknownDocument,
+        Refusal::UnknownInstance => Reply::UnknownInstance,
+        Refusal::Full => Reply::Full,
+        Refusal::NotEnabled => Reply::UnknownInstance,
+    }
+}
+
+fn is_load(outcome: &Outcome) -> bool
+    ensures { result ≡ is_load outcome.now }
+{
+    matches!(outcome, Outcome::Load(_))
+}
+
+// A call of the engine that found no memory is answered so.
+fn or_memory(fault: EngineFault) -> Result<Reply, EngineFault>
+    ensures { result ≡ or_memory fault }
+{
+    match fault {
+        EngineFault::OutOfMemory => Ok(Reply::Memory),
+        EngineFault::Store => Err(EngineFault::Store),
+        EngineFault::Damaged { at } => Err(EngineFault::Damaged { at }),
+        EngineFault::Full { size } => Err(EngineFault::Full { size }),
+    }
+}
+
+fn submit<S: Store>(
+    store: &mut S,
+    engine: &mut Engine,
+    outcome: Outcome,
+) -> Result<Reply, EngineFault>
+    requires place { IsEngineOf (S.seen store.old) engine.old }
+    requires modest { IsModest (Command.Do outcome) }
+    ensures place { WhereUsable result (IsEngineOf (S.seen store.new) engine.new) }
+    ensures done { LineDone S.moment S.left_since S.said S.may_leave S.seen (Ok (Command.Do outcome)) store.old store.new engine.old engine.new result }
+    ensures which { IsBreak result }
+    ensures sayable { IfOk result IsSayable }
+    ensures said { S.said store.new ≡ S.said store.old }
+    ensures beside { S.beside store.new ≡ S.beside store.old }
+    ensures honest { is_some (S.seen store.new) ≡ is_some (S.seen store.old) }
+    ensures cause { EngineCause (S.store_faults store.old) (S.store_faults store.new) result }
+{
+    let is_load = is_load(&outcome);
+    match engine.submit(store, outcome) {
+        Ok(Submitted::Accepted(installed)) => Ok(accepted(is_load, installed.place)),
+        Ok(Submitted::Refused(refusal)) => Ok(refused(refusal)),
+        Err(fault) => or_memory(fault),
+    }
+}
+
+// What a settling is answered.
+fn settled_reply(settled: Settled, limit: u64) -> Reply
+    ensures { result ≡ settle_reply settled.quiet settled.steps limit }
+{
+    if settled.quiet {
+        Reply::Quiet(settled.steps)
+    } else {
+        Reply::Budget(limit)
+    }
+}
+
+fn settle<S: Store>(store: &mut S, engine: &mut Engine, limit: u64) -> Result<Reply, EngineFault>
+    requires place { IsEngineOf (S.seen store.old) engine.old }
+    requires modest { limit ≤ 1000000 }
+    ensures place { WhereUsable result (IsEngineOf (S.seen store.new) engine.new) }
+    ensures done { LineDone S.moment S.left_since S.said S.may_leave S.seen (Ok (Command.Settle (Some limit))) store.old store.new engine.old engine.new result }
+    ensures which { IsBreak result }
+    ensures sayable { IfOk result IsSayable }
+    ensures said { S.said store.new ≡ S.said store.old }
+    ensures beside { S.beside store.new ≡ S.beside store.old }
+    ensures honest { is_some (S.seen store.new) ≡ is_some (S.seen store.old) }
+    ensures cause { EngineCause (S.store_faults store.old) (S.store_faults store.new) result }
+{
+    match engine.settle(store, limit) {
+        Ok(settled) => Ok(settled_reply(settled, limit)),
+        Err(fault) => or_memory(fault),
+    }
+}
+
+// A settling of at most so many steps, where the line gives their number.
+fn settle_line<S: Store>(
+    store: &mut S,
+    engine: &mut Engine,
+    limit: Option<u64>,
+) -> Result<Reply, EngineFault>
+    requires place { IsEngineOf (S.seen store.old) engine.old }
+    requires modest { IsModest (Command.Settle limit) }
+    ensures place { WhereUsable result (IsEngineOf (S.seen store.new) engine.new) }
+    ensures done { LineDone S.moment S.left_since S.said S.may_leave S.seen (Ok (Command.Settle limit)) store.old store.new engine.old engine.new result }
+    ensures which { IsBreak result }
+    ensures sayable { IfOk result IsSayable }
+    ensures said { S.said store.new ≡ S.said store.old }
+    ensures beside { S.beside store.new ≡ S.beside store.old }
+    ensures honest { is_some (S.seen store.new) ≡ is_some (S.seen store.old) }
+    ensures cause { EngineCause (S.store_faults store.old) (S.store_faults store.new) result }
+{
+    match limit {
+        Some(limit) => settle(store, engine, limit),
+        None => Ok(Reply::BadLine(LineFault::Command)),
+    }
+}
+
+fn ask(engine: &Engine, query: &Query) -> Reply
+    ensures answer { (result ≡ Reply.Memory) ⊎ (result ≡ query_reply (answer engine.now.world query.now)) }
+    ensures sayable { IsSayable result }
+{
+    match engine.query(query) {
+        Ok(Answer::Status(value)) => Reply::Report(value),
+        Err(QueryFault::UnknownInstance) => Reply::UnknownInstance,
+        Err(QueryFault::OutOfMemory) => Reply::Memory,
+    }
+}
+
+// Does what a command says.
+fn obey<S: Store>(
+    store: &mut S,
+    engine: &mut Engine,
+    command: Command,
+) -> Result<Reply, EngineFault>
+    requires place { IsEngineOf (S.seen store.old) engine.old }
+    requires modest { IsModest command }
+    ensures place { WhereUsable result (IsEngineOf (S.seen store.new) engine.new) }
+    ensures done { LineDone S.moment S.left_since S.said S.may_leave S.seen (Ok command) store.old store.new engine.old engine.new result }
+    ensures which { IsBreak result }
+    ensures sayable { IfOk result IsSayable }
+    ensures said { S.said store.new ≡ S.said store.old }
+    ensures beside { S.beside store.new ≡ S.beside store.old }
+    ensures honest { is_some (S.seen store.new) ≡ is_some (S.seen store.old) }
+    ensures cause { EngineCause (S.store_faults store.old) (S.store_faults store.new) result }
+{
+    match command {
+        Command::Do(outcome) => submit(store, engine, outcome),
+        Command::Ask(query) => Ok(ask(engine, &query)),
+        Command::Settle(limit) => settle_line(store, engine, limit),
+        Command::Quit => Ok(Reply::Quit),
+    }
+}
+
+fn is_quit(command: &Command) -> bool
+    ensures { result ≡ is_quit (Ok command.now) }
+{
+    matches!(command, Command::Quit)
+}
+
+/// Answers a line that is not too long. A fault is one of the store, or that the journal is full.
+pub fn answer_line<S: Store>(
+    alloc: Global,
+    store: &mut S,
+    engine: &mut Engine,
+    line: &[u8],
+) -> Result<Answered, EngineFault>
+    requires place { IsEngineOf (S.seen store.old) engine.old }
+    ensures place { WhereUsable result (IsEngineOf (S.seen store.new) engine.new) }
+    ensures done { LineDone S.moment S.left_since S.said S.may_leave S.seen (command_of line.now) store.old store.new engine.old engine.new (reply_of result) }
+    ensures ends { IfOk result (λ answered. answered.ends ≡ is_quit (command_of line.now)) }
+    ensures which { IsBreak result }
+    ensures sayable { IfOk result (λ answered. IsSayable answered.reply) }
+    ensures said { S.said store.new ≡ S.said store.old }
+    ensures beside { S.beside store.new ≡ S.beside store.old }
+    ensures honest { is_some (S.seen store.new) ≡ is_some (S.seen store.old) }
+    ensures cause { EngineCause (S.store_faults store.old) (S.store_faults store.new) result }
+{
+    match read_line(alloc, line) {
+        Ok(command) => {
+            let ends = is_quit(&command);
+            match obey(store, engine, command) {
+                Ok(reply) => Ok(Answered { reply, ends }),
+                Err(fault) => Err(fault),
+            }
+        }
+        Err(ReadFault::Line(fault)) => Ok(Answered {
+            reply: Reply::BadLine(fault),
+            ends: false,
+        }),
+        Err(ReadFault::OutOfMemory) => Ok(Answered {
+            reply: Reply::Memory,
+            ends: false,
+        }),
+    }
+}

@@ -1,0 +1,129 @@
+// One turn of a session: an input is taken, answered, and its reply is said.
+ghost use Rattle.std.specs.Prelude.{◌≡◌, ◌⊎◌, ℕ, Ok, Err, IfOk, List, true, false, is_some, length, if◌then◌else◌};
+ghost use Rattle.std.specs.Option.{ForSome};
+ghost use Rattle.swf_meaning.specs.declared.label.Label.{Label};
+ghost use Rattle.swf_engine.specs.Causes.{EngineCause, WhereUsable};
+ghost use Rattle.swf_engine.specs.Core.{IsEngineOf, StandFor};
+ghost use Rattle.swf_protocol.specs.Line.{command_of, is_quit};
+ghost use Rattle.swf_protocol.specs.Sayable.{IsSayable};
+ghost use Rattle.swf_protocol.specs.Spoken.{spoken, full_bytes};
+ghost use Rattle.swf_cli.specs.Statuses.{IsBlamed};
+ghost use Rattle.swf_cli.specs.Steps.{AskDone, IsBreak, IsStop, Says, TurnDone, reply_of, follows_end, status_of};
+ghost use Rattle.swf_cli.specs.Turns.{is_long};
+
+use crate::answer::{Answered, answer_line};
+use std::alloc::Global;
+use swf_engine::{Engine, EngineFault};
+use swf_host::{Host, Input, MOST_LINE};
+use swf_protocol::{Reply, full_line, reply_line};
+
+/// The store failed.
+pub const STORE_FAULT: u8 = 3;
+
+/// The host failed.
+pub const HOST_FAULT: u8 = 4;
+
+/// No memory was found.
+pub const NO_MEMORY: u8 = 6;
+
+/// The journal is full.
+pub const FULL: u8 = 7;
+
+/// What follows a turn.
+pub enum After {
+    /// The next turn.
+    GoesOn,
+    /// The end of the input.
+    Ends,
+    /// The end of the program, with this status.
+    Stops(u8),
+}
+
+// Answers an Ask.
+fn answer_ask<H: Host>(
+    alloc: Global,
+    host: &mut H,
+    engine: &mut Engine,
+    line: &[u8],
+) -> Result<Answered, EngineFault>
+    requires place { IsEngineOf (H.seen host.old) engine.old }
+    ensures place { WhereUsable result (IsEngineOf (H.seen host.new) engine.new) }
+    ensures done { AskDone H.moment H.left_since H.said H.may_leave H.seen line.now host.old host.new engine.old engine.new (reply_of result) }
+    ensures ends { IfOk result (λ answered. answered.ends ≡ (if is_long line.now then false else is_quit (command_of line.now))) }
+    ensures which { IsBreak result }
+    ensures sayable { IfOk result (λ answered. IsSayable answered.reply) }
+    ensures said { H.said host.new ≡ H.said host.old }
+    ensures taken { H.taken host.new ≡ H.taken host.old }
+    ensures host_faults { H.host_faults host.new ≡ H.host_faults host.old }
+    ensures honest { is_some (H.seen host.new) ≡ is_some (H.seen host.old) }
+    ensures cause { EngineCause (H.store_faults host.old) (H.store_faults host.new) result }
+{
+    if line.len() > MOST_LINE {
+        return Ok(Answered {
+            reply: Reply::TooLong,
+            ends: false,
+        });
+    }
+    answer_line(alloc, host, engine, line)
+}
+
+// Says a reply to the connection that asked.
+fn say<H: Host>(alloc: Global, host: &mut H, conn: u64, answered: Answered) -> After
+    requires { IsSayable answered.reply }
+    ensures says { Says H.moment H.left_since H.said H.may_leave H.seen H.taken host.old host.new conn (spoken answered.reply) (follows_end answered.ends) result }
+    ensures stops { IsStop result }
+    ensures blamed { IsBlamed (status_of result) (H.host_faults host.old) (H.host_faults host.new) (H.store_faults host.old) (H.store_faults host.new) }
+{
+    let ends = answered.ends;
+    let Ok(line) = reply_line(alloc, answered.reply) else {
+        return After::Stops(NO_MEMORY);
+    };
+    match host.say(conn, &line) {
+        Ok(()) => { if ends { After::Ends } else { After::GoesOn } }
+        Err(_) => After::Stops(HOST_FAULT),
+    }
+}
+
+// Says to the connection that asked that the journal is full.
+fn say_full<H: Host>(alloc: Global, host: &mut H, conn: u64, size: u64) -> After
+    ensures says { Says H.moment H.left_since H.said H.may_leave H.seen H.taken host.old host.new conn (full_bytes size) (After.Stops 7) result }
+    ensures stops { IsStop result }
+    ensures blamed { IsBlamed (status_of result) (H.host_faults host.old) (H.host_faults host.new) (H.store_faults host.old) (H.store_faults host.new) }
+{
+    let Ok(line) = full_line(alloc, size) else {
+        return After::Stops(NO_MEMORY);
+    };
+    match host.say(conn, &line) {
+        Ok(()) => After::Stops(FULL),
+        Err(_) => After::Stops(HOST_FAULT),
+    }
+}
+
+/// Takes the next input, and says its reply.
+pub fn take_turn<H: Host>(alloc: Global, host: &mut H, engine: &mut Engine) -> After
+    requires place { IsEngineOf (H.seen host.old) engine.old }
+    ensures place { result ≡ After.GoesOn → IsEngineOf (H.seen host.new) engine.new }
+    ensures turn { ForSome (H.seen host.old) (λ image. ForSome (H.taken host.old) (λ inputs. ForSome (H.said host.old) (λ pieces.
+        (history : List Label) → StandFor image (H.may_leave host.old) engine.old history
+        → TurnDone H.moment H.left_since H.said H.may_leave H.seen H.taken host.old host.new engine.new history inputs pieces result))) }
+    ensures which { IsStop result }
+    ensures blamed { IsBlamed (status_of result) (H.host_faults host.old) (H.host_faults host.new) (H.store_faults host.old) (H.store_faults host.new) }
+{
+    match host.next() {
+        Ok(Input::Ask(conn, line)) => match answer_ask(alloc, host, engine, line.as_slice()) {
+            Ok(answered) => say(alloc, host, conn, answered),
+            Err(EngineFault::Full { size }) => say_full(alloc, host, conn, size),
+            Err(EngineFault::Store) => After::Stops(STORE_FAULT),
+            Err(EngineFault::Damaged { .. } | EngineFault::OutOfMemory) => unreachable!(),
+        },
+        Ok(Input::TooLong(conn)) => {
+            let answered = Answered {
+                reply: Reply::TooLong,
+                ends: false,
+            };
+            say(alloc, host, conn, answered)
+        }
+        Ok(Input::Closed) => After::Ends,
+        Err(_) => After::Stops(HOST_FAULT),
+    }
+}
