@@ -1,5 +1,5 @@
 -- What appending the frame of a label adds to a history.
-use Rattle.std.proofs.Common.{◌≡◌, ◌∙◌, ◌↔◌, ap, sym, refl, subst, ⊎_elim, ℕ, ◌+◌, ◌<◌, ◌≤◌, arith, Result, Ok, Err, None, List, [], ◌∷◌, ◌++◌, length, Option, Some, is_some, true}
+use Rattle.std.proofs.Common.{◌≡◌, ◌∙◌, ◌↔◌, ap, refl, subst, ⊎_elim, ℕ, ◌+◌, ◌<◌, ◌≤◌, arith, Result, Ok, Err, None, List, [], ◌∷◌, ◌++◌, length, Option, Some, is_some}
 use Rattle.std.specs.Option.{ForSome}
 use Rattle.swf_store.specs.declared.image.Image.{Image}
 use Rattle.swf_store.specs.declared.image.File.{File}
@@ -12,7 +12,6 @@ use Rattle.swf_journal.specs.Frames.{header}
 use Rattle.swf_journal.specs.Place.{IsSettled}
 use Rattle.swf_meaning.specs.declared.label.Label.{Label}
 use Rattle.swf_meaning.specs.After.{after}
-use Rattle.swf_meaning.specs.Runs.{run, run_from}
 use Rattle.swf_meaning.specs.World.{World}
 use Rattle.swf_meaning.proofs.RunLemmas.{run-snoc, run_one}
 use Rattle.std.proofs.lemmas.Bool.{cases_lt}
@@ -20,10 +19,10 @@ use Rattle.swf_record.specs.Encodes.{Encodes, labels_bytes}
 use Rattle.swf_world.specs.Refusals.{refusal}
 use Rattle.swf_journal.specs.declared.fault.AppendFault.{AppendFault}
 use Rattle.swf_journal.specs.declared.fault.AppendFault.TheVariants.{Store, Full}
-use Rattle.swf_engine.specs.Answers.{Submits, HasRoom, Stays}
+use Rattle.swf_engine.specs.Answers.{Submits}
 use Rattle.swf_engine.specs.Causes.{of_append}
 use Rattle.swf_engine.specs.Core.{Core, StandFor, most_bytes}
-use Rattle.swf_engine.specs.History.{HoldLabels, IsHistory, IsGrown}
+use Rattle.swf_engine.specs.History.{IsGrown}
 use Rattle.swf_engine.specs.Moves.{Passes, Adds, Breaks}
 use Rattle.swf_engine.proofs.HistoryLemmas.{holds_push, history_of, not_grown, all_grown}
 

@@ -1,17 +1,16 @@
 -- How histories grow, and what stands for them.
-use Rattle.std.proofs.Common.{◌≡◌, ◌∙◌, ap, sym, refl, subst, ℕ, List, [], ◌∷◌, ◌++◌, append-nil, append_assoc, Option, Some, None, is_some, true}
-use Rattle.std.proofs.lemmas.List.{append_assoc as assoc}
+use Rattle.std.proofs.Common.{◌≡◌, ◌∙◌, ap, sym, refl, subst, ℕ, List, [], ◌∷◌, ◌++◌, append-nil, append_assoc, Some}
 use Rattle.swf_store.specs.declared.image.Image.{Image}
 use Rattle.swf_journal.specs.Frames.{header}
-use Rattle.swf_journal.specs.Stands.{IsShutAfter, Stands}
+use Rattle.swf_journal.specs.Stands.{IsShutAfter}
 use Rattle.swf_journal.proofs.StandsLemmas.{shut_stands}
 use Rattle.swf_meaning.specs.declared.label.Label.{Label}
-use Rattle.swf_meaning.specs.Runs.{run, Legal}
+use Rattle.swf_meaning.specs.Runs.{run}
 use Rattle.swf_meaning.specs.World.{World}
 use Rattle.swf_meaning.proofs.RunLemmas.{legal_run}
 use Rattle.swf_record.specs.Encodes.{Encodes}
 use Rattle.swf_engine.specs.Core.{Core, StandFor}
-use Rattle.swf_engine.specs.History.{HoldLabels, IsHistory, Begins, IsGrown}
+use Rattle.swf_engine.specs.History.{HoldLabels, IsHistory, IsGrown}
 
 -- one frame more holds its labels behind those before
 pub holds_push : (bodies : List (List ℕ)) (labels : List Label) (body : List ℕ) (more : List Label) → HoldLabels bodies labels → Encodes more body → HoldLabels (bodies ++ body ∷ []) (labels ++ more)

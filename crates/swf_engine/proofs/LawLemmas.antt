@@ -1,5 +1,5 @@
 -- An image stands for at most one history, and a damaged one for none.
-use Rattle.std.proofs.Common.{◌≡◌, ◌≢◌, ◌∙◌, ap, sym, refl, subst, inl, inr, ⊎_elim, ℕ, ◌+◌, ◌<◌, ◌≤◌, List, [], ◌∷◌, ◌++◌, length, take, drop, Bool, true, false, Option, Some, None, is_some, Ok, Err, option_and_then, append_assoc, append-nil, arith}
+use Rattle.std.proofs.Common.{◌≡◌, ◌≢◌, ◌∙◌, ap, sym, refl, subst, inl, inr, ⊎_elim, ℕ, List, [], ◌∷◌, ◌++◌, length, take, drop, true, false, Option, Some, None, is_some, option_and_then, append_assoc, arith}
 use Rattle.std.specs.List.{AllByRecursion}
 use Rattle.std.proofs.lemmas.List.{append_cancel_left, take_at}
 use Rattle.swf_store.specs.declared.image.Image.{Image}
@@ -7,17 +7,16 @@ use Rattle.swf_store.specs.declared.image.File.TheVariants.{Journal}
 use Rattle.swf_journal.specs.Frames.{header, open_gate, length_bytes, frames_bytes, next_gate}
 use Rattle.swf_journal.specs.Opening.{IsFrame, IsDamage}
 use Rattle.swf_journal.specs.Place.{Place, HasRead}
-use Rattle.swf_journal.specs.Stands.{Fits, StandsFor, IsShutAfter}
+use Rattle.swf_journal.specs.Stands.{Fits, IsShutAfter}
 use Rattle.swf_journal.proofs.FrameLemmas.{length-header, nested}
 use Rattle.swf_journal.proofs.StandsLemmas.{stands_for_one, first_is, peeled, no_damage, behind_is}
 use Rattle.swf_meaning.specs.declared.label.Label.{Label}
 use Rattle.swf_meaning.specs.After.{after}
 use Rattle.swf_meaning.specs.Runs.{run, run_from}
 use Rattle.swf_meaning.specs.World.{World, empty}
-use Rattle.swf_record.specs.Decodes.{decoded}
 use Rattle.swf_record.specs.Encodes.{Encodes}
 use Rattle.swf_record.proofs.Laws.{encodes_decoded, one_list}
-use Rattle.swf_engine.specs.Damage.{IsHeaderDamage, IsMisspelled, IsIllegal, IsBadBody, IsBehind, IsBadFrame, IsFrameDamage, IsDamaged}
+use Rattle.swf_engine.specs.Damage.{IsBadBody, IsBadFrame, IsFrameDamage, IsDamaged}
 use Rattle.swf_engine.specs.History.{HoldLabels, IsHistory}
 use Rattle.swf_engine.proofs.MoveLemmas.{run_joined}
 

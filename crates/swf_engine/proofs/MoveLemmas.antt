@@ -1,17 +1,15 @@
 -- How what two calls add is joined.
-use Rattle.std.proofs.Common.{◌≡◌, ◌∙◌, ap, sym, refl, subst, ℕ, List, [], ◌∷◌, ◌++◌, append-nil, append_assoc, Option, Some, None, is_some, true, option_and_then}
-use Rattle.std.specs.Option.{ForSome}
+use Rattle.std.proofs.Common.{◌≡◌, ◌∙◌, ap, sym, refl, subst, ℕ, List, [], ◌++◌, append-nil, append_assoc, Option, Some, None, is_some, true, option_and_then}
 use Rattle.swf_store.specs.declared.image.Image.{Image}
 use Rattle.swf_store.specs.declared.said.Piece.{Piece}
 use Rattle.swf_store.specs.Said.{IsSaid}
-use Rattle.swf_store.specs.Stops.{Leaves, LeavesOnly}
-use Rattle.swf_store.proofs.Moments.{goes_on_only, weaker_only, started}
+use Rattle.swf_store.proofs.Moments.{goes_on_only, started}
 use Rattle.swf_meaning.specs.declared.label.Label.{Label}
 use Rattle.swf_meaning.specs.Runs.{run_from}
 use Rattle.swf_meaning.specs.World.{World}
 use Rattle.swf_meaning.proofs.RunLemmas.{run_from-append}
 use Rattle.swf_engine.specs.Core.{Core, StandFor}
-use Rattle.swf_engine.specs.History.{IsHistory, IsGrown}
+use Rattle.swf_engine.specs.History.{IsGrown}
 use Rattle.swf_engine.specs.Moves.{Passes, Adds, Breaks}
 use Rattle.swf_engine.proofs.HistoryLemmas.{left_history, not_grown, grown_first, grown_second}
 

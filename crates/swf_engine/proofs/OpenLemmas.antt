@@ -1,34 +1,30 @@
 -- How an opening goes on from frame to frame, and what it stands for at its end.
-use Rattle.std.proofs.Common.{◌≡◌, ◌≢◌, ◌∙◌, ap, sym, refl, subst, inl, inr, ⊎_elim, ℕ, ◌+◌, ◌<◌, ◌≤◌, List, [], ◌∷◌, ◌++◌, length, take, drop, Option, Some, None, is_some, is_none, true, false, Vec, Global, Result, Ok, Err, IfOk, append-nil, append_assoc, arith}
+use Rattle.std.proofs.Common.{◌≡◌, ◌≢◌, ◌∙◌, ap, sym, refl, subst, inl, inr, ⊎_elim, ℕ, ◌+◌, ◌≤◌, List, [], ◌∷◌, ◌++◌, length, take, drop, Option, Some, true, Vec, Global, Result, Ok, Err, IfOk, append_assoc, arith}
 use Rattle.std.specs.List.{AllByRecursion}
 use Rattle.std.proofs.lemmas.Bool.{cases_lt}
 use Rattle.std.proofs.lemmas.List.{append_cancel_left}
 use Rattle.swf_store.specs.declared.image.Image.{Image}
-use Rattle.swf_store.specs.declared.image.File.TheVariants.{Journal}
-use Rattle.swf_store.specs.Disk.{Only, NothingNew}
+use Rattle.swf_store.specs.Disk.{Only}
 use Rattle.swf_journal.specs.Frames.{header, open_gate, length_bytes, frames_bytes, next_gate}
 use Rattle.swf_journal.specs.Opening.{begun, opened, KeepsFrames, IsFrame, IsDamage, Opens}
 use Rattle.swf_journal.specs.Place.{Place, HasRead, IsReady}
-use Rattle.swf_journal.specs.Stands.{Fits, Stands, StandsFor, IsShutAfter}
+use Rattle.swf_journal.specs.Stands.{Fits, StandsFor, IsShutAfter}
 use Rattle.swf_journal.proofs.OpenLemmas.{begun_short, begun_long, begun_holds, keeps_begun}
 use Rattle.swf_journal.proofs.FrameLemmas.{frames_push}
 use Rattle.swf_journal.proofs.StandsLemmas.{shut_stands, stands_for_one, behind_is}
 use Rattle.swf_journal.specs.declared.fault.OpenFault.{OpenFault}
 use Rattle.swf_journal.specs.declared.fault.OpenFault.TheVariants.{Store as OpenStore, Damaged as OpenDamaged, OutOfMemory as OpenOutOfMemory}
 use Rattle.swf_store.specs.declared.said.Piece.{Piece}
-use Rattle.swf_store.specs.declared.image.File.{File}
-use Rattle.swf_store.specs.Files.{bytes_of}
-use Rattle.swf_store.specs.Stops.{Leaves, LeavesOnly}
+use Rattle.swf_store.specs.Stops.{LeavesOnly}
 use Rattle.swf_store.proofs.Moments.{goes_on_only, weaker_only}
-use Rattle.std.specs.Option.{ForSome, MatchOption}
 use Rattle.swf_meaning.specs.declared.label.Label.{Label}
-use Rattle.swf_meaning.specs.Runs.{run, run_from}
+use Rattle.swf_meaning.specs.Runs.{run_from}
 use Rattle.swf_meaning.specs.World.{World, empty}
 use Rattle.swf_meaning.proofs.RunLemmas.{legal_run}
 use Rattle.swf_record.specs.Encodes.{Encodes}
 use Rattle.swf_engine.specs.Core.{Core, StandFor}
-use Rattle.swf_engine.specs.Damage.{IsBehind, IsBadBody, IsBadFrame, IsFrameDamage, IsDamaged}
-use Rattle.swf_engine.specs.History.{HoldLabels, IsHistory}
+use Rattle.swf_engine.specs.Damage.{IsBadBody, IsBadFrame, IsFrameDamage, IsDamaged}
+use Rattle.swf_engine.specs.History.{IsHistory}
 use Rattle.swf_engine.specs.declared.fault.EngineFault.{EngineFault}
 use Rattle.swf_engine.specs.declared.fault.EngineFault.TheVariants.{Store, Damaged, Full, OutOfMemory}
 use Rattle.swf_engine.specs.Causes.{of_open}

@@ -1,4 +1,4 @@
-use Rattle.std.proofs.Common.{◌≡◌, ◌∙◌, ap, sym, subst, Some, None, Err}
+use Rattle.std.proofs.Common.{◌≡◌, ◌∙◌, ap, sym, subst, Some, Err}
 use Rattle.swf_meaning.specs.After.{after}
 use Rattle.swf_meaning.specs.World.{World}
 use Rattle.swf_world.specs.Changes.{changed}

@@ -1,4 +1,4 @@
-use Rattle.std.proofs.Common.{◌≡◌, ◌∙◌, ap, sym, refl, subst, ℕ, Ok, arith, length}
+use Rattle.std.proofs.Common.{◌≡◌, ◌∙◌, ap, sym, refl, subst, Ok, arith, length}
 use Rattle.swf_store.specs.Files.{bytes_of}
 use Rattle.swf_store.specs.Said.{IsSaid}
 use Rattle.swf_store.specs.declared.image.File.{File}

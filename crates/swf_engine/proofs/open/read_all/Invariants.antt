@@ -1,4 +1,4 @@
-use Rattle.std.proofs.Common.{◌≡◌, is_some}
+use Rattle.std.proofs.Common.{◌≡◌}
 use Rattle.std.specs.Option.{ForSome}
 use Rattle.swf_store.specs.declared.image.File.TheVariants.{Journal}
 use Rattle.swf_store.specs.Disk.{NothingNew}

@@ -1,4 +1,4 @@
-use Rattle.std.proofs.Common.{◌≡◌, ◌∙◌, ap, sym, subst, ℕ, ◌+◌, List, [], ◌∷◌, ◌++◌, Option, Some, None, Vec, Global, Err, is_none, true, drop}
+use Rattle.std.proofs.Common.{◌≡◌, ◌∙◌, ap, sym, subst, ℕ, ◌+◌, List, [], ◌∷◌, ◌++◌, Option, Some, None, Vec, Global, Err, is_none, drop}
 use Rattle.std.specs.Option.{MatchOption}
 use Rattle.swf_store.specs.Files.{bytes_of}
 use Rattle.swf_store.specs.declared.image.Image.{Image}

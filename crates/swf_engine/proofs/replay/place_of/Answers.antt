@@ -1,4 +1,4 @@
-use Rattle.std.proofs.Common.{◌∙◌, ap, length, arith}
+use Rattle.std.proofs.Common.{ap, length, arith}
 use Rattle.swf_record.proofs.Laws.{length_encodes}
 use Rattle.swf_engine.proofs.replay.place_of.Goals as goal
 

@@ -1,8 +1,6 @@
-use Rattle.std.proofs.Common.{◌≡◌, ◌∙◌, ap, sym, subst, inl, ℕ, Ok, Err, Result}
+use Rattle.std.proofs.Common.{◌∙◌}
 use Rattle.swf_store.specs.Disk.{Only}
 use Rattle.swf_journal.specs.Opening.{opened, begun}
-use Rattle.swf_journal.specs.declared.fault.OpenFault.{OpenFault}
-use Rattle.swf_engine.specs.declared.fault.EngineFault.{EngineFault}
 use Rattle.swf_engine.proofs.OpenLemmas.{replayed_none, all_damaged, all_opened, opens_on, opens_short, failed_damage}
 use Rattle.swf_engine.proofs.engine.Engine.open_on.Goals as goal
 
