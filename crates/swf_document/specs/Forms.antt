@@ -3,8 +3,8 @@ use Rattle.std.specs.Prelude.{◌==◌, ◌&&◌, ◌||◌, ◌-◌, ℕ, List, 
 use Rattle.std.specs.List.{list_all, before_first, after_first, starts_with, position_or_len}
 use Rattle.std.specs.Str.{encode_utf8_all}
 use Rattle.swf_value.specs.Value.{Value, null, boolean, int, text, list, object, Items, no_items, item, Members, no_members, member}
-use Rattle.swf_value.specs.Ascii.{is_digit, is_lower}
-use Rattle.swf_value.specs.Same.{same}
+use Rattle.swf_text.specs.Ascii.{is_digit, is_lower}
+use Rattle.swf_text.specs.Same.{same}
 
 -- `1.0.` and digits
 abbrev pub is_dsl : List ℕ → Bool

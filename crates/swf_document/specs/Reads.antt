@@ -4,7 +4,7 @@ use Rattle.std.specs.List.{list_any}
 use Rattle.swf_value.specs.Value.{Value, text, list, object, Items, no_items, item, Members, no_members, member}
 use Rattle.swf_value.specs.Members.{member_at}
 use Rattle.std.specs.Str.{encode_utf8_all}
-use Rattle.swf_value.specs.Same.{same}
+use Rattle.swf_text.specs.Same.{same}
 use Rattle.swf_document.specs.Forms.{is_dsl, is_label, is_version, is_task_name, is_constant}
 use Rattle.swf_document.specs.declared.document.DocKey.{DocKey}
 use Rattle.swf_document.specs.declared.document.Document.{Document}

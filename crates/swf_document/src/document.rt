@@ -3,7 +3,8 @@ ghost use Rattle.std.specs.Prelude.{◌≡◌, IfOk};
 
 use crate::tasks::Tasks;
 use std::alloc::AllocError;
-use swf_value::{Json, Text};
+use swf_text::Text;
+use swf_value::Json;
 
 /// The namespace, name and version by which a document is known.
 #[derive(PartialEq, Eq, Hash, Drop)]

@@ -4,7 +4,7 @@ ghost use Rattle.swf_document.specs.Faults.{not_in_profile};
 
 use std::alloc::{AllocError, Global};
 use std::marker::Model;
-use swf_value::Place;
+use swf_text::Place;
 
 /// A kind of fault.
 #[derive(Clone, Copy, Debug, PartialEq, Eq)]

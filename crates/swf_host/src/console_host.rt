@@ -9,7 +9,7 @@ use std::io::{self, BufRead, ErrorKind, Write};
 use std::os::fd::AsRawFd;
 use std::os::unix::fs::FileExt;
 use swf_store::{Failed, File, FileStore, Store};
-use swf_value::Bytes;
+use swf_text::Bytes;
 
 /// The most bytes that a line may have, its newline left out.
 pub const MOST_LINE: usize = 1_048_576;

@@ -10,7 +10,7 @@ ghost use Rattle.swf_host.specs.Taken.{after_next};
 
 use std::alloc::{AllocError, Global};
 use swf_store::{Failed, Store};
-use swf_value::Bytes;
+use swf_text::Bytes;
 
 /// What comes from outside.
 #[derive(Drop)]

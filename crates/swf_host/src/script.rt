@@ -6,7 +6,7 @@ ghost use Rattle.swf_store.specs.Faults.{HasCause};
 use crate::Input;
 use std::alloc::{AllocError, Global};
 use swf_store::Failed;
-use swf_value::Bytes;
+use swf_text::Bytes;
 
 /// One turn of a script.
 #[derive(Drop)]

@@ -4,7 +4,7 @@ use Rattle.std.proofs.lemmas.Bool.{and_right, lt-leb, le-leb}
 use Rattle.swf_value.specs.Value.{Value, list, object}
 use Rattle.swf_value.specs.declared.value.Member.{Member}
 use Rattle.swf_value.specs.Node.{items_of, members_of}
-use Rattle.swf_value.specs.Same.{same}
+use Rattle.swf_text.specs.Same.{same}
 use Rattle.swf_document.specs.declared.document.DocKey.{DocKey}
 use Rattle.swf_document.specs.declared.document.Named.{Named}
 use Rattle.swf_document.specs.Forms.{is_dsl, is_label, is_version}

@@ -3,7 +3,7 @@ ghost use Rattle.std.specs.Prelude.{◌≡◌, find, reverse};
 ghost use Rattle.std.specs.List.{before_first, after_first, list_all, position_or_len};
 ghost use Rattle.swf_document.specs.Forms.{is_dsl, is_label_end, is_label_char, is_label, is_short_number, is_point, is_version, is_blank, is_mark, opens, is_brace, is_expression};
 
-use swf_value::{all_digits, is_digit, is_lower};
+use swf_text::{all_digits, is_digit, is_lower};
 
 /// `1.0.` and digits.
 pub fn is_dsl(bytes: &[u8]) -> bool

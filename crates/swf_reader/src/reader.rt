@@ -3,7 +3,7 @@ ghost use Rattle.std.specs.Prelude.{◌≡◌, ◌⊎◌, Err, IfOk, IsTrue, map
 ghost use Rattle.std.specs.List.{list_all, list_any};
 ghost use Rattle.swf_value.specs.Members.{member_at};
 ghost use Rattle.swf_value.specs.Node.{items_of, members_of};
-ghost use Rattle.swf_value.specs.Same.{is_ascii, same};
+ghost use Rattle.swf_text.specs.Same.{is_ascii, same};
 ghost use Rattle.swf_document.specs.Forms.{is_constant, are_constant, have_constants, is_task_name};
 ghost use Rattle.swf_document.specs.Reads.{has_names, have_names, text_of, text_at, key_of, is_object, set_of, task_of, tasks_of, all_different, list_of, document_of};
 ghost use Rattle.swf_document.specs.Faults.{not_in_profile};
@@ -12,7 +12,8 @@ ghost use Rattle.swf_reader.specs.ReadSmall.{document_or_fault, form_test, has_f
 use crate::forms;
 use std::alloc::{AllocError, Global};
 use swf_document::{DocKey, Document, Faults, Kind, Named, Task, Tasks, Template};
-use swf_value::{Json, JsonNode, Member, Text, is_word, same_texts};
+use swf_text::{Text, is_word, same_texts};
+use swf_value::{Json, JsonNode, Member};
 
 /// How many tasks a document may have.
 const MOST_TASKS: usize = 4096;

@@ -7,7 +7,8 @@ ghost use Rattle.swf_record.specs.Encodes.{two_bytes, four_bytes, block_bytes, t
 use std::alloc::{AllocError, Global};
 use swf_document::DocKey;
 use swf_meaning::Label;
-use swf_value::{Json, Strand, Text, write_json};
+use swf_text::{Strand, Text};
+use swf_value::{Json, write_json};
 
 /// The bytes of these labels. A text, or the text of a value, of 2^32 bytes or more, and a strand of
 /// 2^16 numbers or more, has no bytes, which counts as want of memory.

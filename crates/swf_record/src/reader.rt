@@ -11,7 +11,8 @@ ghost use Rattle.swf_record.specs.declared.reader.Stop.TheVariants.{OutOfMemory 
 
 use std::alloc::{AllocError, AllocFailed, Global};
 use std::str;
-use swf_value::{Json, Strand, Text, ValueFault, read_json, write_json};
+use swf_text::{Strand, Text};
+use swf_value::{Json, ValueFault, read_json, write_json};
 
 /// Why a reader went no further.
 #[derive(Clone, Copy, Drop)]

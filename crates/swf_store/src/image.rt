@@ -5,7 +5,7 @@ ghost use Rattle.swf_store.specs.Files.{bytes_of, with_bytes};
 
 use std::alloc::{AllocError, Global};
 use std::mem;
-use swf_value::Bytes;
+use swf_text::Bytes;
 
 /// One of the three files of a store.
 #[derive(Clone, Copy, Debug, PartialEq, Eq)]

@@ -8,7 +8,7 @@ use crate::replay::{Files, replay};
 use crate::{Call, Failed, File, Image, OutOfMemory, Store};
 use std::alloc::{AllocError, Global};
 use std::marker::Model;
-use swf_value::Bytes;
+use swf_text::Bytes;
 
 /// Three files in memory. The calls whose numbers, from 0, are on its list fail, and so do those that find no memory.
 #[derive(Drop)]

@@ -7,7 +7,7 @@ use crate::memory::fails;
 use crate::{Call, File, Image};
 use std::alloc::{AllocError, Global};
 use std::marker::Model;
-use swf_value::Bytes;
+use swf_text::Bytes;
 
 /// A write of a file, and whether it was done. One that failed may have reached the file in part.
 #[derive(Drop)]

@@ -1,5 +1,5 @@
 // What is said to those who ask.
-use swf_value::Bytes;
+use swf_text::Bytes;
 
 /// A piece that was said: to which connection, its bytes, and how many inputs had been taken before it.
 #[derive(Drop)]

@@ -1,11 +1,11 @@
 -- A value that is read nests no deeper than is allowed.
-use Rattle.std.proofs.Common.{◌≡◌, refl, sym, ap, ℕ, ◌≤◌, ◌<◌, List, Bool, true, false, ltb, lt-ltb, Option, Some, None, option_map, option_and_then, Ok, Err, Result, ℤ, cond, inl, inr, arith}
+use Rattle.std.proofs.Common.{◌≡◌, refl, sym, ap, ℕ, ◌≤◌, List, Bool, true, false, ltb, lt-ltb, Option, Some, None, option_map, option_and_then, Ok, Err, cond, inl, inr, arith}
 use Rattle.std.proofs.lemmas.Bool.{cases_lt}
 use Rattle.std.specs.Str.{is_utf8}
 use Rattle.serde_json.specs.Data as json
 use Rattle.serde_json.specs.Find.{as_integer}
 use Rattle.serde_json.specs.Read.{read}
-use Rattle.swf_value.specs.Value.{Value, null, boolean, int, text, list, object, Items, no_items, item, Members, no_members, member, depth, depth_items, depth_members}
+use Rattle.swf_value.specs.Value.{Value, null, boolean, int, list, object, Items, no_items, item, Members, no_members, member, depth, depth_items, depth_members}
 use Rattle.swf_value.specs.Read.{in_range, whole_number, whole, whole_items, whole_members, whole_or_fault, value_or_fault, read_within}
 use Rattle.swf_value.specs.declared.fault.ValueFault.{ValueFault}
 

@@ -1,5 +1,5 @@
 -- Names among ascending members.
-use Rattle.std.proofs.Common.{◌≡◌, ◌∙◌, ap, sym, subst, refl, ℕ, zero, suc, ◌<◌, ◌≤◌, List, [], ◌∷◌, ◌++◌, length, get_or, take, drop, Bool, true, false, true≢false, inl, inr, Some, None, Result, Ok, Err, slice_set, MatchResult, arith}
+use Rattle.std.proofs.Common.{◌≡◌, ◌∙◌, ap, sym, subst, refl, ℕ, zero, suc, ◌<◌, ◌≤◌, List, [], ◌∷◌, length, get_or, Bool, true, false, inl, inr, Some, None, Result, Ok, Err, slice_set, arith}
 use Rattle.std.proofs.lemmas.Cmp.{nat_list_cmp_total}
 use Rattle.std.proofs.lemmas.Map.Lookups.{exact_bytes}
 use Rattle.std.proofs.lemmas.Bool.{cases_lt}
@@ -13,10 +13,10 @@ use Rattle.swf_value.specs.Value.{Value, Members, no_members, Ascending, LeadsMe
 use Rattle.swf_value.specs.Members.{at, by_order, put}
 use Rattle.swf_value.specs.Node.{members_of}
 use Rattle.swf_value.specs.Place.{IsPlaceOf}
-use Rattle.swf_value.specs.Same.{same}
+use Rattle.swf_text.specs.Same.{same}
 use Rattle.swf_value.specs.declared.value.Member.{Member}
 use Rattle.swf_value.proofs.OrderLaws.{own_reverse}
-use Rattle.swf_value.proofs.SameLemmas.{same_true, same_refl}
+use Rattle.swf_text.proofs.SameLemmas.{same_true, same_refl}
 
 text_itself : (k : List ℕ) → slice_cmp nat_cmp k k ≡ Equal
 text_itself k = own_reverse (slice_cmp nat_cmp k k) (nat_list_cmp_total.antisymm k k)

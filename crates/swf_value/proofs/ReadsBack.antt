@@ -25,7 +25,7 @@ use Rattle.swf_value.specs.Value.{Value, null, boolean, int, text, list, object,
 use Rattle.swf_value.specs.Written.{quoted, comma, written, written_items, written_members}
 use Rattle.swf_value.proofs.Compact.{quoted_is, written_is}
 use Rattle.swf_value.proofs.Data.{data_of, items_data, members_data, mag-in_range}
-use Rattle.swf_value.proofs.Utf8Order.{order-encode_utf8_all}
+use Rattle.swf_text.proofs.Utf8Order.{order-encode_utf8_all}
 
 -- ---- numbers
 

@@ -13,7 +13,7 @@ use Rattle.swf_value.specs.Value.{Value, list, object, Items, no_items, item, Me
 use Rattle.swf_value.specs.Node.{items_of, members_of}
 use Rattle.swf_value.specs.Read.{whole, whole_items, whole_members}
 use Rattle.swf_value.specs.declared.value.Member.{Member}
-use Rattle.swf_value.proofs.Utf8Order.{order-encode_utf8_all}
+use Rattle.swf_text.proofs.Utf8Order.{order-encode_utf8_all}
 
 -- ---- items
 

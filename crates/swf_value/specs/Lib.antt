@@ -8,14 +8,5 @@ pub mod Grow
 pub mod Place
 pub mod Written
 pub mod Read
-pub mod Builtin
-pub mod Name
-pub mod Expr
-pub mod ExprNode
-pub mod ExprCode
-pub mod ExprFalls
 pub mod Order
 pub mod Size
-pub mod Same
-pub mod Ascii
-pub mod Pointer

@@ -1,6 +1,6 @@
 -- The value that one level of a `Json` stands for.
-use Rattle.std.specs.Prelude.{◌≡◌, ◌+◌, ◌-◌, ◌^◌, ℕ, min, List, [], ◌∷◌}
-use Rattle.swf_value.specs.Value.{Value, null, boolean, int, text, list, object, Items, no_items, item, Members, no_members, member, IsLevel, depth}
+use Rattle.std.specs.Prelude.{◌≡◌, ◌-◌, ◌^◌, ℕ, min, List, [], ◌∷◌}
+use Rattle.swf_value.specs.Value.{Value, null, boolean, int, text, list, object, Members, no_members, member, IsLevel, depth}
 use Rattle.swf_value.specs.declared.value.JsonNode.{JsonNode}
 use Rattle.swf_value.specs.declared.value.JsonNode.TheVariants.{Null, Bool, Int, Text, List as Listed, Object}
 use Rattle.swf_value.specs.declared.value.Member.{Member}

@@ -2,7 +2,6 @@
 use Rattle.std.specs.Prelude.{◌+◌, ◌≤◌, max, List, [], ◌∷◌}
 use Rattle.std.proofs.Common.{arith}
 use denote.Param.Weighed.{most}
-use Rattle.swf_value.specs.Value.{Value}
 use Rattle.swf_value.specs.declared.value.JsonNode.{JsonNode}
 use Rattle.swf_value.specs.declared.value.JsonNode.TheVariants.{Null, Bool, Int, Text, List as Listed, Object}
 use Rattle.swf_value.specs.declared.value.Member.{Member}

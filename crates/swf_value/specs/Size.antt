@@ -1,11 +1,7 @@
 -- How large a value is.
-use Rattle.std.specs.Prelude.{ℕ, suc, ◌+◌, List, length}
-use Rattle.std.specs.Str.{encode_utf8_all}
+use Rattle.std.specs.Prelude.{ℕ, suc, ◌+◌}
+use Rattle.swf_text.specs.Size.{bytes_in}
 use Rattle.swf_value.specs.Value.{Value, null, boolean, int, text, list, object, Items, no_items, item, Members, no_members, member}
-
--- the bytes of a text in UTF-8
-abbrev pub bytes_in : List ℕ → ℕ
-bytes_in t = length (encode_utf8_all t)
 
 -- one for each value inside and for itself, and one for each byte of the texts and names
 abbrev mutual

@@ -7,13 +7,12 @@ ghost use Rattle.swf_value.specs.Place.{IsPlaceOf};
 ghost use Rattle.swf_value.specs.Value.{Ascending};
 ghost use Rattle.swf_value.specs.Node.{members_of};
 
-use crate::order::compare_strs;
-use crate::text::Text;
 use crate::value::{Json, Member};
 use std::alloc::{AllocError, Global};
 use std::cmp::Ordering;
 use std::marker::Model;
 use std::sync::Arc;
+use swf_text::{Text, compare_strs};
 
 /// The members of an object, by ascending name, each name once. A copy shares them. Contracts see
 /// `Members`.

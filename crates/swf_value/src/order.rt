@@ -1,7 +1,5 @@
 // The order of values.
-ghost use Rattle.std.specs.Prelude.{◌≡◌, chars, length, slice_index};
-ghost use Rattle.std.specs.Ordering.{nat_cmp};
-ghost use Rattle.std.specs.Cmp.Lexicographic.{slice_cmp};
+ghost use Rattle.std.specs.Prelude.{◌≡◌};
 ghost use Rattle.swf_value.specs.Node.{node_value, items_of, members_of};
 ghost use Rattle.swf_value.specs.Order.{rank, value_cmp, items_cmp, members_cmp, names_cmp, OrderLaws};
 
@@ -49,13 +47,6 @@ fn rank_of(node: &JsonNode) -> u8
         JsonNode::List(_) => 5,
         JsonNode::Object(_) => 6,
     }
-}
-
-/// The order of two texts, by their characters.
-pub(crate) fn compare_strs(a: &str, b: &str) -> Ordering
-    ensures { result ≡ slice_cmp nat_cmp (chars a.now) (chars b.now) }
-{
-    a.cmp(b)
 }
 
 /// The order of two lists, item by item.

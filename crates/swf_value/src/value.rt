@@ -8,9 +8,9 @@ use crate::list::JsonList;
 use crate::map::JsonMap;
 use crate::measure::{depth_of_items, depth_of_members};
 use crate::order::compare;
-use crate::text::Text;
 use std::alloc::{AllocError, Global};
 use std::marker::Model;
+use swf_text::Text;
 
 /// A JSON value. Contracts see it as a `Value`.
 #[cycle(json)]

@@ -5,10 +5,10 @@ ghost use Rattle.serde_json.specs.View.{view, number_view, items_view, members_v
 ghost use Rattle.swf_value.specs.Value.{IsValue, list, object};
 ghost use Rattle.swf_value.specs.Read.{whole, whole_items, whole_members, whole_number};
 
-use crate::text::Text;
 use crate::value::{Json, Member};
 use serde_json::{Map, Number, Value as Tree};
 use std::alloc::{AllocError, Global};
+use swf_text::Text;
 
 /// The greatest whole number of a value.
 const GREATEST: i64 = 9007199254740991;

@@ -9,10 +9,10 @@ ghost use Rattle.swf_value.specs.Value.{Value, IsValue, AreItems, AreMembers, de
 ghost use Rattle.swf_value.specs.Written.{written, comma, written_items, written_members, quoted, escaped_byte, Extends};
 ghost use Rattle.swf_value.specs.Read.{read_within};
 
-use crate::text::Text;
 use crate::value::{Json, JsonNode, Member};
 use itoa::Buffer;
 use std::alloc::AllocError;
+use swf_text::Text;
 
 /// Appends the compact text of a value. After an `Err` nothing was appended.
 pub fn write_json(value: &Json, out: &mut Vec<u8>) -> Result<(), AllocError>

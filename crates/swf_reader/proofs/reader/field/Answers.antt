@@ -1,6 +1,6 @@
 use Rattle.std.proofs.Common.{ap, ◌∙◌}
 use Rattle.swf_value.specs.Members.{member_at}
-use Rattle.swf_value.proofs.SameLemmas.{chars_ascii}
+use Rattle.swf_text.proofs.SameLemmas.{chars_ascii}
 use Rattle.swf_reader.proofs.reader.field.Goals as goal
 
 pub returns : goal.returns

@@ -1,5 +1,5 @@
-use Rattle.std.proofs.Common.{◌≡◌, ◌∙◌, ◌++◌, ◌∷◌, ◌+◌, [], ap, refl, get_or, append_assoc, true, arith}
-use Rattle.swf_value.specs.Written.{escaped_byte, Extends}
+use Rattle.std.proofs.Common.{◌≡◌, ◌∙◌, ◌++◌, ◌∷◌, [], ap, refl, get_or, arith}
+use Rattle.swf_value.specs.Written.{escaped_byte}
 use Rattle.swf_value.proofs.PlainRuns.{run_on, run_written}
 use Rattle.swf_value.proofs.Writing.{Extends-more}
 use Rattle.swf_value.proofs.write.write_bytes.Goals as goal

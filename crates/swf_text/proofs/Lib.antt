@@ -1,0 +1,3 @@
+pub mod SameLemmas
+pub mod TextLemmas
+pub mod Utf8Order

@@ -1,0 +1,4 @@
+pub mod Same
+pub mod Ascii
+pub mod Size
+pub mod Pointer

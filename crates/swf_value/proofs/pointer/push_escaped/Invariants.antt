@@ -1,6 +1,0 @@
-use Rattle.std.proofs.Common.{◌≡◌, ◌++◌, flat_map}
-use Rattle.swf_value.specs.Pointer.{pointer_char}
-use Rattle.swf_value.proofs.pointer.push_escaped.Given as goal
-
-abbrev pub invariant-loop-character : goal.invariant-loop-character
-invariant-loop-character l = l.out ≡ l.fn.out ++ flat_map pointer_char l.yielded
