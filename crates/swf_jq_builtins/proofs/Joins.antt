@@ -4,7 +4,7 @@ use Rattle.std.specs.Str.{encode_utf8_all}
 use Rattle.std.proofs.lemmas.Str.{encodes-append}
 use Rattle.std.proofs.lemmas.List.{length-append}
 use Rattle.swf_value.specs.Node.{items_of}
-use Rattle.swf_value.specs.Size.{bytes_in}
+use Rattle.swf_text.specs.Size.{bytes_in}
 use Rattle.swf_value.specs.Value.{Value, text, list}
 use Rattle.swf_jq_builtins.specs.Builtins.{join, joined_or_not, pieces_of}
 use Rattle.swf_jq_builtins.proofs.Lists.{values_of_items_of}

@@ -1,5 +1,4 @@
 pub mod Lists
-pub mod Scans
 pub mod Names
 pub mod NumberRows
 pub mod NumberCaps
@@ -9,4 +8,4 @@ pub mod Joins
 pub mod Onces
 pub mod Searches
 pub mod StableSorts
-pub mod Keys
+pub mod Pairs

@@ -1,9 +1,9 @@
 -- The names of the built-ins are ASCII.
 use Rattle.std.proofs.Common.{◌≡◌, true, refl}
-use Rattle.swf_value.specs.Builtin.{builtin_name}
-use Rattle.swf_value.specs.Same.{is_ascii}
-use Rattle.swf_value.specs.declared.builtin.Builtin.{Builtin}
-use Rattle.swf_value.specs.declared.builtin.Builtin.TheVariants as builtins
+use Rattle.swf_expr.specs.Builtin.{builtin_name}
+use Rattle.swf_text.specs.Same.{is_ascii}
+use Rattle.swf_expr.specs.declared.builtin.Builtin.{Builtin}
+use Rattle.swf_expr.specs.declared.builtin.Builtin.TheVariants as builtins
 
 pub ascii_name : (b : Builtin) → is_ascii (builtin_name b) ≡ true
 ascii_name builtins.Length = refl

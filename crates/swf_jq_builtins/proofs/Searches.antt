@@ -12,7 +12,6 @@ use Rattle.swf_value.specs.Value.{Value, null}
 use Rattle.swf_value.proofs.OrderLaws.{order_laws}
 use Rattle.swf_jq_builtins.specs.Builtins.{inserted, sorted_values}
 use Rattle.swf_jq_builtins.specs.Operations.{is_same, without}
-use Rattle.swf_jq_builtins.proofs.Scans.{next, ended}
 
 any_at : (p : Value → Bool) (xs : List Value) (i : ℕ) (d : Value) → i < length xs → p (get_or xs i d) ≡ true → list_any p xs ≡ true
 any_at p [] i d h e = absurd (omega arith)
@@ -57,21 +56,6 @@ any_inserted p x (y ∷ ys) = any_by p x y ys (is_lt (value_cmp y x)) (any_inser
 pub any_sorted : (p : Value → Bool) (xs : List Value) → list_any p (sorted_values xs) ≡ list_any p xs
 any_sorted p [] = refl
 any_sorted p (x ∷ xs) = any_inserted p x (sorted_values xs) ∙ ap (λ b. p x || b) (any_sorted p xs)
-
-step_by : (xs ws ks zs : List Value) (i : ℕ) (b : Bool) → i < length xs → ks ++ without (drop i xs) ws ≡ zs → list_any (is_same (get_or xs i null)) ws ≡ b → cond b ks (ks ++ get_or xs i null ∷ []) ++ without (drop (i + 1) xs) ws ≡ zs
-step_by xs ws ks zs i true h e f =
-    ap (λ c. ks ++ cond (not c) (get_or xs i null ∷ without (drop (i + 1) xs) ws) (without (drop (i + 1) xs) ws)) (sym f)
-    ∙ ap (λ l. ks ++ l) (sym (next (λ l. without l ws) xs i h)) ∙ e
-step_by xs ws ks zs i false h e f =
-    append_assoc ks (get_or xs i null ∷ []) (without (drop (i + 1) xs) ws)
-    ∙ ap (λ c. ks ++ cond (not c) (get_or xs i null ∷ without (drop (i + 1) xs) ws) (without (drop (i + 1) xs) ws)) (sym f)
-    ∙ ap (λ l. ks ++ l) (sym (next (λ l. without l ws) xs i h)) ∙ e
-
-pub without_step : (xs ws ks ls zs : List Value) (i : ℕ) → i < length xs → ks ++ without (drop i xs) ws ≡ zs → ls ≡ cond (list_any (is_same (get_or xs i null)) ws) ks (ks ++ get_or xs i null ∷ []) → ls ++ without (drop (i + 1) xs) ws ≡ zs
-without_step xs ws ks ls zs i h e f = ap (λ l. l ++ without (drop (i + 1) xs) ws) f ∙ step_by xs ws ks zs i _ h e refl
-
-pub without_end : (xs ws ks zs : List Value) (i : ℕ) → length xs ≤ i → ks ++ without (drop i xs) ws ≡ zs → ks ≡ zs
-without_end xs ws ks zs i h e = sym (append-nil ks) ∙ ap (λ l. ks ++ l) (sym (ended (λ l. without l ws) xs i h)) ∙ e
 
 pub without_sorted : (xs ws : List Value) → without xs (sorted_values ws) ≡ without xs ws
 without_sorted [] ws = refl

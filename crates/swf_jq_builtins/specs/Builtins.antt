@@ -3,15 +3,16 @@ use Rattle.std.specs.Prelude.{ℕ, ◌+◌, ◌-◌, ◌*◌, ℤ, pos, negsuc, 
 use Rattle.std.specs.Char.{to_ascii_lowercase, to_ascii_uppercase}
 use Rattle.std.specs.List.{list_any, list_all, starts_with, ends_with, join_by}
 use Rattle.std.specs.Ordering.{is_lt, is_gt}
-use Rattle.swf_value.specs.Builtin.{builtin_name}
-use Rattle.swf_value.specs.Ascii.{is_digit}
+use Rattle.swf_expr.specs.Builtin.{builtin_name}
+use Rattle.swf_text.specs.Ascii.{is_digit}
 use Rattle.swf_value.specs.Members.{at, member_at, put, values_of, member_names, member_values}
 use Rattle.swf_value.specs.Node.{items_of}
 use Rattle.swf_value.specs.Order.{value_cmp}
+use Rattle.swf_value.specs.Read.{in_range}
 use Rattle.swf_value.specs.Value.{Value, null, boolean, int, text, list, object, Members, no_members, member}
 use Rattle.swf_value.specs.Written.{written}
-use Rattle.swf_value.specs.declared.builtin.Builtin.{Builtin}
-use Rattle.swf_value.specs.declared.builtin.Builtin.TheVariants as builtins
+use Rattle.swf_expr.specs.declared.builtin.Builtin.{Builtin}
+use Rattle.swf_expr.specs.declared.builtin.Builtin.TheVariants as builtins
 use Rattle.swf_jq_builtins.specs.Operations.{Answer, fails, is_true, is_same, whole, index_of, sum_of}
 
 -- the error of a value that a built-in doesn't take
@@ -35,9 +36,13 @@ length_of (list ds) = whole (pos (length (values_of ds)))
 length_of (object ms) = whole (pos (length (member_values ms)))
 length_of v = cannot builtins.Length
 
+-- the places of a list of this length, where they are in range
+abbrev pub places_of : ℕ → Answer
+places_of n = if in_range (pos n) then listed (numbers_from (pos 0) n) else fails (codes "out of range")
+
 abbrev pub keys_of : Value → Answer
 keys_of (object ms) = listed (map text (member_names ms))
-keys_of (list ds) = listed (numbers_from (pos 0) (length (values_of ds)))
+keys_of (list ds) = places_of (length (values_of ds))
 keys_of v = cannot builtins.Keys
 
 abbrev pub is_place : ℤ → ℕ → Bool
@@ -200,26 +205,22 @@ abbrev pub unique_of : Value → Answer
 unique_of (list ds) = listed (once (sorted_values (values_of ds)))
 unique_of v = cannot builtins.Unique
 
-abbrev pub lesser : Value → Value → Value
-lesser v w = if is_lt (value_cmp w v) then w else v
+-- the greater or the lesser of two, and the first where they are equal
+abbrev pub better : Bool → Value → Value → Value
+better true v w = if is_gt (value_cmp w v) then w else v
+better false v w = if is_lt (value_cmp w v) then w else v
 
-abbrev pub greater : Value → Value → Value
-greater v w = if is_gt (value_cmp w v) then w else v
-
-abbrev pub least : List Value → Value
-least [] = null
-least (v ∷ vs) = fold lesser v vs
-
-abbrev pub most : List Value → Value
-most [] = null
-most (v ∷ vs) = fold greater v vs
+-- the greatest or the least of some values; null where there is none
+abbrev pub best : Bool → List Value → Value
+best b [] = null
+best b (v ∷ vs) = fold (better b) v vs
 
 abbrev pub min_of : Value → Answer
-min_of (list ds) = Ok (least (values_of ds))
+min_of (list ds) = Ok (best false (values_of ds))
 min_of v = cannot builtins.Min
 
 abbrev pub max_of : Value → Answer
-max_of (list ds) = Ok (most (values_of ds))
+max_of (list ds) = Ok (best true (values_of ds))
 max_of v = cannot builtins.Max
 
 abbrev pub reverse_of : Value → Answer

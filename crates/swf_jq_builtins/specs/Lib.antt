@@ -3,3 +3,4 @@ pub mod Builtins
 pub mod Outcome
 pub mod MapMembers
 pub mod Caps
+pub mod Drafts

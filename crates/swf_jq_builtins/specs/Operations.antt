@@ -7,8 +7,8 @@ use Rattle.swf_value.specs.Node.{items_of}
 use Rattle.swf_value.specs.Order.{value_cmp}
 use Rattle.swf_value.specs.Read.{in_range}
 use Rattle.swf_value.specs.Value.{Value, null, boolean, int, text, list, object, Members, no_members, member}
-use Rattle.swf_value.specs.declared.op.Op.{Op}
-use Rattle.swf_value.specs.declared.op.Op.TheVariants as ops
+use Rattle.swf_expr.specs.declared.op.Op.{Op}
+use Rattle.swf_expr.specs.declared.op.Op.TheVariants as ops
 
 -- a value, or the text of an error
 abbrev pub Answer : Type 0

@@ -4,14 +4,17 @@ ghost use Rattle.std.specs.List.{list_any, list_all};
 ghost use Rattle.swf_value.specs.Members.{at, member_names};
 ghost use Rattle.swf_value.specs.Node.{members_of};
 ghost use Rattle.swf_value.specs.Value.{null, text, Ascending, InRange};
-ghost use Rattle.swf_jq_builtins.specs.Builtins.{has, is_there, is_place, length_of, keys_of, any_of, all_of, reverse_of, min_of, max_of, least, most, lesser, greater, numbers_from};
+ghost use Rattle.swf_jq_builtins.specs.Builtins.{has, is_there, is_place, length_of, keys_of, any_of, all_of, reverse_of, min_of, max_of, best, better, numbers_from};
 ghost use Rattle.swf_jq_builtins.specs.Operations.{is_true};
 ghost use Rattle.swf_jq_builtins.specs.Outcome.{outcome_of};
 
-use crate::outcome::{Outcome, cannot, copies, truth, whole};
+use crate::outcome::{Outcome, cannot, copies, fails, truth, whole};
 use crate::strings::character_count;
 use std::alloc::{AllocError, Global};
-use swf_value::{Builtin, Json, JsonMap, JsonNode, Member, Text, compare};
+use std::cmp::Ordering;
+use swf_expr::Builtin;
+use swf_text::Text;
+use swf_value::{Json, JsonMap, JsonNode, Member, compare};
 
 /// The greatest whole number.
 const GREATEST: usize = 9007199254740991;
@@ -53,7 +56,7 @@ pub fn keys(alloc: Global, value: &Json) -> Result<Outcome, AllocError>
         JsonNode::List(items) => {
             let count = items.as_slice().len();
             if count > GREATEST {
-                return Err(AllocError);
+                return fails(alloc, "out of range");
             }
             let places = numbers(alloc, 0, count as u64)?;
             Ok(Outcome::Value(Json::list(alloc, places)?))
@@ -101,12 +104,7 @@ pub fn any(alloc: Global, value: &Json) -> Result<Outcome, AllocError>
 fn some_true(items: &[Json]) -> bool
     ensures { result ≡ list_any is_true items.now }
 {
-    for item in items {
-        if is_true(item) {
-            return true;
-        }
-    }
-    false
+    items.iter().any(is_true)
 }
 
 #[tactic(auto, using(crate::proofs::Lists::values_of_items_of))]
@@ -122,12 +120,7 @@ pub fn all(alloc: Global, value: &Json) -> Result<Outcome, AllocError>
 fn each_true(items: &[Json]) -> bool
     ensures { result ≡ list_all is_true items.now }
 {
-    for item in items {
-        if !is_true(item) {
-            return false;
-        }
-    }
-    true
+    items.iter().all(is_true)
 }
 
 #[tactic(auto, using(crate::proofs::Lists::values_of_items_of))]
@@ -149,28 +142,9 @@ pub fn min(alloc: Global, value: &Json) -> Result<Outcome, AllocError>
     ensures { IfOk result (λ o. outcome_of o ≡ min_of value.now) }
 {
     match value.node() {
-        JsonNode::List(items) => Ok(Outcome::Value(least_of(items.as_slice())?)),
+        JsonNode::List(items) => Ok(Outcome::Value(best_of(items.as_slice(), false)?)),
         _ => cannot(alloc, Builtin::Min),
     }
-}
-
-fn least_of(items: &[Json]) -> Result<Json, AllocError>
-    ensures { IfOk result (λ v. v ≡ least items.now) }
-{
-    if items.len() == 0 {
-        return Ok(Json::null());
-    }
-    let mut best = &items[0];
-    for i in 1..items.len() {
-        best = lesser(best, &items[i]);
-    }
-    best.copy()
-}
-
-fn lesser<'v>(a: &'v Json, b: &'v Json) -> &'v Json
-    ensures { result.now ≡ lesser a.now b.now }
-{
-    if compare(b, a).is_lt() { b } else { a }
 }
 
 #[tactic(auto, using(crate::proofs::Lists::values_of_items_of))]
@@ -178,28 +152,33 @@ pub fn max(alloc: Global, value: &Json) -> Result<Outcome, AllocError>
     ensures { IfOk result (λ o. outcome_of o ≡ max_of value.now) }
 {
     match value.node() {
-        JsonNode::List(items) => Ok(Outcome::Value(most_of(items.as_slice())?)),
+        JsonNode::List(items) => Ok(Outcome::Value(best_of(items.as_slice(), true)?)),
         _ => cannot(alloc, Builtin::Max),
     }
 }
 
-fn most_of(items: &[Json]) -> Result<Json, AllocError>
-    ensures { IfOk result (λ v. v ≡ most items.now) }
+/// The greatest or the least of some values; null where there is none.
+fn best_of(items: &[Json], greatest: bool) -> Result<Json, AllocError>
+    ensures { IfOk result (λ v. v ≡ best greatest items.now) }
 {
     if items.len() == 0 {
         return Ok(Json::null());
     }
     let mut best = &items[0];
     for i in 1..items.len() {
-        best = greater(best, &items[i]);
+        best = better(best, &items[i], greatest);
     }
     best.copy()
 }
 
-fn greater<'v>(a: &'v Json, b: &'v Json) -> &'v Json
-    ensures { result.now ≡ greater a.now b.now }
+/// The greater or the lesser of two values, and the first where they are equal.
+fn better<'v>(a: &'v Json, b: &'v Json, greater: bool) -> &'v Json
+    ensures { result.now ≡ better greater a.now b.now }
 {
-    if compare(b, a).is_gt() { b } else { a }
+    match (greater, compare(b, a)) {
+        (true, Ordering::Greater) | (false, Ordering::Less) => b,
+        _ => a,
+    }
 }
 
 #[tactic(auto, using(crate::proofs::Lists::values_of_items_of))]
@@ -207,20 +186,15 @@ pub fn has(alloc: Global, value: &Json, key: &Json) -> Result<Outcome, AllocErro
     ensures { IfOk result (λ o. outcome_of o ≡ has value.now key.now) }
 {
     match (value.node(), key.node()) {
-        (JsonNode::Object(members), JsonNode::Text(name)) => Ok(truth(is_member(members, name))),
+        (JsonNode::Object(members), JsonNode::Text(name)) => Ok(truth(
+            members.find(name.as_str()).is_some(),
+        )),
         (JsonNode::List(items), JsonNode::Int(place)) => Ok(truth(is_place(
             *place,
             items.as_slice().len(),
         ))),
         _ => cannot(alloc, Builtin::Has),
     }
-}
-
-fn is_member(members: &JsonMap, name: &Text) -> bool
-    requires { Ascending members.now }
-    ensures { result ≡ is_there (at name.now members.now) }
-{
-    members.find(name.as_str()).is_some()
 }
 
 fn is_place(place: i64, len: usize) -> bool

@@ -8,7 +8,8 @@ use crate::outcome::{Outcome, Several, cannot, error, text, truth};
 use crate::totals::total;
 use crate::{arrays, entries, numbers, pieces, sorting, strings};
 use std::alloc::{AllocError, Global};
-use swf_value::{Builtin, Json, JsonNode};
+use swf_expr::Builtin;
+use swf_value::{Json, JsonNode};
 
 /// What a built-in without argument that gives one value makes of its input.
 pub fn plain(alloc: Global, builtin: Builtin, value: &Json) -> Result<Outcome, AllocError>
@@ -35,8 +36,8 @@ pub fn plain(alloc: Global, builtin: Builtin, value: &Json) -> Result<Outcome, A
         Builtin::ToString => Ok(text(strings::word_of(alloc, value)?)),
         Builtin::ToJson => Ok(text(strings::json_text(alloc, value)?)),
         Builtin::ToNumber => numbers::to_number(alloc, value),
-        Builtin::AsciiDowncase => strings::lower(alloc, value),
-        Builtin::AsciiUpcase => strings::raise(alloc, value),
+        Builtin::AsciiDowncase => strings::in_case(alloc, value, false),
+        Builtin::AsciiUpcase => strings::in_case(alloc, value, true),
         Builtin::Has
         | Builtin::AnyOf
         | Builtin::AllOf
@@ -76,38 +77,7 @@ pub fn with_one(
         Builtin::Split => Ok(Some(pieces::split(alloc, value, argument)?)),
         Builtin::StartsWith => Ok(Some(strings::begins(alloc, value, argument)?)),
         Builtin::EndsWith => Ok(Some(strings::ends(alloc, value, argument)?)),
-        Builtin::Length
-        | Builtin::Keys
-        | Builtin::Add
-        | Builtin::Any
-        | Builtin::All
-        | Builtin::AnyOf
-        | Builtin::AllOf
-        | Builtin::Map
-        | Builtin::Select
-        | Builtin::Empty
-        | Builtin::Not
-        | Builtin::Type
-        | Builtin::Error
-        | Builtin::ToString
-        | Builtin::ToJson
-        | Builtin::ToNumber
-        | Builtin::ToEntries
-        | Builtin::FromEntries
-        | Builtin::WithEntries
-        | Builtin::Sort
-        | Builtin::SortBy
-        | Builtin::Unique
-        | Builtin::Min
-        | Builtin::Max
-        | Builtin::Reverse
-        | Builtin::AsciiDowncase
-        | Builtin::AsciiUpcase
-        | Builtin::RangeTo
-        | Builtin::RangeFrom
-        | Builtin::First
-        | Builtin::Last
-        | Builtin::FirstOf => Ok(Some(cannot(alloc, builtin)?)),
+        _ => Ok(Some(cannot(alloc, builtin)?)),
     }
 }
 

@@ -9,7 +9,9 @@ use crate::fields;
 use crate::outcome::{Outcome, cannot};
 use std::alloc::{AllocError, Global};
 use std::collections::BTreeMap;
-use swf_value::{Builtin, Json, JsonNode, Member, Text};
+use swf_expr::Builtin;
+use swf_text::Text;
+use swf_value::{Json, JsonNode, Member};
 
 #[tactic(auto, using(crate::proofs::Lists::values_of_items_of))]
 pub fn to_entries(alloc: Global, value: &Json) -> Result<Outcome, AllocError>
@@ -28,8 +30,8 @@ pub fn to_entries(alloc: Global, value: &Json) -> Result<Outcome, AllocError>
 fn entries_of(alloc: Global, members: &[Member]) -> Result<Vec<Json>, AllocError>
     ensures { IfOk result (λ v. v.items ≡ entries_of (members_of members.now)) }
 {
-    let key = swf_value::word(alloc, "key")?;
-    let value = swf_value::word(alloc, "value")?;
+    let key = swf_text::word(alloc, "key")?;
+    let value = swf_text::word(alloc, "value")?;
     let mut entries = Vec::with_capacity(alloc, members.len())?;
     for member in members {
         let name = Json::text(member.name.copy()?);

@@ -8,7 +8,8 @@ ghost use Rattle.swf_jq_builtins.specs.Operations.{merged};
 
 use std::alloc::{AllocError, Global};
 use std::collections::BTreeMap;
-use swf_value::{Json, Member, Text};
+use swf_text::Text;
+use swf_value::{Json, Member};
 
 /// Puts a member among others, where it replaces one of the same name.
 pub fn put(map: &mut BTreeMap<Text, Json>, name: Text, value: Json) -> Result<(), AllocError>

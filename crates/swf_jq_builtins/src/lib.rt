@@ -15,6 +15,6 @@ mod totals;
 
 pub use arrays::is_true;
 pub use builtins::{plain, range, range_len, with_one};
-pub use operations::{index, negate, operate, parts, put_member};
+pub use operations::{index, negate, operate, parts};
 pub use outcome::{Outcome, Several, copies, error, truth};
 pub use sorting::sort_by_keys;

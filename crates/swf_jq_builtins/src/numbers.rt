@@ -2,14 +2,15 @@
 ghost use Rattle.std.specs.Prelude.{◌≡◌, IfOk, option_map};
 ghost use Rattle.std.specs.List.{list_all};
 ghost use Rattle.swf_jq_builtins.specs.Builtins.{below_zero, to_number, is_numeral, natural, number_in, decimal_value};
-ghost use Rattle.swf_value.specs.Ascii.{is_digit};
+ghost use Rattle.swf_text.specs.Ascii.{is_digit};
 ghost use Rattle.swf_jq_builtins.specs.Caps.{capped, held};
 ghost use Rattle.swf_jq_builtins.specs.Outcome.{outcome_of};
 
 use crate::outcome::{Outcome, cannot, whole};
 use crate::strings::characters_of;
 use std::alloc::{AllocError, Global};
-use swf_value::{Builtin, Json, JsonNode};
+use swf_expr::Builtin;
+use swf_value::{Json, JsonNode};
 
 /// One more than the greatest whole number.
 const ABOVE: u64 = 9007199254740992;
@@ -37,14 +38,8 @@ fn number_in(characters: &[char]) -> Option<i128>
 {
     match characters {
         [] => None,
-        ['-', rest @ ..] => match natural(rest) {
-            Some(number) => below_zero(number),
-            None => None,
-        },
-        _ => match natural(characters) {
-            Some(number) => Some(number as i128),
-            None => None,
-        },
+        ['-', rest @ ..] => natural(rest).and_then(below_zero),
+        _ => natural(characters).map(|number| number as i128),
     }
 }
 
@@ -90,12 +85,7 @@ fn is_digit(character: char) -> bool
 fn each_digit(characters: &[char]) -> bool
     ensures { result ≡ list_all is_digit characters.now }
 {
-    for character in characters {
-        if !is_digit(*character) {
-            return false;
-        }
-    }
-    true
+    characters.iter().all(|character| is_digit(*character))
 }
 
 /// The number that digits are, or `ABOVE` where it is greater than that.

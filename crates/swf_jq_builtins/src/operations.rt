@@ -1,22 +1,22 @@
 // What operators make of values.
 ghost use Rattle.std.specs.Prelude.{◌≡◌, ◌<◌, ◌*ℤ◌, ◌++◌, ◌∷◌, [], int_div, int_rem, List, length, slice_index_or, unwrap_or, IfOk, OnOk, MatchOption, Ok, Some, None, if◌then◌else◌};
-ghost use Rattle.std.specs.List.{list_any};
 ghost use Rattle.std.specs.List.Sorted.{IsSortedBy};
 ghost use Rattle.std.specs.Ordering.{is_lt};
-ghost use Rattle.swf_value.specs.Grow.{IsObject};
 ghost use Rattle.swf_value.specs.Members.{at, member_values};
 ghost use Rattle.swf_value.specs.Order.{value_cmp};
 ghost use Rattle.swf_value.specs.Node.{items_of, members_of};
 ghost use Rattle.swf_value.specs.Value.{Value, null, list, object, Ascending};
 ghost use Rattle.swf_jq_builtins.specs.Operations.{is_same, is_zero, item_at, index_of, parts_of, operate, negated, sum_of, difference_of, product_of, quotient_of, rest_of, without, merged};
-ghost use Rattle.swf_jq_builtins.specs.Outcome.{outcome_of, several_of, put_in};
+ghost use Rattle.swf_jq_builtins.specs.Outcome.{outcome_of, several_of};
 
 use crate::fields;
 use crate::outcome::{Outcome, Several, copies, error, fails, text, truth, whole};
 use crate::sorting::{is_among, sort_values};
 use std::alloc::{AllocError, Global};
 use std::collections::BTreeMap;
-use swf_value::{Json, JsonMap, JsonNode, Member, Op, Text, TextBuilder, compare};
+use swf_expr::Op;
+use swf_text::{Text, TextBuilder};
+use swf_value::{Json, JsonMap, JsonNode, Member, compare};
 
 /// The value at a key.
 pub fn index(alloc: Global, value: &Json, key: &Json) -> Result<Outcome, AllocError>
@@ -135,8 +135,7 @@ fn joined_lists(alloc: Global, left: &[Json], right: &[Json]) -> Result<Outcome,
     ensures { IfOk result
         (λ o. outcome_of o ≡ Ok (list (items_of (left.now ++ right.now)))) }
 {
-    let mut values = Vec::new(alloc);
-    append(&mut values, left)?;
+    let mut values = copies(alloc, left)?;
     append(&mut values, right)?;
     Ok(Outcome::Value(Json::list(alloc, values)?))
 }
@@ -175,36 +174,18 @@ fn remaining_items(alloc: Global, left: &[Json], right: &[Json]) -> Result<Outco
 {
     let mut others = copies(alloc, right)?;
     sort_values(&mut others)?;
-    let kept = remaining(alloc, left, &others)?;
+    let kept = remaining(copies(alloc, left)?, &others);
     Ok(Outcome::Value(Json::list(alloc, kept)?))
 }
 
 /// The items that equal none of some ascending values.
-fn remaining(alloc: Global, items: &[Json], others: &[Json]) -> Result<Vec<Json>, AllocError>
+fn remaining(items: Vec<Json>, others: &[Json]) -> Vec<Json>
     requires { IsSortedBy (λ v w. is_lt (value_cmp v w)) others.now }
-    ensures { IfOk result (λ v. v.items ≡ without items.now others.now) }
+    ensures { result.items ≡ without items.items others.now }
 {
-    let mut kept = Vec::new(alloc);
-    for item in items {
-        keep_other(&mut kept, item, others)?;
-    }
-    Ok(kept)
-}
-
-/// Keeps a value that equals none of some ascending values.
-fn keep_other(kept: &mut Vec<Json>, value: &Json, others: &[Json]) -> Result<(), AllocError>
-    requires { IsSortedBy (λ v w. is_lt (value_cmp v w)) others.now }
-    ensures { OnOk result
-        (kept.new.items
-        ≡ (if list_any (is_same value.now) others.now
-        then kept.old.items
-        else kept.old.items ++ value.now ∷ [])) }
-{
-    if is_among(others, value) {
-        return Ok(());
-    }
-    kept.push(value.copy()?)?;
-    Ok(())
+    let mut items = items;
+    items.retain(|item| !is_among(others, item));
+    items
 }
 
 fn product(alloc: Global, left: &Json, right: &Json) -> Result<Outcome, AllocError>
@@ -279,35 +260,11 @@ pub fn negate(alloc: Global, value: &Json) -> Result<Outcome, AllocError>
     }
 }
 
-/// An object with one more member, which replaces one of the same name: in place where this is the
-/// object's only owner.
-pub fn put_member(
-    alloc: Global,
-    object: Json,
-    key: &Json,
-    value: &Json,
-) -> Result<Outcome, AllocError>
-    requires { IsObject object }
-    ensures { IfOk result (λ o. outcome_of o ≡ put_in object key.now value.now) }
-{
-    match key.node() {
-        JsonNode::Text(name) => {
-            let mut object = object;
-            object.put(name.copy()?, value.copy()?)?;
-            Ok(Outcome::Value(object))
-        }
-        _ => fails(alloc, "cannot key"),
-    }
-}
-
 /// Appends copies of values.
 pub fn append(out: &mut Vec<Json>, values: &[Json]) -> Result<(), AllocError>
     ensures { OnOk result (out.new.items ≡ out.old.items ++ values.now) }
 {
-    for value in values {
-        out.push(value.copy()?)?;
-    }
-    Ok(())
+    out.extend_from_slice(values)
 }
 
 /// The values of members.

@@ -1,13 +1,15 @@
 // What an operator or a built-in gives.
 ghost use Rattle.std.specs.Prelude.{◌≡◌, IfOk, IsTrue, Ok, Err};
-ghost use Rattle.swf_value.specs.Same.{is_ascii};
+ghost use Rattle.swf_text.specs.Same.{is_ascii};
 ghost use Rattle.swf_value.specs.Value.{boolean, text};
 ghost use Rattle.swf_jq_builtins.specs.Builtins.{cannot};
 ghost use Rattle.swf_jq_builtins.specs.Operations.{fails, whole};
 ghost use Rattle.swf_jq_builtins.specs.Outcome.{outcome_of};
 
 use std::alloc::{AllocError, Global};
-use swf_value::{Builtin, Json, Text, TextBuilder};
+use swf_expr::Builtin;
+use swf_text::{Text, TextBuilder};
+use swf_value::Json;
 
 /// A value, or the value of an error.
 #[derive(Drop)]
@@ -39,7 +41,7 @@ pub fn error(alloc: Global, message: &str) -> Result<Json, AllocError>
     requires { IsTrue (is_ascii message.now) }
     ensures { IfOk result (λ v. v ≡ text message.now) }
 {
-    let text = swf_value::word(alloc, message)?;
+    let text = swf_text::word(alloc, message)?;
     Ok(Json::text(text))
 }
 
@@ -82,9 +84,5 @@ pub fn cannot(alloc: Global, builtin: Builtin) -> Result<Outcome, AllocError>
 pub fn copies(alloc: Global, values: &[Json]) -> Result<Vec<Json>, AllocError>
     ensures { IfOk result (λ v. v.items ≡ values.now) }
 {
-    let mut copies = Vec::with_capacity(alloc, values.len())?;
-    for value in values {
-        copies.push(value.copy()?)?;
-    }
-    Ok(copies)
+    values.to_vec(alloc)
 }

@@ -1,7 +1,7 @@
 // Texts put together and taken apart.
 ghost use Rattle.std.specs.Prelude.{◌≡◌, ◌<◌, ◌≤◌, ◌∷◌, [], suc, length, drop, Ok, IfOk, OnOk, MatchOption, option_map};
 ghost use Rattle.std.specs.List.{join_by};
-ghost use Rattle.swf_value.specs.Size.{bytes_in};
+ghost use Rattle.swf_text.specs.Size.{bytes_in};
 ghost use Rattle.swf_value.specs.Value.{Value, text};
 ghost use Rattle.swf_jq_builtins.specs.Builtins.{join, joined_or_not, split, piece_of, pieces_of, characters, split_from, parts_between, begins_with};
 ghost use Rattle.swf_jq_builtins.specs.Outcome.{outcome_of, answer_size};
@@ -9,7 +9,9 @@ ghost use Rattle.swf_jq_builtins.specs.Outcome.{outcome_of, answer_size};
 use crate::outcome::{Outcome, cannot, text};
 use crate::strings::{characters_of, json_text};
 use std::alloc::{AllocError, Global};
-use swf_value::{Builtin, Json, JsonNode, Text, TextBuilder};
+use swf_expr::Builtin;
+use swf_text::{Text, TextBuilder};
+use swf_value::{Json, JsonNode};
 
 /// The texts of a list with another between each two; none only where that takes more than the room.
 pub fn join(
@@ -45,24 +47,8 @@ fn join_items(
         (λ r. outcome_of r ≡ joined_or_not separator.now (pieces_of items.now))) }
 {
     match pieces_of(alloc, items)? {
-        Some(pieces) => join_pieces(alloc, &pieces, separator, room),
+        Some(pieces) => Ok(joined(alloc, &pieces, separator, room)?.map(text)),
         None => Ok(Some(cannot(alloc, Builtin::Join)?)),
-    }
-}
-
-fn join_pieces(
-    alloc: Global,
-    pieces: &[Text],
-    separator: &Text,
-    room: u64,
-) -> Result<Option<Outcome>, AllocError>
-    ensures { IfOk result
-        (λ o. MatchOption o (room < suc (bytes_in (join_by (λ t. t) separator.now pieces.now)))
-        (λ r. outcome_of r ≡ Ok (text (join_by (λ t. t) separator.now pieces.now)))) }
-{
-    match joined(alloc, pieces, separator, room)? {
-        Some(whole) => Ok(Some(text(whole))),
-        None => Ok(None),
     }
 }
 

@@ -1,12 +1,14 @@
 // Built-ins on texts.
-ghost use Rattle.std.specs.Prelude.{◌≡◌, ◌<◌, ◌≤◌, IfOk, Ok, List, MatchOption, length, map, take, drop};
+ghost use Rattle.std.specs.Prelude.{◌≡◌, IfOk, length, map, if◌then◌else◌};
 ghost use Rattle.std.specs.Char.{to_ascii_lowercase, to_ascii_uppercase};
 ghost use Rattle.swf_jq_builtins.specs.Builtins.{json_text, word_of, type_name, lower_case_of, upper_case_of, text_begins, text_ends, begins_with};
 ghost use Rattle.swf_jq_builtins.specs.Outcome.{outcome_of};
 
 use crate::outcome::{Outcome, cannot, text, truth};
 use std::alloc::{AllocError, Global};
-use swf_value::{Builtin, Json, JsonNode, Text, TextBuilder, write_json};
+use swf_expr::Builtin;
+use swf_text::{Text, TextBuilder};
+use swf_value::{Json, JsonNode, write_json};
 
 /// How many characters a text has.
 pub fn character_count(text: &Text) -> usize
@@ -30,7 +32,7 @@ pub fn json_text(alloc: Global, value: &Json) -> Result<Text, AllocError>
     write_json(value, &mut bytes)?;
     match String::from_utf8(bytes) {
         Ok(written) => Text::from_string(alloc, written),
-        Err(_) => Err(AllocError),
+        Err(_) => unreachable!(),
     }
 }
 
@@ -49,51 +51,39 @@ pub fn type_name(alloc: Global, value: &Json) -> Result<Text, AllocError>
     ensures { IfOk result (λ t. t ≡ type_name value.now) }
 {
     match value.node() {
-        JsonNode::Null => swf_value::word(alloc, "null"),
-        JsonNode::Bool(_) => swf_value::word(alloc, "boolean"),
-        JsonNode::Int(_) => swf_value::word(alloc, "number"),
-        JsonNode::Text(_) => swf_value::word(alloc, "string"),
-        JsonNode::List(_) => swf_value::word(alloc, "array"),
-        JsonNode::Object(_) => swf_value::word(alloc, "object"),
+        JsonNode::Null => swf_text::word(alloc, "null"),
+        JsonNode::Bool(_) => swf_text::word(alloc, "boolean"),
+        JsonNode::Int(_) => swf_text::word(alloc, "number"),
+        JsonNode::Text(_) => swf_text::word(alloc, "string"),
+        JsonNode::List(_) => swf_text::word(alloc, "array"),
+        JsonNode::Object(_) => swf_text::word(alloc, "object"),
     }
 }
 
-pub fn lower(alloc: Global, value: &Json) -> Result<Outcome, AllocError>
-    ensures { IfOk result (λ o. outcome_of o ≡ lower_case_of value.now) }
+/// A text with its ASCII letters in upper or in lower case.
+pub fn in_case(alloc: Global, value: &Json, upper: bool) -> Result<Outcome, AllocError>
+    ensures { IfOk result
+        (λ o. outcome_of o ≡ (if upper then upper_case_of value.now else lower_case_of value.now)) }
 {
-    match value.node() {
-        JsonNode::Text(t) => Ok(text(lower_text(alloc, t)?)),
-        _ => cannot(alloc, Builtin::AsciiDowncase),
+    match (value.node(), upper) {
+        (JsonNode::Text(t), _) => Ok(text(text_in_case(alloc, t, upper)?)),
+        (_, true) => cannot(alloc, Builtin::AsciiUpcase),
+        (_, false) => cannot(alloc, Builtin::AsciiDowncase),
     }
 }
 
-fn lower_text(alloc: Global, text: &Text) -> Result<Text, AllocError>
-    ensures { IfOk result (λ t. t ≡ map to_ascii_lowercase text.now) }
-{
-    let characters = characters_of(alloc, text)?;
-    let mut draft = TextBuilder::new(alloc);
-    for character in &characters {
-        draft.push(character.to_ascii_lowercase())?;
-    }
-    draft.into_text(alloc)
-}
-
-pub fn raise(alloc: Global, value: &Json) -> Result<Outcome, AllocError>
-    ensures { IfOk result (λ o. outcome_of o ≡ upper_case_of value.now) }
-{
-    match value.node() {
-        JsonNode::Text(t) => Ok(text(raise_text(alloc, t)?)),
-        _ => cannot(alloc, Builtin::AsciiUpcase),
-    }
-}
-
-fn raise_text(alloc: Global, text: &Text) -> Result<Text, AllocError>
-    ensures { IfOk result (λ t. t ≡ map to_ascii_uppercase text.now) }
+fn text_in_case(alloc: Global, text: &Text, upper: bool) -> Result<Text, AllocError>
+    ensures { IfOk result
+        (λ t. t ≡ map (if upper then to_ascii_uppercase else to_ascii_lowercase) text.now) }
 {
     let characters = characters_of(alloc, text)?;
     let mut draft = TextBuilder::new(alloc);
     for character in &characters {
-        draft.push(character.to_ascii_uppercase())?;
+        draft.push(if upper {
+            character.to_ascii_uppercase()
+        } else {
+            character.to_ascii_lowercase()
+        })?;
     }
     draft.into_text(alloc)
 }

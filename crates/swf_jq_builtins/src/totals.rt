@@ -1,18 +1,19 @@
 // The sum of several values.
-ghost use Rattle.std.specs.Prelude.{◌≡◌, [], IfOk, MatchOption, Ok, codes, if◌then◌else◌};
-ghost use Rattle.swf_value.specs.Node.{items_of};
-ghost use Rattle.swf_value.specs.Value.{null, text, list, object, no_items, no_members};
+ghost use Rattle.std.specs.Prelude.{◌≡◌, IfOk, MatchOption, Ok, codes, if◌then◌else◌};
+ghost use Rattle.swf_value.specs.Value.{null};
 ghost use Rattle.swf_jq_builtins.specs.Builtins.{summed, total_of, lead};
-ghost use Rattle.swf_jq_builtins.specs.MapMembers.{entries_members};
+ghost use Rattle.swf_jq_builtins.specs.Drafts.{drafted};
 ghost use Rattle.swf_jq_builtins.specs.Operations.{sum_of, fails};
 ghost use Rattle.swf_jq_builtins.specs.Outcome.{outcome_of};
 
 use crate::fields;
 use crate::operations::{append, sum, values_of};
-use crate::outcome::{Outcome, cannot, fails, text};
+use crate::outcome::{Outcome, cannot, fails};
 use std::alloc::{AllocError, Global};
 use std::collections::BTreeMap;
-use swf_value::{Builtin, Json, JsonNode, Text, TextBuilder};
+use swf_expr::Builtin;
+use swf_text::{Text, TextBuilder};
+use swf_value::{Json, JsonNode};
 
 /// The sum of the items of a list, or of the values of an object.
 #[tactic(auto, using(crate::proofs::Lists::values_of_items_of))]
@@ -37,9 +38,9 @@ fn sum_of_all(alloc: Global, values: &[Json]) -> Result<Outcome, AllocError>
     match lead_of(values) {
         None => sum_one_by_one(alloc, values),
         Some(first) => match first.node() {
-            JsonNode::Text(_) => sum_of_texts(alloc, values),
-            JsonNode::List(_) => sum_of_lists(alloc, values),
-            JsonNode::Object(_) => sum_of_objects(alloc, values),
+            JsonNode::Text(_) => sum_onto(alloc, Draft::Text(TextBuilder::new(alloc)), values),
+            JsonNode::List(_) => sum_onto(alloc, Draft::List(Vec::new(alloc)), values),
+            JsonNode::Object(_) => sum_onto(alloc, Draft::Object(BTreeMap::new(alloc)), values),
             _ => sum_one_by_one(alloc, values),
         },
     }
@@ -71,87 +72,58 @@ fn sum_one_by_one(alloc: Global, values: &[Json]) -> Result<Outcome, AllocError>
     Ok(Outcome::Value(total))
 }
 
-fn sum_of_texts(alloc: Global, values: &[Json]) -> Result<Outcome, AllocError>
-    ensures { IfOk result (λ o. outcome_of o ≡ summed (text []) values.now) }
+/// A sum so far.
+#[derive(Drop)]
+pub enum Draft {
+    Text(TextBuilder),
+    List(Vec<Json>),
+    Object(BTreeMap<Text, Json>),
+}
+
+/// The values added in order to a draft.
+fn sum_onto(alloc: Global, draft: Draft, values: &[Json]) -> Result<Outcome, AllocError>
+    ensures { IfOk result (λ o. outcome_of o ≡ summed (drafted draft) values.now) }
 {
-    let mut draft = TextBuilder::new(alloc);
+    let mut draft = draft;
     for value in values {
-        if !add_text(&mut draft, value)? {
+        if !add(&mut draft, value)? {
             return fails(alloc, "cannot add");
         }
     }
-    Ok(text(draft.into_text(alloc)?))
+    Ok(Outcome::Value(finished(alloc, draft)?))
 }
 
-/// Adds a text or null, and says whether it is one of them.
-fn add_text(draft: &mut TextBuilder, value: &Json) -> Result<bool, AllocError>
-    ensures { IfOk result
-        (λ b. sum_of (text draft.old) (value.now)
-        ≡ (if b then Ok (text draft.new) else fails (codes "cannot add"))) }
-{
-    match value.node() {
-        JsonNode::Null => Ok(true),
-        JsonNode::Text(text) => {
-            draft.push_text(text)?;
-            Ok(true)
-        }
-        _ => Ok(false),
-    }
-}
-
-fn sum_of_lists(alloc: Global, values: &[Json]) -> Result<Outcome, AllocError>
-    ensures { IfOk result (λ o. outcome_of o ≡ summed (list no_items) values.now) }
-{
-    let mut all = Vec::new(alloc);
-    for value in values {
-        if !add_list(&mut all, value)? {
-            return fails(alloc, "cannot add");
-        }
-    }
-    Ok(Outcome::Value(Json::list(alloc, all)?))
-}
-
-/// Adds a list or null, and says whether it is one of them.
+/// Adds a value of the same kind or null, and says whether it is one of them.
 #[tactic(auto, using(crate::proofs::Lists::values_of_items_of))]
-fn add_list(all: &mut Vec<Json>, value: &Json) -> Result<bool, AllocError>
+fn add(draft: &mut Draft, value: &Json) -> Result<bool, AllocError>
     ensures { IfOk result
-        (λ b. sum_of (list (items_of all.old.items)) (value.now)
-        ≡ (if b then Ok (list (items_of all.new.items)) else fails (codes "cannot add"))) }
+        (λ b. sum_of (drafted draft.old) (value.now)
+        ≡ (if b then Ok (drafted draft.new) else fails (codes "cannot add"))) }
 {
-    match value.node() {
-        JsonNode::Null => Ok(true),
-        JsonNode::List(items) => {
-            append(all, items.as_slice())?;
+    match (draft, value.node()) {
+        (_, JsonNode::Null) => Ok(true),
+        (Draft::Text(text), JsonNode::Text(more)) => {
+            text.push_text(more)?;
+            Ok(true)
+        }
+        (Draft::List(items), JsonNode::List(more)) => {
+            append(items, more.as_slice())?;
+            Ok(true)
+        }
+        (Draft::Object(map), JsonNode::Object(more)) => {
+            fields::put_all(map, more.as_slice())?;
             Ok(true)
         }
         _ => Ok(false),
     }
 }
 
-fn sum_of_objects(alloc: Global, values: &[Json]) -> Result<Outcome, AllocError>
-    ensures { IfOk result (λ o. outcome_of o ≡ summed (object no_members) values.now) }
+fn finished(alloc: Global, draft: Draft) -> Result<Json, AllocError>
+    ensures { IfOk result (λ v. v ≡ drafted draft) }
 {
-    let mut map = BTreeMap::new(alloc);
-    for value in values {
-        if !add_object(&mut map, value)? {
-            return fails(alloc, "cannot add");
-        }
-    }
-    Ok(Outcome::Value(fields::into_object(alloc, map)?))
-}
-
-/// Adds an object or null, and says whether it is one of them.
-fn add_object(map: &mut BTreeMap<Text, Json>, value: &Json) -> Result<bool, AllocError>
-    ensures { IfOk result
-        (λ b. sum_of (object (entries_members map.old.entries)) (value.now)
-        ≡ (if b then Ok (object (entries_members map.new.entries)) else fails (codes "cannot add"))) }
-{
-    match value.node() {
-        JsonNode::Null => Ok(true),
-        JsonNode::Object(members) => {
-            fields::put_all(map, members.as_slice())?;
-            Ok(true)
-        }
-        _ => Ok(false),
+    match draft {
+        Draft::Text(text) => Ok(Json::text(text.into_text(alloc)?)),
+        Draft::List(items) => Json::list(alloc, items),
+        Draft::Object(map) => fields::into_object(alloc, map),
     }
 }

@@ -6,8 +6,8 @@ use Rattle.swf_value.specs.Size.{size}
 use Rattle.swf_value.specs.Node.{items_of}
 use Rattle.swf_value.specs.Order.{value_cmp}
 use Rattle.swf_value.specs.Value.{Value, null, boolean, int, text, list, object, depth_items}
-use Rattle.swf_value.specs.declared.builtin.Builtin.{Builtin}
-use Rattle.swf_value.specs.declared.builtin.Builtin.TheVariants as builtins
+use Rattle.swf_expr.specs.declared.builtin.Builtin.{Builtin}
+use Rattle.swf_expr.specs.declared.builtin.Builtin.TheVariants as builtins
 use Rattle.swf_jq_builtins.specs.Builtins.{with_one, has, join, split, text_begins, text_ends, text_or, cannot, pieces_of, range_of, characters, split_from, parts_between, begins_with, inserted, sorted}
 use Rattle.swf_value.specs.Members.{values_of}
 use Rattle.swf_jq_builtins.specs.Outcome.{answer_size, count_of}

@@ -1,22 +1,22 @@
 -- Built-ins by their number of arguments.
 use Rattle.std.proofs.Common.{◌≡◌, ◌∙◌, ◌<◌, ◌+◌, ℕ, Bool, true, zero, if◌then◌else◌, List, [], ◌∷◌, length, get_or, drop, suc, refl, sym, ap, arith, Ok, Option, Some, None, Result, subst}
-use Rattle.swf_value.specs.declared.builtin.Builtin.{Builtin}
-use Rattle.swf_value.specs.declared.builtin.Builtin.TheVariants as builtins
-use Rattle.swf_value.specs.Expr.{Tree}
-use Rattle.swf_value.specs.ExprNode.{node_tree, trees_of, pairs_of, value_or_here}
-use Rattle.swf_value.specs.declared.expr.ExprNode.TheVariants as nodes
+use Rattle.swf_expr.specs.declared.builtin.Builtin.{Builtin}
+use Rattle.swf_expr.specs.declared.builtin.Builtin.TheVariants as builtins
+use Rattle.swf_expr.specs.Expr.{Tree}
+use Rattle.swf_expr.specs.ExprNode.{node_tree, trees_of, pairs_of, value_or_here}
+use Rattle.swf_expr.specs.declared.expr.ExprNode.TheVariants as nodes
 use Rattle.std.specs.Option.{option_map_or}
-use Rattle.swf_value.specs.declared.expr.ExprMember.{ExprMember}
+use Rattle.swf_expr.specs.declared.expr.ExprMember.{ExprMember}
 use Rattle.swf_value.specs.Node.{items_of}
 use Rattle.swf_value.specs.Value.{Value, Items, boolean, list}
-use Rattle.swf_value.specs.Expr.{pair}
+use Rattle.swf_expr.specs.Expr.{pair}
 use Rattle.swf_jq_builtins.proofs.Lists.{values_of_items_of}
 use Rattle.swf_jq_builtins.specs.Builtins.{plain, with_one}
 use Rattle.swf_jq_eval.specs.Run.{Ending, Run, gives, made, made_of, over, across, each, spread, spend, clean, gave, same_truth, until, decided, ended}
 use Rattle.swf_jq_eval.specs.Goes.{ahead, Comes, Goes, ending_of}
 use Rattle.swf_jq_eval.specs.declared.outputs.Ending.{Ending as Ends}
 use Rattle.swf_jq_eval.specs.declared.outputs.Stop.{Stop}
-use Rattle.swf_value.specs.declared.expr.ExprNode.{ExprNode}
+use Rattle.swf_expr.specs.declared.expr.ExprNode.{ExprNode}
 use Rattle.swf_jq_eval.specs.declared.outputs.Out.{Out}
 use Rattle.swf_jq_eval.specs.declared.outputs.Outputs.{Outputs}
 use Rattle.swf_jq_eval.proofs.Runs.{made_from}

@@ -1,7 +1,7 @@
 -- Every expression weighs something.
 use Rattle.std.proofs.Common.{ℕ, ◌≤◌, ◌+◌, arith}
-use Rattle.swf_value.specs.Expr.{Tree, here, lit, var, index, iterate, maybe, pipe, both, alt, or, and, binary, neg, empty_list, list_of, object_of, if_then, if_else, bind, apply}
-use Rattle.swf_value.specs.ExprNode.{weight}
+use Rattle.swf_expr.specs.Expr.{Tree, here, lit, var, index, iterate, maybe, pipe, both, alt, or, and, binary, neg, empty_list, list_of, object_of, if_then, if_else, bind, apply}
+use Rattle.swf_expr.specs.ExprNode.{weight}
 
 pub positive : (e : Tree) → 1 ≤ weight e
 positive here = omega arith

@@ -1,11 +1,14 @@
 -- The names that stand where an expression is evaluated.
 use Rattle.std.specs.Prelude.{List, [], ◌∷◌, map, reverse}
+use Rattle.swf_expr.specs.Expr.{Tree}
 use Rattle.swf_value.specs.Members.{put}
 use Rattle.swf_value.specs.Value.{Members, no_members}
 use Rattle.swf_jq_eval.specs.declared.vars.Variable.{Variable}
 use Rattle.swf_jq_eval.specs.declared.scope.Scope.{Scope as Names}
 use Rattle.swf_jq_eval.specs.declared.scope.Scope.TheVariants.{Given, Bind'}
-use Rattle.swf_jq_eval.specs.Outputs.{Scope}
+use Rattle.swf_jq_eval.specs.declared.scope.Context.{Context}
+use Rattle.swf_jq_eval.specs.Outputs.{Scope, run}
+use Rattle.swf_jq_eval.specs.Run.{Run}
 
 -- the names and values that are given, of which the last of a name counts
 abbrev pub scope_from : List Variable → Scope
@@ -14,3 +17,10 @@ scope_from vs = map (λ x. (x.name, x.value)) (reverse vs)
 abbrev pub scope_of : Names → Scope
 scope_of (Given vs) = scope_from vs.now
 scope_of (Bind' x v p s) = (x.now, v.now) ∷ scope_of s
+
+abbrev pub names : Context → Scope
+names c = scope_of c.scope.now
+
+-- what an expression gives where it is evaluated
+abbrev pub run_at : Tree → Context → Run
+run_at e c = run e (names c) c.input.now

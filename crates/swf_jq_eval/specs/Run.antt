@@ -139,3 +139,8 @@ decided want s t = spend s.turns (if list_any (λ v. same_truth (is_true v) want
 abbrev pub until : Bool → (Value → Run) → List Value → Run
 until want f [] = made (boolean (not want))
 until want f (x ∷ xs) = decided want (f x) (until want f xs)
+
+-- a Boolean where a value has it as its truth, and else this run
+abbrev pub decides : Bool → Value → Run → Run
+decides true v t = if is_true v then made (boolean true) else t
+decides false v t = if is_true v then t else made (boolean false)

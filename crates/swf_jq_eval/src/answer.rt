@@ -7,10 +7,11 @@ ghost use Rattle.swf_jq_eval.specs.Evaluate.{end_for, values_shown, end_shown, f
 
 use crate::forms;
 use crate::outputs::{Ending, Out, Outputs, Stop, is_over};
-use crate::scope::Scope;
+use crate::scope::{Context, Scope};
 use crate::vars::{Values, Vars};
 use std::alloc::{AllocError, Global};
-use swf_value::{Expr, Json};
+use swf_expr::Expr;
+use swf_value::Json;
 
 /// How outputs end.
 #[derive(Drop)]
@@ -47,7 +48,13 @@ fn outputs(alloc: Global, expr: &Expr, vars: &Vars, input: &Json) -> Result<Outp
         turns: 0,
         values: Vec::new(alloc),
     };
-    let end = forms::eval(alloc, expr, &Scope::Given(vars.as_slice()), input, &mut out)?;
+    let scope = Scope::Given(vars.as_slice());
+    let at = Context {
+        alloc,
+        scope: &scope,
+        input,
+    };
+    let end = forms::eval(expr, &at, &mut out)?;
     if is_over(out.turns) {
         return Err(Stop::Limit);
     }

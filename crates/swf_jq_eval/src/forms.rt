@@ -1,56 +1,45 @@
 // What each form of an expression gives for an input.
-ghost use Rattle.std.specs.Prelude.{◌≡◌, ◌∷◌, filter, true, false, IfOk, if◌then◌else◌};
+ghost use Rattle.std.specs.Prelude.{◌≡◌, ◌∷◌, filter, if◌then◌else◌};
 ghost use Rattle.std.specs.Option.{option_map_or};
-ghost use Rattle.swf_value.specs.ExprNode.{node_tree};
-ghost use Rattle.swf_value.specs.Value.{Value, boolean, list, no_items, object, no_members};
-ghost use Rattle.swf_jq_builtins.specs.Operations.{is_true, index_of, parts_of, operate, negated};
-ghost use Rattle.swf_jq_eval.specs.Run.{gives, made, made_of, answered, spread, followed_by, over, caught, alternative, gathered, list_with};
+ghost use Rattle.swf_expr.specs.ExprNode.{node_tree};
+ghost use Rattle.swf_jq_builtins.specs.Operations.{is_true, index_of, operate};
+ghost use Rattle.swf_jq_eval.specs.Run.{gives, made, made_of, answered, followed_by, over, caught, alternative, gathered, list_with, decides};
 ghost use Rattle.swf_jq_eval.specs.Outputs.{run, node};
-ghost use Rattle.swf_jq_eval.specs.Names.{scope_of};
+ghost use Rattle.swf_jq_eval.specs.Names.{names, run_at};
 ghost use Rattle.swf_jq_eval.specs.Goes.{Goes, Comes};
+ghost use Rattle.swf_jq_eval.specs.Steps.{truth};
 
 use crate::call::call;
 use crate::object::{Chosen, object};
-use crate::outputs::{
-    Ending, Out, Outputs, Stop, answer, count, give, make, make_of, make_truth, over, spread,
-};
-use crate::scope::{Scope, give_named};
-use std::alloc::{AllocError, Global};
-use swf_jq_builtins::{index, is_true, negate, operate, parts};
-use swf_value::{Expr, ExprNode, Json, Op, Text};
+use crate::outputs::{Ending, Out, Outputs, Stop, count, give, make, make_truth, over};
+use crate::scope::{Context, Scope, give_named};
+use crate::steps::{Step, each_step};
+use std::alloc::Global;
+use swf_expr::{Expr, ExprNode, Op};
+use swf_jq_builtins::is_true;
+use swf_text::Text;
+use swf_value::Json;
 
-/// The outputs of an expression for an input go to the others.
+/// The outputs of an expression go to the others.
 #[cycle(eval)]
 #[tactic(auto, using(crate::proofs::Runs::turn_on, crate::proofs::Runs::turn_stop))]
-pub fn eval(
-    alloc: Global,
-    expr: &Expr,
-    scope: &Scope<'_>,
-    input: &Json,
-    out: &mut Out,
-) -> Result<Ending, Stop>
-    ensures { Goes out.old (run expr.now (scope_of scope.now) input.now) out.new result }
+pub fn eval(expr: &Expr, at: &Context<'_>, out: &mut Out) -> Result<Ending, Stop>
+    ensures { Goes out.old (run_at expr.now at.now) out.new result }
 {
     count(&mut out.turns, 1)?;
-    level(alloc, expr.node(), scope, input, out)
+    level(expr.node(), at, out)
 }
 
-/// All outputs of an expression for an input, apart from the others.
+/// All outputs of an expression, apart from the others.
 #[cycle(eval)]
-pub fn all(
-    alloc: Global,
-    expr: &Expr,
-    scope: &Scope<'_>,
-    input: &Json,
-    out: &mut Out,
-) -> Result<Outputs, Stop>
-    ensures { Comes out.old (run expr.now (scope_of scope.now) input.now) out.new result }
+pub fn all(expr: &Expr, at: &Context<'_>, out: &mut Out) -> Result<Outputs, Stop>
+    ensures { Comes out.old (run_at expr.now at.now) out.new result }
 {
     let mut inner = Out {
         turns: out.turns,
-        values: Vec::new(alloc),
+        values: Vec::new(at.alloc),
     };
-    let end = eval(alloc, expr, scope, input, &mut inner)?;
+    let end = eval(expr, at, &mut inner)?;
     out.turns = inner.turns;
     Ok(Outputs {
         values: inner.values,
@@ -60,106 +49,54 @@ pub fn all(
 
 /// The outputs of one level of an expression, whose turn is counted.
 #[cycle(eval)]
-fn level(
-    alloc: Global,
-    level: &ExprNode,
-    scope: &Scope<'_>,
-    input: &Json,
-    out: &mut Out,
-) -> Result<Ending, Stop>
-    ensures { Goes out.old (node (node_tree level.now) (scope_of scope.now) input.now) out.new result }
+fn level(level: &ExprNode, at: &Context<'_>, out: &mut Out) -> Result<Ending, Stop>
+    ensures { Goes out.old (node (node_tree level.now) (names at.now) at.now.input.now) out.new result }
 {
     match level {
-        ExprNode::Here => give(input, out),
+        ExprNode::Here => give(at.input, out),
         ExprNode::Lit(value) => give(value, out),
-        ExprNode::Var(name) => give_named(name.text(), scope, out),
-        ExprNode::Index(of, key) => index_by(alloc, of, key, scope, input, out),
-        ExprNode::Iterate(of) => iterate(alloc, of, scope, input, out),
-        ExprNode::Maybe(of) => maybe(alloc, of, scope, input, out),
-        ExprNode::Pipe(left, right) => pipe(alloc, left, right, scope, input, out),
-        ExprNode::Both(left, right) => both(alloc, left, right, scope, input, out),
-        ExprNode::Alt(left, right) => alternative(alloc, left, right, scope, input, out),
-        ExprNode::Or(left, right) => or(alloc, left, right, scope, input, out),
-        ExprNode::And(left, right) => and(alloc, left, right, scope, input, out),
-        ExprNode::Binary(op, left, right) => binary(alloc, *op, left, right, scope, input, out),
-        ExprNode::Neg(of) => negative(alloc, of, scope, input, out),
-        ExprNode::List(None) => empty_list(alloc, out),
-        ExprNode::List(Some(of)) => list_of(alloc, of, scope, input, out),
-        ExprNode::Object(members) => object(alloc, members, &Chosen::Nothing, scope, input, out),
-        ExprNode::If(condition, first, second) => {
-            choose(alloc, condition, first, second, scope, input, out)
-        }
-        ExprNode::Bind(of, name, inside) => bind(alloc, of, name.text(), inside, scope, input, out),
-        ExprNode::Apply(builtin, arguments) => {
-            call(alloc, *builtin, arguments, scope, input, out)
-        }
+        ExprNode::Var(name) => give_named(name.text(), at.scope, out),
+        ExprNode::Index(of, key) => index_by(of, key, at, out),
+        ExprNode::Iterate(of) => each_step(of, Step::Iterate, at, out),
+        ExprNode::Maybe(of) => maybe(of, at, out),
+        ExprNode::Pipe(left, right) => pipe(left, right, at, out),
+        ExprNode::Both(left, right) => both(left, right, at, out),
+        ExprNode::Alt(left, right) => alternative(left, right, at, out),
+        ExprNode::Or(left, right) => decide(true, left, right, at, out),
+        ExprNode::And(left, right) => decide(false, left, right, at, out),
+        ExprNode::Binary(op, left, right) => binary(*op, left, right, at, out),
+        ExprNode::Neg(of) => each_step(of, Step::Negate, at, out),
+        ExprNode::List(None) => make_list(at.alloc, Vec::new(at.alloc), out),
+        ExprNode::List(Some(of)) => list_of(of, at, out),
+        ExprNode::Object(members) => object(members, &Chosen::Nothing, at, out),
+        ExprNode::If(condition, first, second) => choose(condition, first, second, at, out),
+        ExprNode::Bind(of, name, inside) => bind(of, name.text(), inside, at, out),
+        ExprNode::Apply(builtin, arguments) => call(*builtin, arguments, at, out),
     }
 }
 
 /// What stands at a key. The key is the outer loop.
 #[cycle(eval)]
 #[inline(never)]
-fn index_by(
-    alloc: Global,
-    of: &Expr,
-    key: &Expr,
-    scope: &Scope<'_>,
-    input: &Json,
-    out: &mut Out,
-) -> Result<Ending, Stop>
-    ensures { Goes out.old (over (run key.now (scope_of scope.now) input.now) (λ y. over (run of.now (scope_of scope.now) input.now) (λ x. answered (index_of x y)))) out.new result }
+fn index_by(of: &Expr, key: &Expr, at: &Context<'_>, out: &mut Out) -> Result<Ending, Stop>
+    ensures { Goes out.old (over (run_at key.now at.now) (λ y. over (run_at of.now at.now) (λ x. answered (index_of x y)))) out.new result }
 {
     over(
-        all(alloc, key, scope, input, out),
+        all(key, at, out),
         out,
         |y, out|
-            ensures { Goes out.old (over (run of.entry.now (scope_of scope.entry.now) input.entry.now) (λ x. answered (index_of x y.now))) out.new result }
-        {
-            over(
-                all(alloc, of, scope, input, out),
-                out,
-                |x, out|
-                    ensures { Goes out.old (answered (index_of x.now y.entry.now)) out.new result }
-                { answer(index(alloc, x, y), out) },
-            )
-        },
-    )
-}
-
-/// The items of a list, or the values of an object.
-#[cycle(eval)]
-#[inline(never)]
-fn iterate(
-    alloc: Global,
-    of: &Expr,
-    scope: &Scope<'_>,
-    input: &Json,
-    out: &mut Out,
-) -> Result<Ending, Stop>
-    ensures { Goes out.old (over (run of.now (scope_of scope.now) input.now) (λ x. spread (parts_of x))) out.new result }
-{
-    over(
-        all(alloc, of, scope, input, out),
-        out,
-        |x, out|
-            ensures { Goes out.old (spread (parts_of x.now)) out.new result }
-        { spread(parts(alloc, x), out) },
+            ensures { Goes out.old (over (run_at of.entry.now at.entry.now) (λ x. answered (index_of x y.now))) out.new result }
+        { each_step(of, Step::Index(y), at, out) },
     )
 }
 
 /// The outputs without the error.
 #[cycle(eval)]
 #[inline(never)]
-fn maybe(
-    alloc: Global,
-    of: &Expr,
-    scope: &Scope<'_>,
-    input: &Json,
-    out: &mut Out,
-) -> Result<Ending, Stop>
-    ensures { Goes out.old (caught (run of.now (scope_of scope.now) input.now)) out.new result }
+fn maybe(of: &Expr, at: &Context<'_>, out: &mut Out) -> Result<Ending, Stop>
+    ensures { Goes out.old (caught (run_at of.now at.now)) out.new result }
 {
-    match eval(alloc, of, scope, input, out) {
+    match eval(of, at, out) {
         Ok(_) => Ok(Ending::Clean),
         Err(stop) => Err(stop),
     }
@@ -168,22 +105,15 @@ fn maybe(
 /// The second for each output of the first.
 #[cycle(eval)]
 #[inline(never)]
-fn pipe(
-    alloc: Global,
-    left: &Expr,
-    right: &Expr,
-    scope: &Scope<'_>,
-    input: &Json,
-    out: &mut Out,
-) -> Result<Ending, Stop>
-    ensures { Goes out.old (over (run left.now (scope_of scope.now) input.now) (λ x. run right.now (scope_of scope.now) x)) out.new result }
+fn pipe(left: &Expr, right: &Expr, at: &Context<'_>, out: &mut Out) -> Result<Ending, Stop>
+    ensures { Goes out.old (over (run_at left.now at.now) (λ x. run right.now (names at.now) x)) out.new result }
 {
     over(
-        all(alloc, left, scope, input, out),
+        all(left, at, out),
         out,
         |x, out|
-            ensures { Goes out.old (run right.entry.now (scope_of scope.entry.now) x.now) out.new result }
-        { eval(alloc, right, scope, x, out) },
+            ensures { Goes out.old (run right.entry.now (names at.entry.now) x.now) out.new result }
+        { eval(right, &Context { input: x, ..*at }, out) },
     )
 }
 
@@ -191,18 +121,11 @@ fn pipe(
 #[cycle(eval)]
 #[inline(never)]
 #[tactic(auto, using(crate::proofs::Runs::goes_from, crate::proofs::Runs::goes_on, crate::proofs::Runs::goes_out, crate::proofs::Runs::stops_at))]
-fn both(
-    alloc: Global,
-    left: &Expr,
-    right: &Expr,
-    scope: &Scope<'_>,
-    input: &Json,
-    out: &mut Out,
-) -> Result<Ending, Stop>
-    ensures { Goes out.old (followed_by (run left.now (scope_of scope.now) input.now) (run right.now (scope_of scope.now) input.now)) out.new result }
+fn both(left: &Expr, right: &Expr, at: &Context<'_>, out: &mut Out) -> Result<Ending, Stop>
+    ensures { Goes out.old (followed_by (run_at left.now at.now) (run_at right.now at.now)) out.new result }
 {
-    match eval(alloc, left, scope, input, out)? {
-        Ending::Clean => eval(alloc, right, scope, input, out),
+    match eval(left, at, out)? {
+        Ending::Clean => eval(right, at, out),
         Ending::Raised(error) => Ok(Ending::Raised(error)),
     }
 }
@@ -210,112 +133,51 @@ fn both(
 /// The true outputs of the first, and where there is none those of the second.
 #[cycle(eval)]
 #[inline(never)]
-fn alternative(
-    alloc: Global,
-    left: &Expr,
-    right: &Expr,
-    scope: &Scope<'_>,
-    input: &Json,
-    out: &mut Out,
-) -> Result<Ending, Stop>
-    ensures { Goes out.old (alternative (run left.now (scope_of scope.now) input.now) (run right.now (scope_of scope.now) input.now)) out.new result }
+fn alternative(left: &Expr, right: &Expr, at: &Context<'_>, out: &mut Out) -> Result<Ending, Stop>
+    ensures { Goes out.old (alternative (run_at left.now at.now) (run_at right.now at.now)) out.new result }
 {
-    let outer = all(alloc, left, scope, input, out)?;
-    let mut found = true_values(alloc, &outer.values)?;
+    let outer = all(left, at, out)?;
+    let mut found = true_ones(outer.values);
     if found.is_empty() {
-        return eval(alloc, right, scope, input, out);
+        return eval(right, at, out);
     }
     out.values.append(&mut found)?;
     Ok(Ending::Clean)
 }
 
 /// The true ones of some values.
-fn true_values(alloc: Global, values: &[Json]) -> Result<Vec<Json>, AllocError>
-    ensures { IfOk result (λ v. v.items ≡ filter is_true values.now) }
+fn true_ones(values: Vec<Json>) -> Vec<Json>
+    ensures { result.items ≡ filter is_true values.items }
 {
-    let mut found = Vec::new(alloc);
-    for value in values {
-        if is_true(value) {
-            found.push(value.copy()?)?;
-        }
-    }
-    Ok(found)
+    let mut values = values;
+    values.retain(|value| is_true(value));
+    values
 }
 
-/// True as soon as the first is, and else whether the second is.
+/// A Boolean as soon as the truth of the first is that, and else whether the second is true.
 #[cycle(eval)]
 #[inline(never)]
-fn or(
-    alloc: Global,
+fn decide(
+    want: bool,
     left: &Expr,
     right: &Expr,
-    scope: &Scope<'_>,
-    input: &Json,
+    at: &Context<'_>,
     out: &mut Out,
 ) -> Result<Ending, Stop>
-    ensures { Goes out.old (over (run left.now (scope_of scope.now) input.now) (λ x. if is_true x then made (boolean true) else over (run right.now (scope_of scope.now) input.now) (λ y. made (boolean (is_true y))))) out.new result }
+    ensures { Goes out.old (over (run_at left.now at.now) (λ x. decides want x (over (run_at right.now at.now) truth))) out.new result }
 {
     over(
-        all(alloc, left, scope, input, out),
+        all(left, at, out),
         out,
         |x, out|
-            ensures { Goes out.old (if is_true x.now then made (boolean true) else over (run right.entry.now (scope_of scope.entry.now) input.entry.now) (λ y. made (boolean (is_true y)))) out.new result }
+            ensures { Goes out.old (decides want x.now (over (run_at right.entry.now at.entry.now) truth)) out.new result }
         {
-            if is_true(x) {
-                make_truth(alloc, true, out)
+            if is_true(x) == want {
+                make_truth(at.alloc, want, out)
             } else {
-                truths(alloc, right, scope, input, out)
+                each_step(right, Step::Truth, at, out)
             }
         },
-    )
-}
-
-/// False as soon as the first is, and else whether the second is true.
-#[cycle(eval)]
-#[inline(never)]
-fn and(
-    alloc: Global,
-    left: &Expr,
-    right: &Expr,
-    scope: &Scope<'_>,
-    input: &Json,
-    out: &mut Out,
-) -> Result<Ending, Stop>
-    ensures { Goes out.old (over (run left.now (scope_of scope.now) input.now) (λ x. if is_true x then over (run right.now (scope_of scope.now) input.now) (λ y. made (boolean (is_true y))) else made (boolean false))) out.new result }
-{
-    over(
-        all(alloc, left, scope, input, out),
-        out,
-        |x, out|
-            ensures { Goes out.old (if is_true x.now then over (run right.entry.now (scope_of scope.entry.now) input.entry.now) (λ y. made (boolean (is_true y))) else made (boolean false)) out.new result }
-        {
-            if is_true(x) {
-                truths(alloc, right, scope, input, out)
-            } else {
-                make_truth(alloc, false, out)
-            }
-        },
-    )
-}
-
-/// Whether each output is true.
-#[cycle(eval)]
-#[inline(never)]
-fn truths(
-    alloc: Global,
-    of: &Expr,
-    scope: &Scope<'_>,
-    input: &Json,
-    out: &mut Out,
-) -> Result<Ending, Stop>
-    ensures { Goes out.old (over (run of.now (scope_of scope.now) input.now) (λ y. made (boolean (is_true y)))) out.new result }
-{
-    over(
-        all(alloc, of, scope, input, out),
-        out,
-        |y, out|
-            ensures { Goes out.old (made (boolean (is_true y.now))) out.new result }
-        { make_truth(alloc, is_true(y), out) },
     )
 }
 
@@ -323,73 +185,39 @@ fn truths(
 #[cycle(eval)]
 #[inline(never)]
 fn binary(
-    alloc: Global,
     op: Op,
     left: &Expr,
     right: &Expr,
-    scope: &Scope<'_>,
-    input: &Json,
+    at: &Context<'_>,
     out: &mut Out,
 ) -> Result<Ending, Stop>
-    ensures { Goes out.old (over (run right.now (scope_of scope.now) input.now) (λ y. over (run left.now (scope_of scope.now) input.now) (λ x. made_of (operate op x y)))) out.new result }
+    ensures { Goes out.old (over (run_at right.now at.now) (λ y. over (run_at left.now at.now) (λ x. made_of (operate op x y)))) out.new result }
 {
     over(
-        all(alloc, right, scope, input, out),
+        all(right, at, out),
         out,
         |y, out|
-            ensures { Goes out.old (over (run left.entry.now (scope_of scope.entry.now) input.entry.now) (λ x. made_of (operate op x y.now))) out.new result }
-        {
-            over(
-                all(alloc, left, scope, input, out),
-                out,
-                |x, out|
-                    ensures { Goes out.old (made_of (operate op x.now y.entry.now)) out.new result }
-                { make_of(alloc, operate(alloc, op, x, y), out) },
-            )
-        },
+            ensures { Goes out.old (over (run_at left.entry.now at.entry.now) (λ x. made_of (operate op x y.now))) out.new result }
+        { each_step(left, Step::Operate(op, y), at, out) },
     )
 }
 
-/// Numbers with the other sign.
-#[cycle(eval)]
-#[inline(never)]
-fn negative(
-    alloc: Global,
-    of: &Expr,
-    scope: &Scope<'_>,
-    input: &Json,
-    out: &mut Out,
-) -> Result<Ending, Stop>
-    ensures { Goes out.old (over (run of.now (scope_of scope.now) input.now) (λ x. made_of (negated x))) out.new result }
+/// The list of some values.
+pub fn make_list(alloc: Global, values: Vec<Json>, out: &mut Out) -> Result<Ending, Stop>
+    ensures { Goes out.old (made (list_with values.items)) out.new result }
 {
-    over(
-        all(alloc, of, scope, input, out),
-        out,
-        |x, out|
-            ensures { Goes out.old (made_of (negated x.now)) out.new result }
-        { make_of(alloc, negate(alloc, x), out) },
-    )
-}
-
-/// The list without items.
-fn empty_list(alloc: Global, out: &mut Out) -> Result<Ending, Stop>
-    ensures { Goes out.old (made (list no_items)) out.new result }
-{
-    let empty = Json::list(alloc, Vec::new(alloc))?;
-    make(alloc, empty, out)
+    let list = Json::list(alloc, values)?;
+    make(alloc, list, out)
 }
 
 /// A list of some outputs, where they end clean.
 #[tactic(auto, using(crate::proofs::Runs::made_from, crate::proofs::Runs::made_stop))]
-pub fn make_list(alloc: Global, outer: Result<Outputs, Stop>, out: &mut Out) -> Result<Ending, Stop>
+pub fn gather(alloc: Global, outer: Result<Outputs, Stop>, out: &mut Out) -> Result<Ending, Stop>
     ensures { (old : _) (s : _) → Comes old s out.old outer → Goes old (gathered s (λ vs. made (list_with vs))) out.new result }
 {
     let Outputs { values, end } = outer?;
     match end {
-        Ending::Clean => {
-            let list = Json::list(alloc, values)?;
-            make(alloc, list, out)
-        }
+        Ending::Clean => make_list(alloc, values, out),
         Ending::Raised(error) => Ok(Ending::Raised(error)),
     }
 }
@@ -397,114 +225,78 @@ pub fn make_list(alloc: Global, outer: Result<Outputs, Stop>, out: &mut Out) -> 
 /// The list of the outputs.
 #[cycle(eval)]
 #[inline(never)]
-fn list_of(
-    alloc: Global,
-    of: &Expr,
-    scope: &Scope<'_>,
-    input: &Json,
-    out: &mut Out,
-) -> Result<Ending, Stop>
-    ensures { Goes out.old (gathered (run of.now (scope_of scope.now) input.now) (λ vs. made (list_with vs))) out.new result }
+fn list_of(of: &Expr, at: &Context<'_>, out: &mut Out) -> Result<Ending, Stop>
+    ensures { Goes out.old (gathered (run_at of.now at.now) (λ vs. made (list_with vs))) out.new result }
 {
-    make_list(alloc, all(alloc, of, scope, input, out), out)
+    gather(at.alloc, all(of, at, out), out)
 }
 
-/// The outputs of one of two expressions, or the input where there is no second one.
+/// The outputs of an expression where the condition is true, and else those of another.
 #[cycle(eval)]
 #[inline(never)]
 fn choose(
-    alloc: Global,
     condition: &Expr,
     first: &Expr,
     second: &Option<Box<Expr>>,
-    scope: &Scope<'_>,
-    input: &Json,
+    at: &Context<'_>,
     out: &mut Out,
 ) -> Result<Ending, Stop>
-    ensures { Goes out.old (over (run condition.now (scope_of scope.now) input.now) (λ x. if is_true x then run first.now (scope_of scope.now) input.now else option_map_or (λ e. run e.value (scope_of scope.now) input.now) second.now (gives input.now))) out.new result }
+    ensures { Goes out.old (over (run_at condition.now at.now) (λ x. if is_true x then run_at first.now at.now else option_map_or (λ e. run_at e.value at.now) second.now (gives at.now.input.now))) out.new result }
+{
+    over(
+        all(condition, at, out),
+        out,
+        |x, out|
+            ensures { Goes out.old (if is_true x.now then run_at first.entry.now at.entry.now else option_map_or (λ e. run_at e.value at.entry.now) second.entry.now (gives at.entry.now.input.now)) out.new result }
+        {
+            if is_true(x) {
+                eval(first, at, out)
+            } else {
+                otherwise(second, at, out)
+            }
+        },
+    )
+}
+
+/// The outputs of an expression, or the input where there is none.
+#[cycle(eval)]
+#[inline(never)]
+fn otherwise(second: &Option<Box<Expr>>, at: &Context<'_>, out: &mut Out) -> Result<Ending, Stop>
+    ensures { Goes out.old (option_map_or (λ e. run_at e.value at.now) second.now (gives at.now.input.now)) out.new result }
 {
     match second {
-        None => if_then(alloc, condition, first, scope, input, out),
-        Some(second) => if_else(alloc, condition, first, second, scope, input, out),
+        None => give(at.input, out),
+        Some(second) => eval(second, at, out),
     }
-}
-
-/// The outputs of an expression where the condition is true, and else the input.
-#[cycle(eval)]
-#[inline(never)]
-fn if_then(
-    alloc: Global,
-    condition: &Expr,
-    first: &Expr,
-    scope: &Scope<'_>,
-    input: &Json,
-    out: &mut Out,
-) -> Result<Ending, Stop>
-    ensures { Goes out.old (over (run condition.now (scope_of scope.now) input.now) (λ x. if is_true x then run first.now (scope_of scope.now) input.now else gives input.now)) out.new result }
-{
-    over(
-        all(alloc, condition, scope, input, out),
-        out,
-        |x, out|
-            ensures { Goes out.old (if is_true x.now then run first.entry.now (scope_of scope.entry.now) input.entry.now else gives input.entry.now) out.new result }
-        {
-            if is_true(x) {
-                eval(alloc, first, scope, input, out)
-            } else {
-                give(input, out)
-            }
-        },
-    )
-}
-
-/// The outputs of one of two expressions.
-#[cycle(eval)]
-#[inline(never)]
-fn if_else(
-    alloc: Global,
-    condition: &Expr,
-    first: &Expr,
-    second: &Expr,
-    scope: &Scope<'_>,
-    input: &Json,
-    out: &mut Out,
-) -> Result<Ending, Stop>
-    ensures { Goes out.old (over (run condition.now (scope_of scope.now) input.now) (λ x. if is_true x then run first.now (scope_of scope.now) input.now else run second.now (scope_of scope.now) input.now)) out.new result }
-{
-    over(
-        all(alloc, condition, scope, input, out),
-        out,
-        |x, out|
-            ensures { Goes out.old (if is_true x.now then run first.entry.now (scope_of scope.entry.now) input.entry.now else run second.entry.now (scope_of scope.entry.now) input.entry.now) out.new result }
-        {
-            if is_true(x) {
-                eval(alloc, first, scope, input, out)
-            } else {
-                eval(alloc, second, scope, input, out)
-            }
-        },
-    )
 }
 
 /// An expression in which a name has each output as its value.
 #[cycle(eval)]
 #[inline(never)]
 fn bind(
-    alloc: Global,
     of: &Expr,
     name: &Text,
     inside: &Expr,
-    scope: &Scope<'_>,
-    input: &Json,
+    at: &Context<'_>,
     out: &mut Out,
 ) -> Result<Ending, Stop>
-    ensures { Goes out.old (over (run of.now (scope_of scope.now) input.now) (λ y. run inside.now ((name.now, y) ∷ scope_of scope.now) input.now)) out.new result }
+    ensures { Goes out.old (over (run_at of.now at.now) (λ y. run inside.now ((name.now, y) ∷ names at.now) at.now.input.now)) out.new result }
 {
     over(
-        all(alloc, of, scope, input, out),
+        all(of, at, out),
         out,
         |y, out|
-            ensures { Goes out.old (run inside.entry.now ((name.entry.now, y.now) ∷ scope_of scope.entry.now) input.entry.now) out.new result }
-        { eval(alloc, inside, &Scope::Bind(name, y, scope), input, out) },
+            ensures { Goes out.old (run inside.entry.now ((name.entry.now, y.now) ∷ names at.entry.now) at.entry.now.input.now) out.new result }
+        {
+            let scope = Scope::Bind(name, y, at.scope);
+            eval(
+                inside,
+                &Context {
+                    scope: &scope,
+                    ..*at
+                },
+                out,
+            )
+        },
     )
 }

@@ -8,6 +8,7 @@ mod object;
 mod outputs;
 mod scope;
 mod search;
+mod steps;
 mod vars;
 
 pub use answer::{End, First, Stream, eval, first_value};

@@ -1,22 +1,22 @@
 // The objects that the members of an expression make.
-ghost use Rattle.std.specs.Prelude.{◌≡◌, ◌∷◌, IfOk};
-ghost use Rattle.swf_value.specs.Expr.{index, here};
-ghost use Rattle.swf_value.specs.ExprNode.{pairs_of, value_or_here};
-ghost use Rattle.swf_value.specs.Members.{put};
-ghost use Rattle.swf_value.specs.Value.{Value, object};
+ghost use Rattle.std.specs.Prelude.{◌≡◌, IfOk};
+ghost use Rattle.swf_expr.specs.ExprNode.{pairs_of, value_or_here};
+ghost use Rattle.swf_value.specs.Value.{object};
 ghost use Rattle.swf_jq_builtins.specs.Operations.{index_of};
-ghost use Rattle.swf_jq_eval.specs.Run.{turn, gives, over, answered, onward, raises};
+ghost use Rattle.swf_jq_eval.specs.Run.{turn, over, answered, onward};
 ghost use Rattle.swf_jq_eval.specs.Outputs.{run, objects, with_member};
-ghost use Rattle.swf_jq_eval.specs.Names.{scope_of};
+ghost use Rattle.swf_jq_eval.specs.Names.{names, run_at};
 ghost use Rattle.swf_jq_eval.specs.Chosen.{members_so_far};
 ghost use Rattle.swf_jq_eval.specs.Goes.{Goes, Comes};
 
 use crate::forms::{all, eval};
-use crate::outputs::{Ending, Out, Outputs, Stop, answer, count, give, make, over, raise_text};
-use crate::scope::Scope;
+use crate::outputs::{Ending, Out, Outputs, Stop, count, make, over, raise};
+use crate::scope::Context;
+use crate::steps::{Step, each_step};
 use std::alloc::{AllocError, Global};
-use swf_jq_builtins::index;
-use swf_value::{Expr, ExprMember, Json, JsonNode, Text};
+use swf_expr::{Expr, ExprMember};
+use swf_text::Text;
+use swf_value::{Json, JsonNode};
 
 /// The names and values that are chosen for an object, the last first.
 #[derive(Clone, Copy)]
@@ -30,21 +30,19 @@ pub enum Chosen<'a> {
 #[cycle(eval)]
 #[inline(never)]
 pub fn object(
-    alloc: Global,
     members: &[ExprMember],
     chosen: &Chosen<'_>,
-    scope: &Scope<'_>,
-    input: &Json,
+    at: &Context<'_>,
     out: &mut Out,
 ) -> Result<Ending, Stop>
-    ensures { Goes out.old (objects (pairs_of members.now) (object (members_so_far chosen.now)) (scope_of scope.now) input.now) out.new result }
+    ensures { Goes out.old (objects (pairs_of members.now) (object (members_so_far chosen.now)) (names at.now) at.now.input.now) out.new result }
 {
     match members.split_first() {
         None => {
-            let made = made_of(alloc, chosen)?;
-            make(alloc, made, out)
+            let made = made_of(at.alloc, chosen)?;
+            make(at.alloc, made, out)
         }
-        Some((member, rest)) => keyed(alloc, member, rest, chosen, scope, input, out),
+        Some((member, rest)) => keyed(member, rest, chosen, at, out),
     }
 }
 
@@ -52,28 +50,26 @@ pub fn object(
 #[cycle(eval)]
 #[inline(never)]
 fn keyed(
-    alloc: Global,
     member: &ExprMember,
     rest: &[ExprMember],
     chosen: &Chosen<'_>,
-    scope: &Scope<'_>,
-    input: &Json,
+    at: &Context<'_>,
     out: &mut Out,
 ) -> Result<Ending, Stop>
-    ensures { Goes out.old (over (run member.now.key (scope_of scope.now) input.now) (λ y. over (run (value_or_here member.now.key member.now.value) (scope_of scope.now) input.now) (λ x. onward (with_member y x (object (members_so_far chosen.now))) (λ p. objects (pairs_of rest.now) p (scope_of scope.now) input.now)))) out.new result }
+    ensures { Goes out.old (over (run_at member.now.key at.now) (λ y. over (run_at (value_or_here member.now.key member.now.value) at.now) (λ x. onward (with_member y x (object (members_so_far chosen.now))) (λ p. objects (pairs_of rest.now) p (names at.now) at.now.input.now)))) out.new result }
 {
     over(
-        all(alloc, &member.key, scope, input, out),
+        all(&member.key, at, out),
         out,
         |y, out|
-            ensures { Goes out.old (over (run (value_or_here member.entry.now.key member.entry.now.value) (scope_of scope.entry.now) input.entry.now) (λ x. onward (with_member y.now x (object (members_so_far chosen.entry.now))) (λ p. objects (pairs_of rest.entry.now) p (scope_of scope.entry.now) input.entry.now))) out.new result }
+            ensures { Goes out.old (over (run_at (value_or_here member.entry.now.key member.entry.now.value) at.entry.now) (λ x. onward (with_member y.now x (object (members_so_far chosen.entry.now))) (λ p. objects (pairs_of rest.entry.now) p (names at.entry.now) at.entry.now.input.now))) out.new result }
         {
             over(
-                values(alloc, &member.key, &member.value, scope, input, out),
+                values(&member.key, &member.value, at, out),
                 out,
                 |x, out|
-                    ensures { Goes out.old (onward (with_member y.entry.now x.now (object (members_so_far chosen.entry.now))) (λ p. objects (pairs_of rest.entry.now) p (scope_of scope.entry.now) input.entry.now)) out.new result }
-                { with_chosen(alloc, y, x, rest, chosen, scope, input, out) },
+                    ensures { Goes out.old (onward (with_member y.entry.now x.now (object (members_so_far chosen.entry.now))) (λ p. objects (pairs_of rest.entry.now) p (names at.entry.now) at.entry.now.input.now)) out.new result }
+                { with_chosen(y, x, rest, chosen, at, out) },
             )
         },
     )
@@ -83,23 +79,21 @@ fn keyed(
 #[cycle(eval)]
 #[inline(never)]
 fn with_chosen(
-    alloc: Global,
     key: &Json,
     value: &Json,
     rest: &[ExprMember],
     chosen: &Chosen<'_>,
-    scope: &Scope<'_>,
-    input: &Json,
+    at: &Context<'_>,
     out: &mut Out,
 ) -> Result<Ending, Stop>
-    ensures { Goes out.old (onward (with_member key.now value.now (object (members_so_far chosen.now))) (λ p. objects (pairs_of rest.now) p (scope_of scope.now) input.now)) out.new result }
+    ensures { Goes out.old (onward (with_member key.now value.now (object (members_so_far chosen.now))) (λ p. objects (pairs_of rest.now) p (names at.now) at.now.input.now)) out.new result }
 {
     match key.node() {
         JsonNode::Text(name) => {
             let chosen = Chosen::Member(&*name, &*value, &*chosen);
-            object(alloc, rest, &chosen, scope, input, out)
+            object(rest, &chosen, at, out)
         }
-        _ => raise_text(alloc, "cannot key", out),
+        _ => raise(at.alloc, "cannot key", out),
     }
 }
 
@@ -107,38 +101,30 @@ fn with_chosen(
 #[cycle(eval)]
 #[inline(never)]
 fn values(
-    alloc: Global,
     key: &Expr,
     value: &Option<Expr>,
-    scope: &Scope<'_>,
-    input: &Json,
+    at: &Context<'_>,
     out: &mut Out,
 ) -> Result<Outputs, Stop>
-    ensures { Comes out.old (run (value_or_here key.now value.now) (scope_of scope.now) input.now) out.new result }
+    ensures { Comes out.old (run_at (value_or_here key.now value.now) at.now) out.new result }
 {
     match value {
-        Some(value) => all(alloc, value, scope, input, out),
-        None => members_of_input(alloc, key, scope, input, out),
+        Some(value) => all(value, at, out),
+        None => members_of_input(key, at, out),
     }
 }
 
 /// All outputs of `.` indexed by a key, apart from the others.
 #[cycle(eval)]
 #[inline(never)]
-fn members_of_input(
-    alloc: Global,
-    key: &Expr,
-    scope: &Scope<'_>,
-    input: &Json,
-    out: &mut Out,
-) -> Result<Outputs, Stop>
-    ensures { Comes out.old (turn (over (run key.now (scope_of scope.now) input.now) (λ y. turn (answered (index_of input.now y))))) out.new result }
+fn members_of_input(key: &Expr, at: &Context<'_>, out: &mut Out) -> Result<Outputs, Stop>
+    ensures { Comes out.old (turn (over (run_at key.now at.now) (λ y. turn (answered (index_of at.now.input.now y))))) out.new result }
 {
     let mut inner = Out {
         turns: out.turns,
-        values: Vec::new(alloc),
+        values: Vec::new(at.alloc),
     };
-    let end = member_of_input(alloc, key, scope, input, &mut inner)?;
+    let end = member_of_input(key, at, &mut inner)?;
     out.turns = inner.turns;
     Ok(Outputs {
         values: inner.values,
@@ -150,47 +136,11 @@ fn members_of_input(
 #[cycle(eval)]
 #[inline(never)]
 #[tactic(auto, using(crate::proofs::Runs::turn_on, crate::proofs::Runs::turn_stop))]
-fn member_of_input(
-    alloc: Global,
-    key: &Expr,
-    scope: &Scope<'_>,
-    input: &Json,
-    out: &mut Out,
-) -> Result<Ending, Stop>
-    ensures { Goes out.old (turn (over (run key.now (scope_of scope.now) input.now) (λ y. turn (answered (index_of input.now y))))) out.new result }
+fn member_of_input(key: &Expr, at: &Context<'_>, out: &mut Out) -> Result<Ending, Stop>
+    ensures { Goes out.old (turn (over (run_at key.now at.now) (λ y. turn (answered (index_of at.now.input.now y))))) out.new result }
 {
     count(&mut out.turns, 1)?;
-    at_keys(alloc, key, scope, input, out)
-}
-
-/// What stands in the input at each output of a key.
-#[cycle(eval)]
-#[inline(never)]
-fn at_keys(
-    alloc: Global,
-    key: &Expr,
-    scope: &Scope<'_>,
-    input: &Json,
-    out: &mut Out,
-) -> Result<Ending, Stop>
-    ensures { Goes out.old (over (run key.now (scope_of scope.now) input.now) (λ y. turn (answered (index_of input.now y)))) out.new result }
-{
-    over(
-        all(alloc, key, scope, input, out),
-        out,
-        |y, out|
-            ensures { Goes out.old (turn (answered (index_of input.entry.now y.now))) out.new result }
-        { at_key(alloc, input, y, out) },
-    )
-}
-
-/// What stands in the input at a key, which takes the turn of `.` too.
-#[tactic(auto, using(crate::proofs::Runs::turn_on, crate::proofs::Runs::turn_stop))]
-fn at_key(alloc: Global, input: &Json, key: &Json, out: &mut Out) -> Result<Ending, Stop>
-    ensures { Goes out.old (turn (answered (index_of input.now key.now))) out.new result }
-{
-    count(&mut out.turns, 1)?;
-    answer(index(alloc, input, key), out)
+    each_step(key, Step::Member, at, out)
 }
 
 /// The object of what is chosen.

@@ -2,7 +2,7 @@
 ghost use Rattle.std.specs.Prelude.{◌≡◌, ◌+◌, ◌-◌, ◌<◌, ◌≤◌, IfOk, IsTrue, MatchResult};
 ghost use Rattle.std.specs.Bool.{MatchBool};
 ghost use Rattle.swf_value.specs.Value.{Value, boolean, text};
-ghost use Rattle.swf_value.specs.Same.{is_ascii};
+ghost use Rattle.swf_text.specs.Same.{is_ascii};
 ghost use Rattle.swf_value.specs.Size.{size};
 ghost use Rattle.swf_jq_builtins.specs.Operations.{Answer};
 ghost use Rattle.swf_jq_builtins.specs.Outcome.{outcome_of, several_of};
@@ -135,15 +135,8 @@ pub fn give(value: &Json, out: &mut Out) -> Result<Ending, Stop>
     Ok(Ending::Clean)
 }
 
-/// An error.
-pub fn raise(value: &Json, _out: &mut Out) -> Result<Ending, Stop>
-    ensures { Goes _out.old (raises value.now) _out.new result }
-{
-    Ok(Ending::Raised(value.copy()?))
-}
-
 /// An error whose value is an ASCII text.
-pub fn raise_text(alloc: Global, message: &str, _out: &mut Out) -> Result<Ending, Stop>
+pub fn raise(alloc: Global, message: &str, _out: &mut Out) -> Result<Ending, Stop>
     requires { IsTrue (is_ascii message.now) }
     ensures { Goes _out.old (raises (text message.now)) _out.new result }
 {
@@ -155,7 +148,7 @@ pub fn make(alloc: Global, value: Json, out: &mut Out) -> Result<Ending, Stop>
     ensures { Goes out.old (made value) out.new result }
 {
     if depth(&value) > DEEPEST {
-        return raise_text(alloc, "too deep", out);
+        return raise(alloc, "too deep", out);
     }
     count_size(&mut out.turns, &value)?;
     out.values.push(value)?;

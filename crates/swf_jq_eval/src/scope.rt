@@ -8,7 +8,9 @@ ghost use Rattle.swf_jq_eval.specs.Goes.{Goes};
 
 use crate::outputs::{Ending, Out, Stop, give};
 use crate::vars::Variable;
-use swf_value::{Json, Text, same_texts};
+use std::alloc::Global;
+use swf_text::{Text, same_texts};
+use swf_value::Json;
 
 /// Names and their values, the innermost first.
 #[derive(Clone, Copy)]
@@ -16,6 +18,15 @@ pub enum Scope<'a> {
     /// Those that are given, of which the last of a name counts.
     Given(&'a [Variable]),
     Bind(&'a Text, &'a Json, &'a Scope<'a>),
+}
+
+/// Where an expression is evaluated.
+#[derive(Clone, Copy)]
+pub struct Context<'a> {
+    pub alloc: Global,
+    /// The names that stand there.
+    pub scope: &'a Scope<'a>,
+    pub input: &'a Json,
 }
 
 /// The value of a name is one output; null where it has none.

@@ -6,33 +6,33 @@ ghost use Rattle.swf_jq_builtins.specs.Operations.{is_true};
 ghost use Rattle.swf_jq_builtins.specs.Outcome.{several_of};
 ghost use Rattle.swf_jq_eval.specs.Run.{clean, gave, spread, over, made, list_with, same_truth, until, ended};
 ghost use Rattle.swf_jq_eval.specs.Outputs.{run, key_by, sorted_by};
-ghost use Rattle.swf_jq_eval.specs.Names.{scope_of};
+ghost use Rattle.swf_jq_eval.specs.Names.{names, run_at};
 ghost use Rattle.swf_jq_eval.specs.Goes.{Goes, Comes, ending_of};
 
-use crate::forms::{all, eval};
-use crate::outputs::{Ending, Out, Outputs, Stop, each, make, make_truth};
-use crate::scope::Scope;
+use crate::forms::{all, eval, make_list};
+use crate::outputs::{Ending, Out, Outputs, Stop, each, make_truth};
+use crate::scope::Context;
 use std::alloc::{AllocError, Global};
+use swf_expr::Expr;
 use swf_jq_builtins::{Several, copies, is_true, sort_by_keys};
-use swf_value::{Expr, Json};
+use swf_value::Json;
 
 /// All outputs of an expression for each of several values, apart from the others.
 #[cycle(eval)]
 #[inline(never)]
 pub fn each_of(
-    alloc: Global,
     several: Result<Several, AllocError>,
     expr: &Expr,
-    scope: &Scope<'_>,
+    at: &Context<'_>,
     out: &mut Out,
 ) -> Result<Outputs, Stop>
-    ensures { (a : _) → IfOk several (λ s. several_of s ≡ a) → Comes out.old (over (spread a) (λ x. run expr.now (scope_of scope.now) x)) out.new result }
+    ensures { (a : _) → IfOk several (λ s. several_of s ≡ a) → Comes out.old (over (spread a) (λ x. run expr.now (names at.now) x)) out.new result }
 {
     let mut inner = Out {
         turns: out.turns,
-        values: Vec::new(alloc),
+        values: Vec::new(at.alloc),
     };
-    let end = each_part(alloc, several?, expr, scope, &mut inner)?;
+    let end = each_part(several?, expr, at, &mut inner)?;
     out.turns = inner.turns;
     Ok(Outputs {
         values: inner.values,
@@ -43,14 +43,8 @@ pub fn each_of(
 /// The outputs of an expression for each of several values.
 #[cycle(eval)]
 #[inline(never)]
-fn each_part(
-    alloc: Global,
-    several: Several,
-    expr: &Expr,
-    scope: &Scope<'_>,
-    out: &mut Out,
-) -> Result<Ending, Stop>
-    ensures { Goes out.old (over (spread (several_of several)) (λ x. run expr.now (scope_of scope.now) x)) out.new result }
+fn each_part(several: Several, expr: &Expr, at: &Context<'_>, out: &mut Out) -> Result<Ending, Stop>
+    ensures { Goes out.old (over (spread (several_of several)) (λ x. run expr.now (names at.now) x)) out.new result }
 {
     match several {
         Several::Values(values) => each(
@@ -60,8 +54,8 @@ fn each_part(
             },
             out,
             |x, out|
-                ensures { Goes out.old (run expr.entry.now (scope_of scope.entry.now) x.now) out.new result }
-            { eval(alloc, expr, scope, x, out) },
+                ensures { Goes out.old (run expr.entry.now (names at.entry.now) x.now) out.new result }
+            { eval(expr, &Context { input: x, ..*at }, out) },
         ),
         Several::Raised(error) => Ok(Ending::Raised(error)),
     }
@@ -71,76 +65,58 @@ fn each_part(
 #[cycle(eval)]
 #[inline(never)]
 pub fn until(
-    alloc: Global,
     want: bool,
     values: &[Json],
     expr: &Expr,
-    scope: &Scope<'_>,
+    at: &Context<'_>,
     out: &mut Out,
 ) -> Result<Ending, Stop>
-    ensures { Goes out.old (until want (λ x. run expr.now (scope_of scope.now) x) values.now) out.new result }
+    ensures { Goes out.old (until want (λ x. run expr.now (names at.now) x) values.now) out.new result }
 {
     for x in values {
-        let Outputs { values, end } = all(alloc, expr, scope, x, out)?;
+        let Outputs { values, end } = all(expr, &Context { input: x, ..*at }, out)?;
         if has_truth(want, &values) {
-            return make_truth(alloc, want, out);
+            return make_truth(at.alloc, want, out);
         }
         match end {
             Ending::Clean => {}
             Ending::Raised(error) => return Ok(Ending::Raised(error)),
         }
     }
-    make_truth(alloc, !want, out)
+    make_truth(at.alloc, !want, out)
 }
 
 /// Whether one of some values has a truth.
 fn has_truth(want: bool, values: &[Json]) -> bool
     ensures { result ≡ list_any (λ v. same_truth (is_true v) want) values.now }
 {
-    for value in values {
-        if is_true(value) == want {
-            return true;
-        }
-    }
-    false
+    values.iter().any(|value| is_true(value) == want)
 }
 
 /// The values in the order of the keys that an expression makes of them.
 #[cycle(eval)]
 #[inline(never)]
-pub fn sorted(
-    alloc: Global,
-    values: &[Json],
-    expr: &Expr,
-    scope: &Scope<'_>,
-    out: &mut Out,
-) -> Result<Ending, Stop>
-    ensures { Goes out.old (sorted_by (λ x. run expr.now (scope_of scope.now) x) values.now) out.new result }
+pub fn sorted(values: &[Json], expr: &Expr, at: &Context<'_>, out: &mut Out) -> Result<Ending, Stop>
+    ensures { Goes out.old (sorted_by (λ x. run expr.now (names at.now) x) values.now) out.new result }
 {
-    let keys = keys_of(alloc, values, expr, scope, out)?;
-    make_sorted(alloc, values, keys, out)
+    let keys = keys_of(values, expr, at, out)?;
+    make_sorted(at.alloc, values, keys, out)
 }
 
 /// The keys of values, up to the first error.
 #[cycle(eval)]
 #[inline(never)]
-fn keys_of(
-    alloc: Global,
-    values: &[Json],
-    expr: &Expr,
-    scope: &Scope<'_>,
-    out: &mut Out,
-) -> Result<Outputs, Stop>
-    ensures { Comes out.old (over (gave values.now clean) (key_by (λ x. run expr.now (scope_of scope.now) x))) out.new result }
+fn keys_of(values: &[Json], expr: &Expr, at: &Context<'_>, out: &mut Out) -> Result<Outputs, Stop>
+    ensures { Comes out.old (over (gave values.now clean) (key_by (λ x. run expr.now (names at.now) x))) out.new result }
 {
-    let mut inner = Out {
+    let mut keys = Out {
         turns: out.turns,
-        values: Vec::new(alloc),
+        values: Vec::new(at.alloc),
     };
-    let end = each_key(alloc, values, expr, scope, &mut inner)?;
-    out.turns = inner.turns;
+    let end = each_key(values, expr, at, &mut keys)?;
+    out.turns = keys.turns;
     Ok(Outputs {
-        values: inner.values,
+        values: keys.values,
         end,
     })
 }
@@ -148,44 +124,32 @@ fn keys_of(
 /// The key of each value, up to the first error.
 #[cycle(eval)]
 #[inline(never)]
-fn each_key(
-    alloc: Global,
-    values: &[Json],
-    expr: &Expr,
-    scope: &Scope<'_>,
-    out: &mut Out,
-) -> Result<Ending, Stop>
-    ensures { Goes out.old (over (gave values.now clean) (key_by (λ x. run expr.now (scope_of scope.now) x))) out.new result }
+fn each_key(values: &[Json], expr: &Expr, at: &Context<'_>, out: &mut Out) -> Result<Ending, Stop>
+    ensures { Goes out.old (over (gave values.now clean) (key_by (λ x. run expr.now (names at.now) x))) out.new result }
 {
     let outer = Outputs {
-        values: copies(alloc, values)?,
+        values: copies(at.alloc, values)?,
         end: Ending::Clean,
     };
     each(
         outer,
         out,
         |x, out|
-            ensures { Goes out.old (key_by (λ x. run expr.entry.now (scope_of scope.entry.now) x) x.now) out.new result }
-        { key_of(alloc, expr, scope, x, out) },
+            ensures { Goes out.old (key_by (λ x. run expr.entry.now (names at.entry.now) x) x.now) out.new result }
+        { key_of(expr, &Context { input: x, ..*at }, out) },
     )
 }
 
 /// The list of an expression's outputs, where they end clean.
 #[cycle(eval)]
 #[inline(never)]
-fn key_of(
-    alloc: Global,
-    expr: &Expr,
-    scope: &Scope<'_>,
-    input: &Json,
-    out: &mut Out,
-) -> Result<Ending, Stop>
-    ensures { Goes out.old (key_by (λ x. run expr.now (scope_of scope.now) x) input.now) out.new result }
+fn key_of(expr: &Expr, at: &Context<'_>, out: &mut Out) -> Result<Ending, Stop>
+    ensures { Goes out.old (key_by (λ x. run expr.now (names at.now) x) at.now.input.now) out.new result }
 {
-    let Outputs { values, end } = all(alloc, expr, scope, input, out)?;
+    let Outputs { values, end } = all(expr, at, out)?;
     match end {
         Ending::Clean => {
-            let key = Json::list(alloc, values)?;
+            let key = Json::list(at.alloc, values)?;
             out.values.push(key)?;
             Ok(Ending::Clean)
         }
@@ -201,8 +165,7 @@ fn make_sorted(alloc: Global, values: &[Json], keys: Outputs, out: &mut Out) -> 
     match end {
         Ending::Clean => {
             let sorted = sort_by_keys(alloc, copies(alloc, values)?, keys)?;
-            let list = Json::list(alloc, sorted)?;
-            make(alloc, list, out)
+            make_list(alloc, sorted, out)
         }
         Ending::Raised(error) => Ok(Ending::Raised(error)),
     }

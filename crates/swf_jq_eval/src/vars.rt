@@ -2,7 +2,8 @@
 ghost use Rattle.std.specs.Prelude.{◌≡◌};
 
 use std::marker::Model;
-use swf_value::{Json, Text};
+use swf_text::Text;
+use swf_value::Json;
 
 /// A name and its value.
 #[derive(Drop)]

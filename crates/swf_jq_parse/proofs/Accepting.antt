@@ -2,8 +2,8 @@
 use Rattle.std.proofs.Common.{◌≡◌, ◌∙◌, ℕ, List, [], ◌∷◌, ◌++◌, true, false, refl, ap, sym, nat_le, Some, Ok, Err, subst, append_assoc, arith, inl, inr}
 use Rattle.std.proofs.lemmas.Bool.{cases_Bool}
 use Rattle.std.proofs.lemmas.Bool.Decides.{nat_tests}
-use Rattle.swf_value.specs.Expr.{Tree, Pairs, here, index, no_trees, apply}
-use Rattle.swf_value.specs.declared.builtin.Builtin.{Builtin}
+use Rattle.swf_expr.specs.Expr.{Tree, Pairs, here, index, no_trees, apply}
+use Rattle.swf_expr.specs.declared.builtin.Builtin.{Builtin}
 pub use Rattle.swf_jq_tokens.proofs.Choices.{chosen, other}
 use Rattle.swf_jq_parse.specs.Closing.{applied, applied_to}
 use Rattle.swf_jq_tokens.specs.Gives.{◌>>=◌}

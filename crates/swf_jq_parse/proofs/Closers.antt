@@ -1,7 +1,7 @@
 -- What closes keeps what was read spelt.
 use Rattle.std.proofs.Common.{◌≡◌, ◌∙◌, ℕ, List, [], ◌∷◌, ◌++◌, false, refl, ap, sym, Option, Some, None, subst, append-nil, append_assoc}
-use Rattle.swf_value.specs.Expr.{Tree, Trees, count, Pairs, index, list_of, object_of, if_then, if_else, apply}
-use Rattle.swf_value.specs.declared.builtin.Builtin.{Builtin}
+use Rattle.swf_expr.specs.Expr.{Tree, Trees, count, Pairs, index, list_of, object_of, if_then, if_else, apply}
+use Rattle.swf_expr.specs.declared.builtin.Builtin.{Builtin}
 use Rattle.swf_jq_parse.specs.Closing.{applied, applied_to, holding, paren_at, bracket_at, brace_at, argument_at, then_at, elif_at, else_at, end_at}
 use Rattle.swf_jq_parse.specs.Grammar
 use Rattle.swf_jq_parse.specs.Grammar.{Tokens, Pipe, Comma, Alt, Or, And, Cmp, Sum, Prod, Unary, Post, Term, ArgumentsOf, Branches, TextOf, Pieces, MembersOf, MemberOf, KeyOf, ValueOf}

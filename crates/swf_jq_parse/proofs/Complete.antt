@@ -1,6 +1,6 @@
 -- Each expression of the grammar is read as its tree.
 use Rattle.std.proofs.Common.{[], true, refl, ap, subst, append-nil}
-use Rattle.swf_value.specs.Expr.{Tree, Trees, Pairs, no_pairs}
+use Rattle.swf_expr.specs.Expr.{Tree, Trees, Pairs, no_pairs}
 use Rattle.swf_jq_parse.specs.Grammar
 use Rattle.swf_jq_parse.specs.Grammar.{Tokens, Pipe, Comma, Alt, Or, And, Cmp, Sum, Prod, Unary, Post, Term, ArgumentsOf, Branches, TextOf, Pieces, MembersOf, MemberOf, KeyOf, ValueOf}
 use Rattle.swf_jq_parse.specs.GrammarLaws.{tokens, IsComplete}

@@ -1,7 +1,7 @@
 -- What is read is a text of the grammar, and each text of the grammar is read.
 use Rattle.std.proofs.Common.{◌≡◌, ◌∙◌, inl, inr, ℕ, List, [], ◌∷◌, Bool, true, false, refl, ap, sym, length, nat_lt, Result, Ok, Err, IfOk, IfErr, le-ltb, ltb-false, if◌then◌else◌}
 use Rattle.std.specs.Str.{encode_utf8_all}
-use Rattle.swf_value.specs.Expr.{Tree}
+use Rattle.swf_expr.specs.Expr.{Tree}
 use Rattle.swf_jq_parse.specs.ExpressionText.{IsTextOf, IsRefused}
 use Rattle.swf_jq_tokens.specs.Gives.{Gives, Fails, ◌>>=◌}
 use Rattle.swf_jq_parse.specs.Grammar.{Pipe}

@@ -2,9 +2,9 @@
 use Rattle.std.proofs.Common.{◌≡◌, ◌∙◌, ◌&&◌, ℕ, List, [], ◌∷◌, ◌++◌, Bool, true, false, refl, ap, sym, Option, Some, None, Result, Ok, Err, subst, inl, inr, append_assoc}
 use Rattle.std.proofs.lemmas.Bool.{cases_Bool}
 use Rattle.std.specs.Prelude.{⊤, if◌then◌else◌}
-use Rattle.swf_value.specs.Expr.{Tree, Trees, no_trees, count, Pairs, here, index, apply}
-use Rattle.swf_value.specs.declared.builtin.Builtin.{Builtin}
-use Rattle.swf_value.specs.declared.op.Op.TheVariants as ops
+use Rattle.swf_expr.specs.Expr.{Tree, Trees, no_trees, count, Pairs, here, index, apply}
+use Rattle.swf_expr.specs.declared.builtin.Builtin.{Builtin}
+use Rattle.swf_expr.specs.declared.op.Op.TheVariants as ops
 use Rattle.swf_jq_parse.specs.Closing.{applied, applied_to, paren_closed, paren_at, bracket_closed, bracket_at, brace_closed, brace_at, next_argument, argument_at, then_next, then_at, elif_next, elif_at, else_next, else_at, if_ended, end_at}
 use Rattle.swf_jq_tokens.specs.Gives.{◌>>=◌}
 use Rattle.swf_jq_parse.specs.Grammar.{Tokens, Pipe, Post, ArgumentsOf}

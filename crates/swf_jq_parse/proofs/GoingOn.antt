@@ -2,9 +2,9 @@
 use Rattle.std.proofs.Common.{◌≡◌, ◌∙◌, ◌||◌, ℕ, zero, suc, List, [], ◌∷◌, ◌++◌, Bool, true, false, refl, ap, sym, nat_le, Option, Some, None, subst, arith, inl, inr, append-nil, append_assoc, ◌<◌, ◌+◌, ◌⊎◌, codes}
 use Rattle.std.proofs.lemmas.Bool.Decides.{nat_tests}
 use Rattle.std.specs.Option.{is_some}
-use Rattle.swf_value.specs.Expr.{Tree, Trees, no_trees, count, Pairs, here, lit, index, iterate, empty_list, list_of, object_of, if_then, apply}
+use Rattle.swf_expr.specs.Expr.{Tree, Trees, no_trees, count, Pairs, here, lit, index, iterate, empty_list, list_of, object_of, if_then, apply}
 use Rattle.swf_value.specs.Value.{text}
-use Rattle.swf_value.specs.declared.builtin.Builtin.{Builtin}
+use Rattle.swf_expr.specs.declared.builtin.Builtin.{Builtin}
 use Rattle.swf_jq_parse.specs.Closing.{applied, applied_to, holding, paren_closed, paren_at, bracket_closed, bracket_at, brace_closed, brace_at, next_argument, argument_at, then_next, then_at, if_ended, end_at}
 use Rattle.swf_jq_parse.specs.Grammar.{Tokens}
 use Rattle.swf_jq_parse.specs.GrammarLaws.{tokens, Crowded}

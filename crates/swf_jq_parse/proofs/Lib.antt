@@ -1,8 +1,6 @@
 pub mod Rows
 pub mod Reducing
 pub mod Turns
-pub mod Literals
-pub mod PrintingSteps
 pub mod Accepting
 pub mod Names
 pub mod Spelling
@@ -18,6 +16,3 @@ pub mod GoingOn
 pub mod Faults
 pub mod First
 pub mod ExpressionText
-pub mod Printed
-pub mod TextReading
-pub mod ReadBack

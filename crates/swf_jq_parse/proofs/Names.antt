@@ -4,10 +4,10 @@ use Rattle.std.proofs.lemmas.Bool.{cases_Bool, eqb-true}
 use Rattle.std.proofs.lemmas.Bool.Decides.{nat_tests}
 use Rattle.std.specs.Str.{encode_utf8_all}
 use Rattle.std.specs.Option.{is_some}
-use Rattle.swf_value.specs.Builtin.{arity, all_builtins, is_of, first_of, builtin_of}
-use Rattle.swf_value.specs.Expr.{Tree, Trees, no_trees, tree, count}
-use Rattle.swf_value.specs.declared.builtin.Builtin.{Builtin}
-use Rattle.swf_value.specs.declared.builtin.Builtin.TheVariants as builtins
+use Rattle.swf_expr.specs.Builtin.{arity, all_builtins, is_of, first_of, builtin_of}
+use Rattle.swf_expr.specs.Expr.{Tree, Trees, no_trees, tree, count}
+use Rattle.swf_expr.specs.declared.builtin.Builtin.{Builtin}
+use Rattle.swf_expr.specs.declared.builtin.Builtin.TheVariants as builtins
 use Rattle.swf_jq_parse.specs.Operand.{named, is_called}
 use Rattle.swf_jq_parse.specs.Rows.{tree_last}
 use Rattle.swf_jq_parse.proofs.Accepting.{chosen, other}

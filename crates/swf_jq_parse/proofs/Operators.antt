@@ -2,9 +2,9 @@
 use Rattle.std.proofs.Common.{◌≡◌, ◌∙◌, ◌==◌, ◌&&◌, ℕ, suc, List, [], ◌∷◌, ◌++◌, Bool, true, false, refl, ap, sym, nat_le, Ok, subst, arith}
 use Rattle.std.proofs.lemmas.Bool.Decides.{nat_tests}
 use Rattle.std.specs.Prelude.{if◌then◌else◌}
-use Rattle.swf_value.specs.Expr.{Tree, pipe, both, alt, or, and, binary, neg, bind}
-use Rattle.swf_value.specs.declared.op.Op.{Op}
-use Rattle.swf_value.specs.declared.op.Op.TheVariants as ops
+use Rattle.swf_expr.specs.Expr.{Tree, pipe, both, alt, or, and, binary, neg, bind}
+use Rattle.swf_expr.specs.declared.op.Op.{Op}
+use Rattle.swf_expr.specs.declared.op.Op.TheVariants as ops
 use Rattle.swf_jq_parse.specs.Grammar
 use Rattle.swf_jq_parse.specs.Grammar.{Tokens, Compares, Adds, Multiplies}
 use Rattle.swf_jq_parse.specs.Joining.{op_level, joint_level, joint_tree, joined, level, top_level, reduce, is_comparison, least, after_left, infix_at, after_comma, after_piped, pending_in_value, item_in_value, in_value, pipe_next, comma_next, pending_may_bind, item_may_bind, may_bind, bind_next, misplaced}

@@ -1,10 +1,10 @@
 -- What was read, by what is open and what may stand next, and where an operand is wanted.
 use Rattle.std.proofs.Common.{◌≡◌, ◌∙◌, ℕ, pos, suc, List, [], ◌∷◌, ◌++◌, Bool, true, false, refl, ap, sym, nat_le, Ok, Err, subst, append-nil, append_assoc}
 use Rattle.std.specs.Prelude.{if◌then◌else◌}
-use Rattle.swf_value.specs.Expr.{Tree, Pairs, no_pairs, here, lit, var, index, iterate, empty_list, list_of}
+use Rattle.swf_expr.specs.Expr.{Tree, Pairs, no_pairs, here, lit, var, index, iterate, empty_list, list_of}
 use Rattle.swf_value.specs.Value.{null, boolean, int, text}
-use Rattle.swf_value.specs.declared.op.Op.{Op}
-use Rattle.swf_value.specs.declared.op.Op.TheVariants as ops
+use Rattle.swf_expr.specs.declared.op.Op.{Op}
+use Rattle.swf_expr.specs.declared.op.Op.TheVariants as ops
 use Rattle.swf_jq_parse.specs.Grammar
 use Rattle.swf_jq_parse.specs.Grammar.{Tokens, Pipe, Comma, Alt, Or, And, Cmp, Sum, Prod, Unary, Post, Term, ArgumentsOf, Branches, TextOf, Pieces, MembersOf, MemberOf, KeyOf, ValueOf}
 use Rattle.swf_jq_parse.specs.Joining.{Step, op_level, joint_level, joined, level, top_level, reduce, may_bind}

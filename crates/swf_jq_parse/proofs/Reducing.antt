@@ -1,7 +1,7 @@
 -- Joining an operand with what waits for it.
 use Rattle.std.proofs.Common.{◌≡◌, ◌∙◌, ℕ, List, [], ◌∷◌, Bool, true, false, refl, ap, sym, nat_le, Option, Some, None}
 use Rattle.std.specs.Prelude.{if◌then◌else◌}
-use Rattle.swf_value.specs.Expr.{Tree}
+use Rattle.swf_expr.specs.Expr.{Tree}
 use Rattle.swf_jq_parse.specs.Rows.{Pops}
 use Rattle.swf_jq_parse.specs.Joining.{reduce, top_level, joined, level}
 use Rattle.swf_jq_parse.specs.declared.stack.Item.{Item}

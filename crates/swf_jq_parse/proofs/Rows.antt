@@ -3,12 +3,12 @@ use Rattle.std.proofs.Common.{◌≡◌, ◌∙◌, ◌==◌, Bool, true, false,
 use Rattle.std.specs.Str.{encode_utf8_all}
 use Rattle.std.proofs.lemmas.Bool.{eqb-true}
 use Rattle.std.proofs.lemmas.Str.{chars-nil}
-use Rattle.swf_value.proofs.SameLemmas.{chars_ascii}
-use Rattle.swf_value.specs.Expr.{Tree, count, tree, pair, lit, binary}
+use Rattle.swf_text.proofs.SameLemmas.{chars_ascii}
+use Rattle.swf_expr.specs.Expr.{Tree, count, tree, pair, lit, binary}
 use Rattle.swf_value.specs.Value.{text}
-use Rattle.swf_value.specs.declared.op.Op.TheVariants as ops
-use Rattle.swf_value.specs.ExprNode.{trees_of, pairs_of, value_or_here}
-use Rattle.swf_value.specs.declared.expr.ExprMember.{ExprMember}
+use Rattle.swf_expr.specs.declared.op.Op.TheVariants as ops
+use Rattle.swf_expr.specs.ExprNode.{trees_of, pairs_of, value_or_here}
+use Rattle.swf_expr.specs.declared.expr.ExprMember.{ExprMember}
 use Rattle.swf_jq_parse.specs.Rows.{tree_last, pair_last}
 use Rattle.swf_jq_parse.specs.TextPart.{first_text, plus_text}
 use Rattle.swf_jq_tokens.specs.Words.{keyword_text}

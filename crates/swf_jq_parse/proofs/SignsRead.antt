@@ -2,9 +2,9 @@
 use Rattle.std.proofs.Common.{◌≡◌, ◌∙◌, ◌&&◌, ℕ, List, [], ◌∷◌, ◌++◌, Bool, true, false, refl, ap, sym, nat_le, Ok, subst, arith, append_assoc}
 use Rattle.std.proofs.lemmas.Bool.Decides.{nat_tests}
 use Rattle.std.specs.Prelude.{if◌then◌else◌}
-use Rattle.swf_value.specs.Expr.{Tree, pipe, both, bind}
-use Rattle.swf_value.specs.declared.op.Op.{Op}
-use Rattle.swf_value.specs.declared.op.Op.TheVariants as ops
+use Rattle.swf_expr.specs.Expr.{Tree, pipe, both, bind}
+use Rattle.swf_expr.specs.declared.op.Op.{Op}
+use Rattle.swf_expr.specs.declared.op.Op.TheVariants as ops
 use Rattle.swf_jq_parse.specs.Grammar
 use Rattle.swf_jq_parse.specs.Grammar.{Tokens, Pipe, Comma, Alt, Or, And, Cmp, Sum, Prod, Unary, Post, Term, ArgumentsOf, Branches, TextOf, Pieces, MembersOf, MemberOf, KeyOf, ValueOf}
 use Rattle.swf_jq_parse.specs.Joining.{op_level, joint_level, joint_tree, joined, level, top_level, reduce, is_comparison, least, infix_at, pending_in_value, item_in_value, in_value, pipe_next, value_ended, value_end, comma_next, pending_may_bind, item_may_bind, may_bind, bind_next}

@@ -1,8 +1,8 @@
 -- What is read is an expression of the grammar.
 use Rattle.std.proofs.Common.{◌≡◌, ◌∙◌, ℕ, List, [], ◌∷◌, ◌++◌, Bool, true, false, refl, ap, sym, Option, Some, None, Ok, Err, subst, append-nil, append_assoc}
-use Rattle.swf_value.specs.Expr.{Tree, no_trees, Pairs, no_pairs, here, lit, var, index, iterate, maybe, object_of, apply}
+use Rattle.swf_expr.specs.Expr.{Tree, no_trees, Pairs, no_pairs, here, lit, var, index, iterate, maybe, object_of, apply}
 use Rattle.swf_value.specs.Value.{text}
-use Rattle.swf_value.specs.declared.builtin.Builtin.{Builtin}
+use Rattle.swf_expr.specs.declared.builtin.Builtin.{Builtin}
 use Rattle.swf_jq_parse.specs.Closing.{applied, applied_to, paren_closed, bracket_closed, brace_closed, next_argument, then_next, elif_next, else_next, if_ended}
 use Rattle.swf_jq_tokens.specs.Gives.{◌>>=◌}
 use Rattle.swf_jq_parse.specs.Grammar

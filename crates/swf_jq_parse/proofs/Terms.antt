@@ -1,8 +1,8 @@
 -- Terms and what follows them are read.
 use Rattle.std.proofs.Common.{◌≡◌, ◌∙◌, ℕ, pos, List, [], ◌∷◌, ◌++◌, Bool, true, false, refl, ap, sym, Option, Some, Ok, subst}
-use Rattle.swf_value.specs.Expr.{Tree, Trees, no_trees, tree, count, Pairs, no_pairs, here, lit, var, index, iterate, maybe, empty_list, list_of, object_of, if_then, if_else, apply}
+use Rattle.swf_expr.specs.Expr.{Tree, Trees, no_trees, tree, count, Pairs, no_pairs, here, lit, var, index, iterate, maybe, empty_list, list_of, object_of, if_then, if_else, apply}
 use Rattle.swf_value.specs.Value.{null, boolean, int, text}
-use Rattle.swf_value.specs.declared.builtin.Builtin.{Builtin}
+use Rattle.swf_expr.specs.declared.builtin.Builtin.{Builtin}
 use Rattle.swf_jq_parse.specs.Closing.{applied, applied_to, holding, paren_closed, paren_at, bracket_closed, bracket_at, brace_closed, brace_at, next_argument, argument_at, then_next, then_at, elif_next, elif_at, else_next, else_at, if_ended, end_at}
 use Rattle.swf_jq_parse.specs.Grammar.{Tokens}
 use Rattle.swf_jq_parse.specs.Joining.{joined, level, top_level, reduce, item_in_value, in_value, value_ended, value_end, comma_next, item_may_bind, may_bind}

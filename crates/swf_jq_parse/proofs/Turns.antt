@@ -5,7 +5,7 @@ use Rattle.std.specs.Str.{IsUtf8}
 use Rattle.std.proofs.Math.Utf8.{encodes}
 use Rattle.std.proofs.lemmas.Bool.{lt-ltb, le-ltb}
 use Rattle.std.proofs.lemmas.Str.{encodes-chars, length-le-encodes}
-use Rattle.swf_value.specs.Expr.{Tree}
+use Rattle.swf_expr.specs.Expr.{Tree}
 use Rattle.swf_jq_tokens.specs.Gives.{◌>>=◌, Fails, Gives}
 use Rattle.swf_jq_tokens.specs.Lexer.{Lexeme, Behind, Nested, lexed_behind, lexed_of, lex_within, lex, next, is_blank}
 use Rattle.swf_jq_parse.specs.Machine.{run, step, finish, called_alone}

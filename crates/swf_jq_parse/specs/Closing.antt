@@ -1,7 +1,7 @@
 -- What ends with an operand, which is joined with all that waits for it before.
 use Rattle.std.specs.Prelude.{ℕ, false, List, ◌∷◌, Result, Ok, Err, Option, Some, None}
-use Rattle.swf_value.specs.Expr.{Tree, Trees, count, list_of, index, object_of, if_then, apply}
-use Rattle.swf_value.specs.declared.builtin.Builtin.{Builtin}
+use Rattle.swf_expr.specs.Expr.{Tree, Trees, count, list_of, index, object_of, if_then, apply}
+use Rattle.swf_expr.specs.declared.builtin.Builtin.{Builtin}
 use Rattle.swf_jq_tokens.specs.Gives.{◌>>=◌}
 use Rattle.swf_jq_parse.specs.Joining.{Step, misplaced, reduce}
 use Rattle.swf_jq_parse.specs.Operand.{named}

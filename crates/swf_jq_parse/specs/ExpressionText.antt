@@ -1,7 +1,7 @@
 -- Which text is which expression.
 use Rattle.std.specs.Prelude.{◌≡◌, ◌≤◌, ◌⊎◌, ℕ, List, [], length}
 use Rattle.std.specs.Str.{encode_utf8_all}
-use Rattle.swf_value.specs.Expr.{Tree}
+use Rattle.swf_expr.specs.Expr.{Tree}
 use Rattle.swf_jq_parse.specs.Grammar.{Pipe}
 use Rattle.swf_jq_parse.specs.GrammarLaws.{tokens}
 use Rattle.swf_jq_tokens.specs.Lexer.{lex}

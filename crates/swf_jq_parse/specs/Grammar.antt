@@ -1,10 +1,10 @@
 -- The grammar of expressions, production by production, between token lists and trees (jq 1.7 manual).
 use Rattle.std.specs.Prelude.{◌≡◌, ℕ, pos, true, false, List, [], ◌∷◌, ◌++◌, Some}
-use Rattle.swf_value.specs.Expr.{Tree, Trees, no_trees, tree, count, Pairs, no_pairs, pair, here, lit, var, index, iterate, maybe, pipe, both, alt, or, and, binary, neg, empty_list, list_of, object_of, if_then, if_else, bind, apply}
+use Rattle.swf_expr.specs.Expr.{Tree, Trees, no_trees, tree, count, Pairs, no_pairs, pair, here, lit, var, index, iterate, maybe, pipe, both, alt, or, and, binary, neg, empty_list, list_of, object_of, if_then, if_else, bind, apply}
 use Rattle.swf_value.specs.Value.{null, boolean, int, text}
-use Rattle.swf_value.specs.declared.builtin.Builtin.{Builtin}
-use Rattle.swf_value.specs.declared.op.Op.{Op}
-use Rattle.swf_value.specs.declared.op.Op.TheVariants as ops
+use Rattle.swf_expr.specs.declared.builtin.Builtin.{Builtin}
+use Rattle.swf_expr.specs.declared.op.Op.{Op}
+use Rattle.swf_expr.specs.declared.op.Op.TheVariants as ops
 pub use Rattle.swf_jq_tokens.specs.Lexer.{Tokens}
 use Rattle.swf_jq_parse.specs.Member.{key_lit}
 use Rattle.swf_jq_parse.specs.Operand.{named}

@@ -1,6 +1,6 @@
 -- What is read is what the grammar has, and the other way round; where something is refused, nothing else could stand.
 use Rattle.std.specs.Prelude.{◌≡◌, ◌<◌, ◌⊎◌, ◌+◌, ◌-◌, ◌^◌, min, ℕ, List, [], ◌∷◌, ◌++◌, Ok, Err, None}
-use Rattle.swf_value.specs.Expr.{Tree, Trees, no_trees, count}
+use Rattle.swf_expr.specs.Expr.{Tree, Trees, no_trees, count}
 use Rattle.swf_jq_parse.specs.Grammar.{Tokens, Pipe, ArgumentsOf}
 use Rattle.swf_jq_parse.specs.Machine.{run, End, ends_at, fails_by}
 use Rattle.swf_jq_parse.specs.Operand.{named}

@@ -1,8 +1,8 @@
 -- Joining operands by what stands between them, the innermost first.
 use Rattle.std.specs.Prelude.{◌==◌, ◌&&◌, ℕ, Bool, true, false, nat_le, List, [], ◌∷◌, Result, Ok, Err, if◌then◌else◌}
-use Rattle.swf_value.specs.Expr.{Tree, pipe, both, alt, or, and, binary, neg, bind, if_else}
-use Rattle.swf_value.specs.declared.op.Op.{Op}
-use Rattle.swf_value.specs.declared.op.Op.TheVariants as ops
+use Rattle.swf_expr.specs.Expr.{Tree, pipe, both, alt, or, and, binary, neg, bind, if_else}
+use Rattle.swf_expr.specs.declared.op.Op.{Op}
+use Rattle.swf_expr.specs.declared.op.Op.TheVariants as ops
 use Rattle.swf_jq_parse.specs.Rows.{pair_last}
 use Rattle.swf_jq_tokens.specs.declared.fault.ParseFault.{ParseFault}
 use Rattle.swf_jq_tokens.specs.declared.fault.ParseFault.TheVariants as fault

@@ -8,9 +8,6 @@ pub mod Member
 pub mod Machine
 pub mod Parse
 pub mod Turn
-pub mod Print
-pub mod Printed
-pub mod ReadBack
 pub mod Grammar
 pub mod GrammarLaws
 pub mod ExpressionText

@@ -1,6 +1,6 @@
 -- One token after another, with all that is open and what may stand next.
 use Rattle.std.specs.Prelude.{⊤, ℕ, List, [], ◌∷◌, Result, Ok, Err}
-use Rattle.swf_value.specs.Expr.{Tree, here, no_trees}
+use Rattle.swf_expr.specs.Expr.{Tree, here, no_trees}
 use Rattle.swf_jq_tokens.specs.Gives.{◌>>=◌}
 pub use Rattle.swf_jq_tokens.specs.Lexer.{End, ends_at, fails_by}
 use Rattle.swf_jq_parse.specs.Closing.{applied}

@@ -1,6 +1,6 @@
 -- The members of an object (jq 1.7 manual, «Object Construction»).
 use Rattle.std.specs.Prelude.{ℕ, Bool, true, false, List, ◌∷◌, Result, Ok, Err, if◌then◌else◌}
-use Rattle.swf_value.specs.Expr.{Tree, Pairs, here, lit, var, index, object_of}
+use Rattle.swf_expr.specs.Expr.{Tree, Pairs, here, lit, var, index, object_of}
 use Rattle.swf_value.specs.Value.{text}
 use Rattle.swf_jq_tokens.specs.Gives.{◌>>=◌}
 use Rattle.swf_jq_parse.specs.Joining.{Step, misplaced}

@@ -2,11 +2,11 @@
 use Rattle.std.specs.Prelude.{◌+◌, ◌-◌, ◌^◌, min, ◌||◌, ℕ, Bool, true, false, pos, List, ◌∷◌, Result, Ok, Err, Option, if◌then◌else◌}
 use Rattle.std.specs.Str.{encode_utf8_all}
 use Rattle.std.specs.Option.{is_some}
-use Rattle.swf_value.specs.Builtin.{builtin_of}
-use Rattle.swf_value.specs.Expr.{here, lit, var, index, iterate, empty_list, no_pairs, Tree}
+use Rattle.swf_expr.specs.Builtin.{builtin_of}
+use Rattle.swf_expr.specs.Expr.{here, lit, var, index, iterate, empty_list, no_pairs, Tree}
 use Rattle.swf_value.specs.Value.{null, boolean, int, text}
-use Rattle.swf_value.specs.declared.builtin.Builtin.{Builtin}
-use Rattle.swf_value.specs.declared.op.Op.TheVariants as ops
+use Rattle.swf_expr.specs.declared.builtin.Builtin.{Builtin}
+use Rattle.swf_expr.specs.declared.op.Op.TheVariants as ops
 use Rattle.swf_jq_parse.specs.Joining.{Step, misplaced}
 use Rattle.swf_jq_parse.specs.TextPart.{open_text}
 use Rattle.swf_jq_tokens.specs.declared.fault.ParseFault.{ParseFault}

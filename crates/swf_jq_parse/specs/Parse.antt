@@ -1,7 +1,7 @@
 -- The expression that a text is, from its tokens on.
 use Rattle.std.specs.Prelude.{ℕ, List, [], ◌∷◌, Result, Err, length, nat_lt, if◌then◌else◌}
 use Rattle.std.specs.Str.{encode_utf8_all}
-use Rattle.swf_value.specs.Expr.{Tree}
+use Rattle.swf_expr.specs.Expr.{Tree}
 use Rattle.swf_jq_tokens.specs.Lexer.{Lexed, last, also, lex}
 use Rattle.swf_jq_parse.specs.Machine.{End, run}
 use Rattle.swf_jq_tokens.specs.declared.fault.ParseFault.{ParseFault}

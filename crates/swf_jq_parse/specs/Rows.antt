@@ -1,6 +1,6 @@
 -- Rows of arguments and members that grow at their end, and of what is open, innermost first.
 use Rattle.std.specs.Prelude.{◌≡◌, List, [], ◌∷◌, Option, Some, None}
-use Rattle.swf_value.specs.Expr.{Tree, Trees, no_trees, tree, Pairs, no_pairs, pair}
+use Rattle.swf_expr.specs.Expr.{Tree, Trees, no_trees, tree, Pairs, no_pairs, pair}
 
 -- one more argument at the end
 abbrev pub tree_last : Trees → Tree → Trees

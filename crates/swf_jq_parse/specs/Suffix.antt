@@ -1,6 +1,6 @@
 -- What may follow an operand.
 use Rattle.std.specs.Prelude.{◌+◌, ◌-◌, ◌^◌, min, ℕ, List, Ok}
-use Rattle.swf_value.specs.Expr.{Tree, here, lit, index, maybe}
+use Rattle.swf_expr.specs.Expr.{Tree, here, lit, index, maybe}
 use Rattle.swf_value.specs.Value.{text}
 use Rattle.swf_jq_parse.specs.Joining.{Step, misplaced, reduce, infix_at, pipe_next, comma_next, bind_next}
 use Rattle.swf_jq_parse.specs.TextPart.{open_text, resumed, closed}

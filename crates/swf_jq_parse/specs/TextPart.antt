@@ -1,9 +1,9 @@
 -- Texts with `\(`, piece by piece (jq 1.7 manual, «String interpolation»).
 use Rattle.std.specs.Prelude.{ℕ, true, List, [], ◌∷◌, Ok, Option, Some, None}
-use Rattle.swf_value.specs.Expr.{Tree, lit, index, pipe, binary, apply, no_trees}
+use Rattle.swf_expr.specs.Expr.{Tree, lit, index, pipe, binary, apply, no_trees}
 use Rattle.swf_value.specs.Value.{text}
-use Rattle.swf_value.specs.declared.builtin.Builtin.TheVariants as builtins
-use Rattle.swf_value.specs.declared.op.Op.TheVariants as ops
+use Rattle.swf_expr.specs.declared.builtin.Builtin.TheVariants as builtins
+use Rattle.swf_expr.specs.declared.op.Op.TheVariants as ops
 use Rattle.swf_jq_parse.specs.Joining.{Step, misplaced}
 use Rattle.swf_jq_parse.specs.declared.mode.Mode.{Mode}
 use Rattle.swf_jq_parse.specs.declared.mode.Mode.TheVariants as mode

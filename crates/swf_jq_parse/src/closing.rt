@@ -9,7 +9,7 @@ use crate::joining::reduce;
 use crate::mode::Mode;
 use crate::stack::{Arguments, Item, Pending, Stack};
 use std::alloc::Global;
-use swf_value::{Builtin, Expr, Name};
+use swf_expr::{Builtin, Expr, Name};
 
 /// A name with its arguments.
 #[tactic(auto, unfolding(crate::specs::Closing::applied, crate::specs::Closing::applied_to))]
@@ -24,15 +24,10 @@ pub fn apply_to(name: &Name, arguments: Arguments, at: usize) -> Result<Expr, Pa
 
 /// A `)` after an operand.
 #[tactic(auto, unfolding(crate::specs::Closing::paren_closed, crate::specs::Closing::paren_at))]
-pub fn close_paren(
-    alloc: Global,
-    stack: &mut Stack,
-    of: Expr,
-    at: usize,
-) -> Result<Mode, ParseFault>
+pub fn close_paren(stack: &mut Stack, of: Expr, at: usize) -> Result<Mode, ParseFault>
     ensures { Gives (λ m. (stack.new, m)) result (paren_closed at (reduce 0 stack.old of)) }
 {
-    let inner = reduce(alloc, stack, 0, of)?;
+    let inner = reduce(stack, 0, of)?;
     match stack.pop() {
         Some(Item::Paren) => Ok(Mode::Have(inner)),
         Some(Item::Key(members)) => Ok(Mode::AfterKey(members, inner, false)),
@@ -46,33 +41,23 @@ pub fn close_paren(
 
 /// A `]` after an operand.
 #[tactic(auto, unfolding(crate::specs::Closing::bracket_closed, crate::specs::Closing::bracket_at))]
-pub fn close_bracket(
-    alloc: Global,
-    stack: &mut Stack,
-    of: Expr,
-    at: usize,
-) -> Result<Mode, ParseFault>
+pub fn close_bracket(stack: &mut Stack, of: Expr, at: usize) -> Result<Mode, ParseFault>
     ensures { Gives (λ m. (stack.new, m)) result (bracket_closed at (reduce 0 stack.old of)) }
 {
-    let inner = reduce(alloc, stack, 0, of)?;
+    let inner = reduce(stack, 0, of)?;
     match stack.pop() {
-        Some(Item::List) => Ok(Mode::Have(Expr::list_of(alloc, inner)?)),
-        Some(Item::Index(of)) => Ok(Mode::Have(Expr::index(alloc, of, inner)?)),
+        Some(Item::List) => Ok(Mode::Have(Expr::list_of(stack.alloc(), inner)?)),
+        Some(Item::Index(of)) => Ok(Mode::Have(Expr::index(stack.alloc(), of, inner)?)),
         other => refuse(other, at),
     }
 }
 
 /// A `}` after an operand.
 #[tactic(auto, unfolding(crate::specs::Closing::brace_closed, crate::specs::Closing::brace_at))]
-pub fn close_brace(
-    alloc: Global,
-    stack: &mut Stack,
-    of: Expr,
-    at: usize,
-) -> Result<Mode, ParseFault>
+pub fn close_brace(stack: &mut Stack, of: Expr, at: usize) -> Result<Mode, ParseFault>
     ensures { Gives (λ m. (stack.new, m)) result (brace_closed at (reduce 0 stack.old of)) }
 {
-    let inner = reduce(alloc, stack, 0, of)?;
+    let inner = reduce(stack, 0, of)?;
     match stack.pop() {
         Some(Item::Value(members, key)) => {
             let members = members.with(key, Some(inner))?;
@@ -84,15 +69,10 @@ pub fn close_brace(
 
 /// A `;` after an operand.
 #[tactic(auto, unfolding(crate::specs::Closing::next_argument, crate::specs::Closing::argument_at))]
-pub fn next_argument(
-    alloc: Global,
-    stack: &mut Stack,
-    of: Expr,
-    at: usize,
-) -> Result<Mode, ParseFault>
+pub fn next_argument(stack: &mut Stack, of: Expr, at: usize) -> Result<Mode, ParseFault>
     ensures { Gives (λ m. (stack.new, m)) result (next_argument at (reduce 0 stack.old of)) }
 {
-    let inner = reduce(alloc, stack, 0, of)?;
+    let inner = reduce(stack, 0, of)?;
     match stack.pop() {
         Some(Item::Arguments(name, place, arguments)) => {
             let arguments = arguments.with(inner)?;
@@ -105,10 +85,10 @@ pub fn next_argument(
 
 /// A `then` after a condition.
 #[tactic(auto, unfolding(crate::specs::Closing::then_next, crate::specs::Closing::then_at))]
-pub fn then_next(alloc: Global, stack: &mut Stack, of: Expr, at: usize) -> Result<Mode, ParseFault>
+pub fn then_next(stack: &mut Stack, of: Expr, at: usize) -> Result<Mode, ParseFault>
     ensures { Gives (λ m. (stack.new, m)) result (then_next at (reduce 0 stack.old of)) }
 {
-    let inner = reduce(alloc, stack, 0, of)?;
+    let inner = reduce(stack, 0, of)?;
     match stack.pop() {
         Some(Item::If) => {
             stack.push(Item::Then(inner))?;
@@ -120,10 +100,10 @@ pub fn then_next(alloc: Global, stack: &mut Stack, of: Expr, at: usize) -> Resul
 
 /// An `elif` after a branch.
 #[tactic(auto, unfolding(crate::specs::Closing::elif_next, crate::specs::Closing::elif_at))]
-pub fn elif_next(alloc: Global, stack: &mut Stack, of: Expr, at: usize) -> Result<Mode, ParseFault>
+pub fn elif_next(stack: &mut Stack, of: Expr, at: usize) -> Result<Mode, ParseFault>
     ensures { Gives (λ m. (stack.new, m)) result (elif_next at (reduce 0 stack.old of)) }
 {
-    let inner = reduce(alloc, stack, 0, of)?;
+    let inner = reduce(stack, 0, of)?;
     match stack.pop() {
         Some(Item::Then(condition)) => {
             stack.push(Item::Pending(Pending::Branch(condition, inner)))?;
@@ -136,10 +116,10 @@ pub fn elif_next(alloc: Global, stack: &mut Stack, of: Expr, at: usize) -> Resul
 
 /// An `else` after a branch.
 #[tactic(auto, unfolding(crate::specs::Closing::else_next, crate::specs::Closing::else_at))]
-pub fn else_next(alloc: Global, stack: &mut Stack, of: Expr, at: usize) -> Result<Mode, ParseFault>
+pub fn else_next(stack: &mut Stack, of: Expr, at: usize) -> Result<Mode, ParseFault>
     ensures { Gives (λ m. (stack.new, m)) result (else_next at (reduce 0 stack.old of)) }
 {
-    let inner = reduce(alloc, stack, 0, of)?;
+    let inner = reduce(stack, 0, of)?;
     match stack.pop() {
         Some(Item::Then(condition)) => {
             stack.push(Item::Pending(Pending::Branch(condition, inner)))?;
@@ -152,16 +132,16 @@ pub fn else_next(alloc: Global, stack: &mut Stack, of: Expr, at: usize) -> Resul
 
 /// An `end` after the last branch.
 #[tactic(auto, unfolding(crate::specs::Closing::if_ended, crate::specs::Closing::end_at))]
-pub fn end_if(alloc: Global, stack: &mut Stack, of: Expr, at: usize) -> Result<Mode, ParseFault>
+pub fn end_if(stack: &mut Stack, of: Expr, at: usize) -> Result<Mode, ParseFault>
     ensures { Gives (λ m. (stack.new, m)) result (if_ended at (reduce 0 stack.old of)) }
 {
-    let inner = reduce(alloc, stack, 0, of)?;
+    let inner = reduce(stack, 0, of)?;
     match stack.pop() {
         Some(Item::Then(condition)) => {
-            let last = Expr::if_then(alloc, condition, inner)?;
-            Ok(Mode::Have(reduce(alloc, stack, 9, last)?))
+            let last = Expr::if_then(stack.alloc(), condition, inner)?;
+            Ok(Mode::Have(reduce(stack, 9, last)?))
         }
-        Some(Item::Else) => Ok(Mode::Have(reduce(alloc, stack, 9, inner)?)),
+        Some(Item::Else) => Ok(Mode::Have(reduce(stack, 9, inner)?)),
         other => refuse(other, at),
     }
 }

@@ -1,13 +1,13 @@
 // Joining operands by what stands between them.
 ghost use Rattle.std.specs.Prelude.{◌≡◌, ◌<◌, IfOk};
 ghost use Rattle.swf_jq_tokens.specs.Gives.{Gives};
-ghost use Rattle.swf_jq_parse.specs.Joining.{joint_level, level, joint_tree, joined, top_level, reduce, is_comparison, least, infix_at, in_value, item_in_value, pending_in_value, pipe_next, comma_next, value_end, may_bind, item_may_bind, pending_may_bind, bind_next};
+ghost use Rattle.swf_jq_parse.specs.Joining.{joint_level, level, joint_tree, joined, top_level, reduce, is_comparison, least, infix_at, in_value, pipe_next, comma_next, value_end, may_bind, bind_next};
 
 use crate::fault::{ParseFault, discard, refuse};
 use crate::mode::Mode;
 use crate::stack::{Item, Joint, Members, Pending, Stack};
 use std::alloc::{AllocError, Global};
-use swf_value::{Expr, Op};
+use swf_expr::{Expr, Op};
 
 /// How tightly a joint binds.
 #[tactic(auto, unfolding(crate::specs::Joining::joint_level))]
@@ -82,13 +82,13 @@ fn is_at_least(stack: &Stack, least: u8) -> bool
 
 /// The operand, joined with all that waits for it and binds at least this tightly.
 #[tactic(auto, unfolding(crate::specs::Joining::top_level))]
-pub fn reduce(alloc: Global, stack: &mut Stack, least: u8, of: Expr) -> Result<Expr, AllocError>
+pub fn reduce(stack: &mut Stack, least: u8, of: Expr) -> Result<Expr, AllocError>
     ensures { IfOk result (λ e. (stack.new, e) ≡ reduce least stack.old of) }
 {
     let mut value = of;
     while is_at_least(stack, least) {
         match stack.pop() {
-            Some(Item::Pending(pending)) => value = join(alloc, pending, value)?,
+            Some(Item::Pending(pending)) => value = join(stack.alloc(), pending, value)?,
             other => {
                 discard(other);
                 return Ok(value);
@@ -114,26 +114,17 @@ fn least(joint: Joint) -> u8
         Joint::Pipe | Joint::ValuePipe | Joint::Comma => 1,
         Joint::Alt | Joint::Or => 3,
         Joint::And => 4,
-        Joint::Op(op) => match op {
-            Op::Equal | Op::NotEqual | Op::Less | Op::AtMost | Op::Greater | Op::AtLeast => 6,
-            Op::Add | Op::Subtract => 6,
-            Op::Multiply | Op::Divide | Op::Modulo => 7,
-        },
+        Joint::Op(Op::Multiply | Op::Divide | Op::Modulo) => 7,
+        Joint::Op(_) => 6,
     }
 }
 
 /// A joint after an operand. Comparisons do not follow each other.
 #[tactic(auto, unfolding(crate::specs::Joining::infix_at))]
-pub fn infix(
-    alloc: Global,
-    stack: &mut Stack,
-    at: usize,
-    joint: Joint,
-    of: Expr,
-) -> Result<Mode, ParseFault>
+pub fn infix(stack: &mut Stack, at: usize, joint: Joint, of: Expr) -> Result<Mode, ParseFault>
     ensures { Gives (λ m. (stack.new, m)) result (infix_at stack.old at joint of) }
 {
-    let left = reduce(alloc, stack, least(joint), of)?;
+    let left = reduce(stack, least(joint), of)?;
     if is_comparison(joint) && is_at_least(stack, 5) {
         return Err(ParseFault::Syntax { at });
     }
@@ -142,43 +133,23 @@ pub fn infix(
 }
 
 /// Whether the innermost is a member's value, or a `|` in it.
-#[tactic(auto, unfolding(crate::specs::Joining::in_value))]
+#[tactic(auto, unfolding(crate::specs::Joining::in_value, crate::specs::Joining::item_in_value, crate::specs::Joining::pending_in_value))]
 fn in_value(stack: &Stack) -> bool
     ensures { result ≡ in_value stack.now }
 {
     match stack.top() {
-        Some(item) => item_in_value(item),
-        None => false,
-    }
-}
-
-#[tactic(auto, unfolding(crate::specs::Joining::item_in_value))]
-fn item_in_value(item: &Item) -> bool
-    ensures { result ≡ item_in_value item.now }
-{
-    match item {
-        Item::Value(_, _) => true,
-        Item::Pending(pending) => pending_in_value(pending),
-        _ => false,
-    }
-}
-
-#[tactic(auto, unfolding(crate::specs::Joining::pending_in_value))]
-fn pending_in_value(pending: &Pending) -> bool
-    ensures { result ≡ pending_in_value pending.now }
-{
-    match pending {
-        Pending::Left(joint, _) => *joint == Joint::ValuePipe,
+        Some(Item::Value(_, _)) => true,
+        Some(Item::Pending(Pending::Left(joint, _))) => *joint == Joint::ValuePipe,
         _ => false,
     }
 }
 
 /// A `|` after an operand.
 #[tactic(auto, unfolding(crate::specs::Joining::pipe_next))]
-pub fn pipe_next(alloc: Global, stack: &mut Stack, of: Expr) -> Result<Mode, ParseFault>
+pub fn pipe_next(stack: &mut Stack, of: Expr) -> Result<Mode, ParseFault>
     ensures { Gives (λ m. (stack.new, m)) result (pipe_next stack.old of) }
 {
-    let left = reduce(alloc, stack, 1, of)?;
+    let left = reduce(stack, 1, of)?;
     let joint = if in_value(stack) {
         Joint::ValuePipe
     } else {
@@ -190,10 +161,10 @@ pub fn pipe_next(alloc: Global, stack: &mut Stack, of: Expr) -> Result<Mode, Par
 
 /// A `,` that ends a member.
 #[tactic(auto, unfolding(crate::specs::Joining::value_end, crate::specs::Joining::value_ended))]
-fn end_value(alloc: Global, stack: &mut Stack, at: usize, of: Expr) -> Result<Mode, ParseFault>
+fn end_value(stack: &mut Stack, at: usize, of: Expr) -> Result<Mode, ParseFault>
     ensures { Gives (λ m. (stack.new, m)) result (value_end at (reduce 0 stack.old of)) }
 {
-    let value = reduce(alloc, stack, 0, of)?;
+    let value = reduce(stack, 0, of)?;
     match stack.pop() {
         Some(Item::Value(members, key)) => {
             let members = members.with(key, Some(value))?;
@@ -205,47 +176,27 @@ fn end_value(alloc: Global, stack: &mut Stack, at: usize, of: Expr) -> Result<Mo
 
 /// A `,` after an operand.
 #[tactic(auto, unfolding(crate::specs::Joining::comma_next))]
-pub fn comma_next(alloc: Global, stack: &mut Stack, at: usize, of: Expr) -> Result<Mode, ParseFault>
+pub fn comma_next(stack: &mut Stack, at: usize, of: Expr) -> Result<Mode, ParseFault>
     ensures { Gives (λ m. (stack.new, m)) result (comma_next stack.old at of) }
 {
-    let left = reduce(alloc, stack, 1, of)?;
+    let left = reduce(stack, 1, of)?;
     if in_value(stack) {
-        return end_value(alloc, stack, at, left);
+        return end_value(stack, at, left);
     }
     stack.push(Item::Pending(Pending::Left(Joint::Comma, left)))?;
     Ok(Mode::Want)
 }
 
 /// Whether an `as` may follow a first operand here.
-#[tactic(auto, unfolding(crate::specs::Joining::may_bind))]
+#[tactic(auto, unfolding(crate::specs::Joining::may_bind, crate::specs::Joining::item_may_bind, crate::specs::Joining::pending_may_bind))]
 fn may_bind(stack: &Stack) -> bool
     ensures { result ≡ may_bind stack.now }
 {
     match stack.top() {
-        Some(item) => item_may_bind(item),
-        None => true,
-    }
-}
-
-#[tactic(auto, unfolding(crate::specs::Joining::item_may_bind))]
-fn item_may_bind(item: &Item) -> bool
-    ensures { result ≡ item_may_bind item.now }
-{
-    match item {
-        Item::Value(_, _) => false,
-        Item::Pending(pending) => pending_may_bind(pending),
+        Some(Item::Pending(Pending::Left(joint, _))) => *joint == Joint::Pipe,
+        Some(Item::Pending(Pending::Bind(_, _))) => true,
+        Some(Item::Pending(_) | Item::Value(_, _)) => false,
         _ => true,
-    }
-}
-
-#[tactic(auto, unfolding(crate::specs::Joining::pending_may_bind))]
-fn pending_may_bind(pending: &Pending) -> bool
-    ensures { result ≡ pending_may_bind pending.now }
-{
-    match pending {
-        Pending::Left(joint, _) => *joint == Joint::Pipe,
-        Pending::Bind(_, _) => true,
-        _ => false,
     }
 }
 

@@ -1,4 +1,4 @@
-//! The text of expressions: reading it as a tree, and writing a tree as text.
+//! The text of expressions: reading it as a tree.
 #![tactic(auto)]
 
 mod closing;
@@ -10,7 +10,6 @@ mod member;
 mod mode;
 mod operand;
 mod parsing;
-mod printing;
 mod stack;
 mod suffix;
 mod text_part;
@@ -18,5 +17,4 @@ mod text_part;
 pub use fault::ParseFault;
 pub use laws::grammar_laws;
 pub use parsing::parse;
-pub use printing::print;
 pub use swf_jq_tokens::lexer_laws;

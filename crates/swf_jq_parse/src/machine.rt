@@ -13,29 +13,23 @@ use crate::operand::{index_start, list_start, want};
 use crate::stack::{Arguments, Item, Pending, Stack};
 use crate::suffix::{dotted, have, suffix};
 use std::alloc::Global;
+use swf_expr::{Expr, Name};
 use swf_jq_tokens::{Sign, Token};
-use swf_value::{Expr, Name};
 
 /// What may stand after a token.
 #[tactic(auto, unfolding(crate::specs::Machine::step))]
-pub fn step(
-    alloc: Global,
-    stack: &mut Stack,
-    mode: Mode,
-    at: usize,
-    token: Token,
-) -> Result<Mode, ParseFault>
+pub fn step(stack: &mut Stack, mode: Mode, at: usize, token: Token) -> Result<Mode, ParseFault>
     ensures { Gives (λ m. (stack.new, m)) result (step stack.old mode at token) }
 {
     match mode {
-        Mode::Want => want(alloc, stack, at, token),
-        Mode::ListStart => list_start(alloc, stack, at, token),
-        Mode::IndexStart(of) => index_start(alloc, stack, of, at, token),
-        Mode::Have(of) => have(alloc, stack, of, at, token),
-        Mode::Dotted => dotted(alloc, stack, at, token),
-        Mode::Suffix(of) => suffix(alloc, stack, of, at, token),
-        Mode::Called(name, place) => called_next(alloc, stack, name, place, at, token),
-        Mode::Member(members, first) => member(alloc, stack, members, first, at, token),
+        Mode::Want => want(stack, at, token),
+        Mode::ListStart => list_start(stack, at, token),
+        Mode::IndexStart(of) => index_start(stack, of, at, token),
+        Mode::Have(of) => have(stack, of, at, token),
+        Mode::Dotted => dotted(stack, at, token),
+        Mode::Suffix(of) => suffix(stack, of, at, token),
+        Mode::Called(name, place) => called_next(stack, name, place, at, token),
+        Mode::Member(members, first) => member(stack, members, first, at, token),
         Mode::AfterKey(members, key, alone) => after_key(stack, members, key, alone, at, token),
         Mode::MemberEnd(members) => member_end(members, at, token),
         Mode::WantVar(of) => var_next(of, at, token),
@@ -46,7 +40,6 @@ pub fn step(
 /// What may follow the name of a built-in.
 #[tactic(auto, unfolding(crate::specs::Machine::called_next))]
 fn called_next(
-    alloc: Global,
     stack: &mut Stack,
     name: Name,
     place: usize,
@@ -57,11 +50,11 @@ fn called_next(
 {
     match token {
         Token::Sign(Sign::LeftParen) => {
-            stack.push(Item::Arguments(name, place, Arguments::new(alloc)))?;
+            stack.push(Item::Arguments(name, place, Arguments::new(stack.alloc())))?;
             Ok(Mode::Want)
         }
-        token => match apply_to(&name, Arguments::new(alloc), place) {
-            Ok(of) => have(alloc, stack, of, at, token),
+        token => match apply_to(&name, Arguments::new(stack.alloc()), place) {
+            Ok(of) => have(stack, of, at, token),
             Err(fault) => fail(token, fault),
         },
     }
@@ -100,10 +93,10 @@ fn bar_next(
 
 /// The whole expression, where the text ends after this operand.
 #[tactic(auto, unfolding(crate::specs::Machine::whole, crate::specs::Machine::whole_at))]
-fn whole(alloc: Global, stack: &mut Stack, of: Expr, at: usize) -> Result<Expr, ParseFault>
+fn whole(stack: &mut Stack, of: Expr, at: usize) -> Result<Expr, ParseFault>
     ensures { Gives (λ e. e) result (whole at (reduce 0 stack.old of)) }
 {
-    let value = reduce(alloc, stack, 0, of)?;
+    let value = reduce(stack, 0, of)?;
     match stack.pop() {
         None => Ok(value),
         other => refuse(other, at),
@@ -112,15 +105,15 @@ fn whole(alloc: Global, stack: &mut Stack, of: Expr, at: usize) -> Result<Expr, 
 
 /// The expression, where the text ends.
 #[tactic(auto, unfolding(crate::specs::Machine::finish))]
-pub fn finish(alloc: Global, stack: &mut Stack, mode: Mode, at: usize) -> Result<Expr, ParseFault>
+pub fn finish(stack: &mut Stack, mode: Mode, at: usize) -> Result<Expr, ParseFault>
     ensures { Gives (λ e. e) result (finish stack.old mode at) }
 {
     match mode {
-        Mode::Have(of) => whole(alloc, stack, of, at),
-        Mode::Dotted => whole(alloc, stack, Expr::here(), at),
+        Mode::Have(of) => whole(stack, of, at),
+        Mode::Dotted => whole(stack, Expr::here(), at),
         Mode::Called(name, place) => {
-            let of = apply_to(&name, Arguments::new(alloc), place)?;
-            whole(alloc, stack, of, at)
+            let of = apply_to(&name, Arguments::new(stack.alloc()), place)?;
+            whole(stack, of, at)
         }
         other => refuse(other, at),
     }

@@ -9,8 +9,9 @@ use crate::operand::text_expr;
 use crate::stack::{Item, Members, Purpose, Stack};
 use crate::text_part::open_text;
 use std::alloc::{AllocError, Global};
+use swf_expr::{Expr, Name};
 use swf_jq_tokens::{Keyword, Sign, Token};
-use swf_value::{Expr, Name, Text};
+use swf_text::Text;
 
 /// The key that a keyword is.
 fn keyword_key(alloc: Global, keyword: Keyword) -> Result<Expr, AllocError>
@@ -33,7 +34,6 @@ fn bind_member(alloc: Global, members: Members, name: Name) -> Result<Mode, Pars
 /// A member after these, or the end where there is none yet.
 #[tactic(auto, unfolding(crate::specs::Member::member))]
 pub fn member(
-    alloc: Global,
     stack: &mut Stack,
     members: Members,
     first: bool,
@@ -45,12 +45,12 @@ pub fn member(
     match token {
         Token::Name(name) => Ok(Mode::AfterKey(members, text_expr(name.into_text()), true)),
         Token::Keyword(keyword) => {
-            let key = keyword_key(alloc, keyword)?;
+            let key = keyword_key(stack.alloc(), keyword)?;
             Ok(Mode::AfterKey(members, key, false))
         }
         Token::Text(text) => Ok(Mode::AfterKey(members, text_expr(text), true)),
         Token::TextOpen(text) => open_text(stack, Purpose::Key(members), text),
-        Token::Var(name) => bind_member(alloc, members, name),
+        Token::Var(name) => bind_member(stack.alloc(), members, name),
         Token::Sign(sign) => member_sign(stack, members, first, at, sign),
         other => refuse(other, at),
     }

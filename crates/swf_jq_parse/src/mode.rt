@@ -1,6 +1,6 @@
 // What may stand next.
 use crate::stack::Members;
-use swf_value::{Expr, Name};
+use swf_expr::{Expr, Name};
 
 /// What may stand next, beside what is open.
 #[derive(Drop)]

@@ -1,7 +1,7 @@
 // What may stand where an operand is wanted.
 ghost use Rattle.std.specs.Prelude.{◌≡◌, IfOk};
 ghost use Rattle.swf_value.specs.Value.{text as text_value};
-ghost use Rattle.swf_value.specs.Expr.{lit, index};
+ghost use Rattle.swf_expr.specs.Expr.{lit, index};
 ghost use Rattle.swf_jq_tokens.specs.Gives.{Gives};
 ghost use Rattle.swf_jq_parse.specs.Operand.{is_called, called, want, want_keyword, want_sign, list_start, index_start};
 
@@ -10,12 +10,14 @@ use crate::mode::Mode;
 use crate::stack::{Item, Members, Pending, Purpose, Stack};
 use crate::text_part::open_text;
 use std::alloc::{AllocError, Global};
+use swf_expr::{Builtin, Expr, Name, Op};
 use swf_jq_tokens::{Keyword, Sign, Token};
-use swf_value::{Builtin, Expr, Json, Name, Op, Text};
+use swf_text::Text;
+use swf_value::Json;
 
 /// An operand, or its beginning.
 #[tactic(auto, unfolding(crate::specs::Operand::want, crate::specs::Operand::want_name))]
-pub fn want(alloc: Global, stack: &mut Stack, at: usize, token: Token) -> Result<Mode, ParseFault>
+pub fn want(stack: &mut Stack, at: usize, token: Token) -> Result<Mode, ParseFault>
     ensures { Gives (λ m. (stack.new, m)) result (want stack.old at token) }
 {
     match token {
@@ -23,14 +25,14 @@ pub fn want(alloc: Global, stack: &mut Stack, at: usize, token: Token) -> Result
         Token::Dots => Err(ParseFault::Syntax {
             at: at.saturating_add(1),
         }),
-        Token::Field(name) => Ok(Mode::Have(field(alloc, Expr::here(), name)?)),
+        Token::Field(name) => Ok(Mode::Have(field(stack.alloc(), Expr::here(), name)?)),
         Token::Var(name) => Ok(Mode::Have(Expr::var(name))),
         Token::Name(name) => call(name, at),
         Token::Keyword(keyword) => want_keyword(stack, at, keyword),
         Token::Number(number) => Ok(Mode::Have(number.into_expr())),
         Token::Text(text) => Ok(Mode::Have(text_expr(text))),
         Token::TextOpen(text) => open_text(stack, Purpose::Operand, text),
-        Token::Sign(sign) => want_sign(alloc, stack, at, sign),
+        Token::Sign(sign) => want_sign(stack, at, sign),
         other => refuse(other, at),
     }
 }
@@ -88,7 +90,7 @@ fn want_keyword(stack: &mut Stack, at: usize, keyword: Keyword) -> Result<Mode, 
 }
 
 #[tactic(auto, unfolding(crate::specs::Operand::want_sign))]
-fn want_sign(alloc: Global, stack: &mut Stack, at: usize, sign: Sign) -> Result<Mode, ParseFault>
+fn want_sign(stack: &mut Stack, at: usize, sign: Sign) -> Result<Mode, ParseFault>
     ensures { Gives (λ m. (stack.new, m)) result (want_sign stack.old at sign) }
 {
     match sign {
@@ -97,7 +99,7 @@ fn want_sign(alloc: Global, stack: &mut Stack, at: usize, sign: Sign) -> Result<
             Ok(Mode::Want)
         }
         Sign::LeftBracket => Ok(Mode::ListStart),
-        Sign::LeftBrace => Ok(Mode::Member(Members::new(alloc), true)),
+        Sign::LeftBrace => Ok(Mode::Member(Members::new(stack.alloc()), true)),
         Sign::Op(Op::Subtract) => {
             stack.push(Item::Pending(Pending::Negate))?;
             Ok(Mode::Want)
@@ -108,39 +110,28 @@ fn want_sign(alloc: Global, stack: &mut Stack, at: usize, sign: Sign) -> Result<
 
 /// What begins a list: its end, or an operand.
 #[tactic(auto, unfolding(crate::specs::Operand::list_start))]
-pub fn list_start(
-    alloc: Global,
-    stack: &mut Stack,
-    at: usize,
-    token: Token,
-) -> Result<Mode, ParseFault>
+pub fn list_start(stack: &mut Stack, at: usize, token: Token) -> Result<Mode, ParseFault>
     ensures { Gives (λ m. (stack.new, m)) result (list_start stack.old at token) }
 {
     match token {
         Token::Sign(Sign::RightBracket) => Ok(Mode::Have(Expr::empty_list())),
         token => {
             stack.push(Item::List)?;
-            want(alloc, stack, at, token)
+            want(stack, at, token)
         }
     }
 }
 
 /// What begins an index: its end, or an operand.
 #[tactic(auto, unfolding(crate::specs::Operand::index_start))]
-pub fn index_start(
-    alloc: Global,
-    stack: &mut Stack,
-    of: Expr,
-    at: usize,
-    token: Token,
-) -> Result<Mode, ParseFault>
+pub fn index_start(stack: &mut Stack, of: Expr, at: usize, token: Token) -> Result<Mode, ParseFault>
     ensures { Gives (λ m. (stack.new, m)) result (index_start stack.old of at token) }
 {
     match token {
-        Token::Sign(Sign::RightBracket) => Ok(Mode::Have(Expr::iterate(alloc, of)?)),
+        Token::Sign(Sign::RightBracket) => Ok(Mode::Have(Expr::iterate(stack.alloc(), of)?)),
         token => {
             stack.push(Item::Index(of))?;
-            want(alloc, stack, at, token)
+            want(stack, at, token)
         }
     }
 }

@@ -14,8 +14,8 @@ use crate::machine::{check_called, finish, step};
 use crate::mode::Mode;
 use crate::stack::Stack;
 use std::alloc::{AllocError, Global};
+use swf_expr::Expr;
 use swf_jq_tokens::{Lexeme, Nest, is_blank, read_token};
-use swf_value::Expr;
 
 /// How many bytes an expression may have.
 const LONGEST: usize = 4096;
@@ -61,9 +61,9 @@ fn read(alloc: Global, chars: &[char]) -> Result<Expr, ParseFault>
     let mut at = 0;
     for _ in 0..chars.len() {
         match first_of(rest) {
-            None => return finish(alloc, &mut stack, mode, at),
+            None => return finish(&mut stack, mode, at),
             Some((first, tail)) => {
-                match advance(alloc, &mut stack, &mut nest, mode, first, tail, at) {
+                match advance(&mut stack, &mut nest, mode, first, tail, at) {
                     Ok(next) => {
                         mode = next.mode;
                         rest = next.rest;
@@ -74,7 +74,7 @@ fn read(alloc: Global, chars: &[char]) -> Result<Expr, ParseFault>
             }
         }
     }
-    finish(alloc, &mut stack, mode, at)
+    finish(&mut stack, mode, at)
 }
 
 /// The first character and those after it, if there is one.
@@ -90,7 +90,6 @@ fn first_of(rest: &[char]) -> Option<(char, &[char])>
 /// One token or blank further.
 #[tactic(auto, unfolding(crate::specs::Turn::turned))]
 fn advance<'a>(
-    alloc: Global,
     stack: &mut Stack,
     nest: &mut Nest,
     mode: Mode,
@@ -109,14 +108,13 @@ fn advance<'a>(
             at: at + 1,
         })
     } else {
-        token_turn(alloc, stack, nest, mode, first, tail, at)
+        token_turn(stack, nest, mode, first, tail, at)
     }
 }
 
 /// One token further.
 #[tactic(auto, unfolding(crate::specs::Turn::token_read))]
 fn token_turn<'a>(
-    alloc: Global,
     stack: &mut Stack,
     nest: &mut Nest,
     mode: Mode,
@@ -128,16 +126,16 @@ fn token_turn<'a>(
     ensures gives { Gives (λ t. reading stack.new nest.new t.mode t.at t.rest.now) result (token_read stack.old nest.old mode at first tail.now) }
     ensures within { IfOk result (λ t. t.at + 4 * length t.rest.now ≤ at + 4 + 4 * length tail.now) }
 {
-    match read_token(alloc, nest, first, tail, at) {
+    match read_token(stack.alloc(), nest, first, tail, at) {
         Ok(nested) => {
             let Lexeme {
                 token,
                 rest,
                 at: end,
             } = nested.lexeme;
-            let mode = step(alloc, stack, mode, at, token)?;
+            let mode = step(stack, mode, at, token)?;
             match nested.fault {
-                Some(fault) => Err(first_fault(alloc, mode, fault)),
+                Some(fault) => Err(first_fault(stack.alloc(), mode, fault)),
                 None => Ok(Turn {
                     mode,
                     rest,
@@ -145,7 +143,7 @@ fn token_turn<'a>(
                 }),
             }
         }
-        Err(fault) => Err(first_fault(alloc, mode, fault)),
+        Err(fault) => Err(first_fault(stack.alloc(), mode, fault)),
     }
 }
 

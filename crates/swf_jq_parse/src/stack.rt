@@ -3,7 +3,7 @@ ghost use Rattle.std.specs.Prelude.{◌≡◌};
 
 use std::alloc::{AllocError, Global};
 use std::marker::Model;
-use swf_value::{Builtin, Expr, ExprMember, Name, Op};
+use swf_expr::{Builtin, Expr, ExprMember, Name, Op};
 
 /// What stands between two operands.
 #[derive(Clone, Copy, Debug, PartialEq, Eq)]
@@ -72,22 +72,22 @@ pub struct Members {
 }
 
 impl Model for Members {
-    ghost use Rattle.swf_value.specs.Expr.{Pairs};
-    ghost use Rattle.swf_value.specs.ExprCode.{pairs_code};
+    ghost use Rattle.swf_expr.specs.Expr.{Pairs};
+    ghost use Rattle.swf_expr.specs.ExprCode.{pairs_code};
 
     ghost Value = { Pairs };
 
     ghost coded = { pairs_code };
 
-    ghost use Rattle.swf_value.specs.ExprNode.{pairs_of};
+    ghost use Rattle.swf_expr.specs.ExprNode.{pairs_of};
 
     ghost view = { λ m. pairs_of m.all.items };
 }
 
 impl Members {
     ghost use Rattle.std.specs.Prelude.{◌≡◌, IfOk};
-    ghost use Rattle.swf_value.specs.Expr.{no_pairs, object_of};
-    ghost use Rattle.swf_value.specs.ExprNode.{value_or_here};
+    ghost use Rattle.swf_expr.specs.Expr.{no_pairs, object_of};
+    ghost use Rattle.swf_expr.specs.ExprNode.{value_or_here};
     ghost use Rattle.swf_jq_parse.specs.Rows.{pair_last};
 
     pub fn new(alloc: Global) -> Members
@@ -121,22 +121,22 @@ pub struct Arguments {
 }
 
 impl Model for Arguments {
-    ghost use Rattle.swf_value.specs.Expr.{Trees};
-    ghost use Rattle.swf_value.specs.ExprCode.{trees_code};
+    ghost use Rattle.swf_expr.specs.Expr.{Trees};
+    ghost use Rattle.swf_expr.specs.ExprCode.{trees_code};
 
     ghost Value = { Trees };
 
     ghost coded = { trees_code };
 
-    ghost use Rattle.swf_value.specs.ExprNode.{trees_of};
+    ghost use Rattle.swf_expr.specs.ExprNode.{trees_of};
 
     ghost view = { λ m. trees_of m.all.items };
 }
 
 impl Arguments {
     ghost use Rattle.std.specs.Prelude.{◌≡◌, IfOk};
-    ghost use Rattle.swf_value.specs.Builtin.{arity};
-    ghost use Rattle.swf_value.specs.Expr.{no_trees, apply, count};
+    ghost use Rattle.swf_expr.specs.Builtin.{arity};
+    ghost use Rattle.swf_expr.specs.Expr.{no_trees, apply, count};
     ghost use Rattle.swf_jq_parse.specs.Rows.{tree_last};
 
     pub fn new(alloc: Global) -> Arguments
@@ -174,6 +174,7 @@ impl Arguments {
 /// All that is open, the innermost first.
 #[derive(Drop)]
 pub struct Stack {
+    alloc: Global,
     items: Vec<Item>,
 }
 
@@ -184,8 +185,8 @@ impl Model for Stack {
     ghost Value = { List Item };
 
     ghost use Rattle.std.specs.Coded.{codes};
-    ghost use Rattle.swf_value.specs.contracts.expr.Expr as expr;
-    ghost use Rattle.swf_value.specs.contracts.name.Name as name;
+    ghost use Rattle.swf_expr.specs.contracts.expr.Expr as expr;
+    ghost use Rattle.swf_expr.specs.contracts.name.Name as name;
     ghost use Rattle.swf_jq_parse.specs.contracts.stack.Members as members;
     ghost use Rattle.swf_jq_parse.specs.contracts.stack.Arguments as arguments;
 
@@ -202,8 +203,14 @@ impl Stack {
         ensures { result ≡ [] }
     {
         Stack {
+            alloc,
             items: Vec::new(alloc),
         }
+    }
+
+    /// Where memory comes from.
+    pub fn alloc(&self) -> Global {
+        self.alloc
     }
 
     /// Something is opened.

@@ -13,18 +13,12 @@ use crate::operand::{field, text_expr};
 use crate::stack::{Joint, Purpose, Stack};
 use crate::text_part::{close_text, open_text, resume_text};
 use std::alloc::Global;
+use swf_expr::Expr;
 use swf_jq_tokens::{Keyword, Sign, Token};
-use swf_value::Expr;
 
 /// Whatever may follow an operand.
 #[tactic(auto, unfolding(crate::specs::Suffix::have))]
-pub fn have(
-    alloc: Global,
-    stack: &mut Stack,
-    of: Expr,
-    at: usize,
-    token: Token,
-) -> Result<Mode, ParseFault>
+pub fn have(stack: &mut Stack, of: Expr, at: usize, token: Token) -> Result<Mode, ParseFault>
     ensures { Gives (λ m. (stack.new, m)) result (have stack.old of at token) }
 {
     match token {
@@ -32,18 +26,17 @@ pub fn have(
         Token::Dots => Err(ParseFault::Syntax {
             at: at.saturating_add(1),
         }),
-        Token::Field(name) => Ok(Mode::Have(field(alloc, of, name)?)),
-        Token::Keyword(keyword) => have_keyword(alloc, stack, of, at, keyword),
-        Token::TextMid(text) => resume_text(alloc, stack, of, at, text),
-        Token::TextClose(text) => close_text(alloc, stack, of, at, text),
-        Token::Sign(sign) => have_sign(alloc, stack, of, at, sign),
+        Token::Field(name) => Ok(Mode::Have(field(stack.alloc(), of, name)?)),
+        Token::Keyword(keyword) => have_keyword(stack, of, at, keyword),
+        Token::TextMid(text) => resume_text(stack, of, at, text),
+        Token::TextClose(text) => close_text(stack, of, at, text),
+        Token::Sign(sign) => have_sign(stack, of, at, sign),
         other => refuse(other, at),
     }
 }
 
 #[tactic(auto, unfolding(crate::specs::Suffix::have_keyword))]
 fn have_keyword(
-    alloc: Global,
     stack: &mut Stack,
     of: Expr,
     at: usize,
@@ -53,59 +46,42 @@ fn have_keyword(
 {
     match keyword {
         Keyword::As => bind_next(stack, at, of),
-        Keyword::Or => infix(alloc, stack, at, Joint::Or, of),
-        Keyword::And => infix(alloc, stack, at, Joint::And, of),
-        Keyword::Then => then_next(alloc, stack, of, at),
-        Keyword::Elif => elif_next(alloc, stack, of, at),
-        Keyword::Else => else_next(alloc, stack, of, at),
-        Keyword::End => end_if(alloc, stack, of, at),
-        Keyword::If => Err(ParseFault::Syntax { at }),
-        Keyword::Null => Err(ParseFault::Syntax { at }),
-        Keyword::True => Err(ParseFault::Syntax { at }),
-        Keyword::False => Err(ParseFault::Syntax { at }),
+        Keyword::Or => infix(stack, at, Joint::Or, of),
+        Keyword::And => infix(stack, at, Joint::And, of),
+        Keyword::Then => then_next(stack, of, at),
+        Keyword::Elif => elif_next(stack, of, at),
+        Keyword::Else => else_next(stack, of, at),
+        Keyword::End => end_if(stack, of, at),
+        _ => Err(ParseFault::Syntax { at }),
     }
 }
 
 #[tactic(auto, unfolding(crate::specs::Suffix::have_sign))]
-fn have_sign(
-    alloc: Global,
-    stack: &mut Stack,
-    of: Expr,
-    at: usize,
-    sign: Sign,
-) -> Result<Mode, ParseFault>
+fn have_sign(stack: &mut Stack, of: Expr, at: usize, sign: Sign) -> Result<Mode, ParseFault>
     ensures { Gives (λ m. (stack.new, m)) result (have_sign stack.old of at sign) }
 {
     match sign {
-        Sign::LeftParen => Err(ParseFault::Syntax { at }),
-        Sign::RightParen => close_paren(alloc, stack, of, at),
+        Sign::RightParen => close_paren(stack, of, at),
         Sign::LeftBracket => Ok(Mode::IndexStart(of)),
-        Sign::RightBracket => close_bracket(alloc, stack, of, at),
-        Sign::LeftBrace => Err(ParseFault::Syntax { at }),
-        Sign::RightBrace => close_brace(alloc, stack, of, at),
-        Sign::Comma => comma_next(alloc, stack, at, of),
-        Sign::Pipe => pipe_next(alloc, stack, of),
-        Sign::Semicolon => next_argument(alloc, stack, of, at),
-        Sign::Colon => Err(ParseFault::Syntax { at }),
-        Sign::Question => Ok(Mode::Have(Expr::maybe(alloc, of)?)),
-        Sign::Alternative => infix(alloc, stack, at, Joint::Alt, of),
-        Sign::Op(op) => infix(alloc, stack, at, Joint::Op(op), of),
+        Sign::RightBracket => close_bracket(stack, of, at),
+        Sign::RightBrace => close_brace(stack, of, at),
+        Sign::Comma => comma_next(stack, at, of),
+        Sign::Pipe => pipe_next(stack, of),
+        Sign::Semicolon => next_argument(stack, of, at),
+        Sign::Question => Ok(Mode::Have(Expr::maybe(stack.alloc(), of)?)),
+        Sign::Alternative => infix(stack, at, Joint::Alt, of),
+        Sign::Op(op) => infix(stack, at, Joint::Op(op), of),
+        _ => Err(ParseFault::Syntax { at }),
     }
 }
 
 /// What may follow an operand and a `.`.
 #[tactic(auto, unfolding(crate::specs::Suffix::suffix))]
-pub fn suffix(
-    alloc: Global,
-    stack: &mut Stack,
-    of: Expr,
-    at: usize,
-    token: Token,
-) -> Result<Mode, ParseFault>
+pub fn suffix(stack: &mut Stack, of: Expr, at: usize, token: Token) -> Result<Mode, ParseFault>
     ensures { Gives (λ m. (stack.new, m)) result (suffix stack.old of at token) }
 {
     match token {
-        Token::Text(text) => Ok(Mode::Have(Expr::index(alloc, of, text_expr(text))?)),
+        Token::Text(text) => Ok(Mode::Have(Expr::index(stack.alloc(), of, text_expr(text))?)),
         Token::TextOpen(text) => open_text(stack, Purpose::Index(of), text),
         Token::Sign(Sign::LeftBracket) => Ok(Mode::IndexStart(of)),
         other => refuse(other, at),
@@ -114,12 +90,12 @@ pub fn suffix(
 
 /// What may follow a `.` that is an operand.
 #[tactic(auto, unfolding(crate::specs::Suffix::dotted))]
-pub fn dotted(alloc: Global, stack: &mut Stack, at: usize, token: Token) -> Result<Mode, ParseFault>
+pub fn dotted(stack: &mut Stack, at: usize, token: Token) -> Result<Mode, ParseFault>
     ensures { Gives (λ m. (stack.new, m)) result (dotted stack.old at token) }
 {
     match token {
-        Token::Text(text) => Ok(Mode::Have(field(alloc, Expr::here(), text)?)),
+        Token::Text(text) => Ok(Mode::Have(field(stack.alloc(), Expr::here(), text)?)),
         Token::TextOpen(text) => open_text(stack, Purpose::Index(Expr::here()), text),
-        token => have(alloc, stack, Expr::here(), at, token),
+        token => have(stack, Expr::here(), at, token),
     }
 }

@@ -10,7 +10,8 @@ use crate::mode::Mode;
 use crate::operand::text_expr;
 use crate::stack::{Item, Purpose, Stack};
 use std::alloc::{AllocError, Global};
-use swf_value::{Builtin, Expr, Op, Text};
+use swf_expr::{Builtin, Expr, Op};
+use swf_text::Text;
 
 /// The sum so far, and one more piece.
 fn plus(alloc: Global, sum: Option<Expr>, piece: Expr) -> Result<Expr, AllocError>
@@ -64,20 +65,14 @@ pub fn open_text(stack: &mut Stack, purpose: Purpose, text: Text) -> Result<Mode
 
 /// The text from a `)` to the next `\(`.
 #[tactic(auto, unfolding(crate::specs::TextPart::resumed, crate::specs::TextPart::resumed_at))]
-pub fn resume_text(
-    alloc: Global,
-    stack: &mut Stack,
-    of: Expr,
-    at: usize,
-    text: Text,
-) -> Result<Mode, ParseFault>
+pub fn resume_text(stack: &mut Stack, of: Expr, at: usize, text: Text) -> Result<Mode, ParseFault>
     ensures { Gives (λ m. (stack.new, m)) result (resumed at text (reduce 0 stack.old of)) }
 {
-    let inner = reduce(alloc, stack, 0, of)?;
+    let inner = reduce(stack, 0, of)?;
     match stack.pop() {
         Some(Item::Text(purpose, sum)) => {
-            let sum = plus_piece(alloc, sum, inner)?;
-            let sum = plus_text(alloc, sum, text)?;
+            let sum = plus_piece(stack.alloc(), sum, inner)?;
+            let sum = plus_text(stack.alloc(), sum, text)?;
             stack.push(Item::Text(purpose, Some(sum)))?;
             Ok(Mode::Want)
         }
@@ -87,21 +82,15 @@ pub fn resume_text(
 
 /// The text from a `)` to its end.
 #[tactic(auto, unfolding(crate::specs::TextPart::closed, crate::specs::TextPart::closed_at))]
-pub fn close_text(
-    alloc: Global,
-    stack: &mut Stack,
-    of: Expr,
-    at: usize,
-    text: Text,
-) -> Result<Mode, ParseFault>
+pub fn close_text(stack: &mut Stack, of: Expr, at: usize, text: Text) -> Result<Mode, ParseFault>
     ensures { Gives (λ m. (stack.new, m)) result (closed at text (reduce 0 stack.old of)) }
 {
-    let inner = reduce(alloc, stack, 0, of)?;
+    let inner = reduce(stack, 0, of)?;
     match stack.pop() {
         Some(Item::Text(purpose, sum)) => {
-            let sum = plus_piece(alloc, sum, inner)?;
-            let sum = plus_text(alloc, sum, text)?;
-            end_text(alloc, purpose, sum)
+            let sum = plus_piece(stack.alloc(), sum, inner)?;
+            let sum = plus_text(stack.alloc(), sum, text)?;
+            end_text(stack.alloc(), purpose, sum)
         }
         other => refuse(other, at),
     }

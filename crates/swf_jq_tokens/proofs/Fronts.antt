@@ -2,8 +2,8 @@
 use Rattle.std.proofs.Common.{◌≡◌, ap, refl, ℕ, ◌+◌, ◌-◌, List, [], ◌∷◌, length, take, drop, map, Bool, true, false, Some, None, if◌then◌else◌, IsTrue, arith}
 use Rattle.std.proofs.lemmas.List.{take_all}
 use Rattle.std.specs.List.{list_all, list_any}
-use Rattle.swf_value.specs.Name.{starts_name, goes_on_name, is_word, is_keyword, is_name}
-use Rattle.swf_value.specs.Same.{same, is_ascii}
+use Rattle.swf_expr.specs.Name.{starts_name, goes_on_name, is_word, is_keyword, is_name}
+use Rattle.swf_text.specs.Same.{same, is_ascii}
 use Rattle.swf_jq_tokens.specs.Words.{front, after, word, after_word, keyword_text, all_keywords, keyword_in, keyword_of}
 use Rattle.swf_jq_tokens.specs.declared.token.Keyword.{Keyword}
 use Rattle.swf_jq_tokens.specs.declared.token.Keyword.TheVariants as keyword

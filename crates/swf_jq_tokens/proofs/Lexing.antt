@@ -3,8 +3,8 @@ use Rattle.std.proofs.Common.{◌≡◌, ◌∙◌, ◌==◌, ◌&&◌, ◌||◌
 use Rattle.std.proofs.lemmas.Bool.{cases_Bool}
 use Rattle.std.proofs.lemmas.Bool.Decides.{nat_tests}
 use Rattle.std.specs.List.{list_all}
-use Rattle.swf_value.specs.Name.{starts_name, goes_on_name}
-use Rattle.swf_value.specs.declared.op.Op.TheVariants as ops
+use Rattle.swf_expr.specs.Name.{starts_name, goes_on_name}
+use Rattle.swf_expr.specs.declared.op.Op.TheVariants as ops
 use Rattle.swf_jq_tokens.specs.Lexer.{Tokens}
 use Rattle.swf_jq_tokens.specs.Lexer.{Lexeme, lexeme, Lexed, last, also, Nested, Behind, lexed_of, lex_within, next, inside, opened, paren, unnested, other_sign, double_or, single, double_sign, single_sign, is_blank, word_or_name, word_token, dot, variable, unless_keyword}
 use Rattle.swf_jq_tokens.specs.Lexer.{End, ends_at, fails_by}

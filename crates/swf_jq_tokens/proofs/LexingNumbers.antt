@@ -4,7 +4,7 @@ use Rattle.std.proofs.lemmas.Bool.{cases_Bool}
 use Rattle.std.proofs.lemmas.Bool.Decides.{nat_tests}
 use Rattle.std.proofs.lemmas.Fmt.{decimal_by_steps, decimal_digit}
 use Rattle.std.specs.List.{list_all}
-use Rattle.swf_value.specs.Name.{starts_name, goes_on_name}
+use Rattle.swf_expr.specs.Name.{starts_name, goes_on_name}
 use Rattle.swf_jq_tokens.specs.Lexer.{Tokens}
 use Rattle.swf_jq_tokens.specs.Lexer.{lexeme, next, unnested, is_blank, decimal_from, goes_on, whole_number, digits, number}
 use Rattle.swf_jq_tokens.specs.Nest.{Nest}

@@ -1,6 +1,6 @@
 -- What stands after a token is no longer than what stands after the token's first character.
 use Rattle.std.proofs.Common.{◌≡◌, refl, subst, ℕ, zero, suc, ◌+◌, ◌^◌, ◌≤◌, List, [], ◌∷◌, ◌==◌, ◌&&◌, not, nat_lt, length, Bool, true, false, Option, Some, None, Result, Ok, Err, option_and_then, if◌then◌else◌, arith}
-use Rattle.swf_value.specs.Name.{starts_name}
+use Rattle.swf_expr.specs.Name.{starts_name}
 use Rattle.swf_jq_tokens.specs.Gives.{◌>>=◌}
 use Rattle.swf_jq_tokens.specs.Lexer.{Lexeme, lexeme, word_token, dot, unless_keyword, variable, decimal_from, whole_number, goes_on, digits, number, single_sign, double_sign, single, double_or, other_sign, Nested, Behind, opened, ended, text_begun, text, text_resumed, text_on, paren_of, paren, unnested, next}
 use Rattle.swf_jq_tokens.specs.Nest.{Nest, text_inside}

@@ -1,7 +1,7 @@
 -- The tokens of a text (jq 1.7 manual). Characters stand by their codes, and a place counts the bytes before it.
 use Rattle.std.specs.Prelude.{◌+◌, ◌-◌, ◌*◌, ◌^◌, ◌==◌, ◌&&◌, ◌||◌, ℕ, zero, suc, Bool, false, not, List, [], ◌∷◌, Option, Some, None, Result, Ok, Err, nat_lt, length, if◌then◌else◌}
-use Rattle.swf_value.specs.Name.{starts_name}
-use Rattle.swf_value.specs.declared.op.Op.TheVariants as ops
+use Rattle.swf_expr.specs.Name.{starts_name}
+use Rattle.swf_expr.specs.declared.op.Op.TheVariants as ops
 use Rattle.swf_jq_tokens.specs.Gives.{◌>>=◌}
 use Rattle.swf_jq_tokens.specs.Nest.{Nest, is_full, closed, text_inside}
 use Rattle.swf_jq_tokens.specs.Piece.{Piece, piece, piece_or_fault}

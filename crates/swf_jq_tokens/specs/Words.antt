@@ -1,7 +1,7 @@
 -- The keywords and their spelling, and the longest front of characters of a kind.
 use Rattle.std.specs.Prelude.{◌&&◌, ℕ, Bool, List, [], ◌∷◌, Option, Some, None, codes, nat_le, if◌then◌else◌}
-use Rattle.swf_value.specs.Name.{goes_on_name}
-use Rattle.swf_value.specs.Same.{same}
+use Rattle.swf_expr.specs.Name.{goes_on_name}
+use Rattle.swf_text.specs.Same.{same}
 use Rattle.swf_jq_tokens.specs.declared.token.Keyword.{Keyword}
 use Rattle.swf_jq_tokens.specs.declared.token.Keyword.TheVariants as keyword
 

@@ -13,7 +13,7 @@ use crate::signs::other_sign;
 use crate::token::{Sign, Token};
 use crate::words::{dot, starts_name, variable, word_token};
 use std::alloc::{AllocError, Global};
-use swf_value::TextBuilder;
+use swf_text::TextBuilder;
 
 /// Space, tab, CR and LF.
 pub fn is_blank(c: char) -> bool

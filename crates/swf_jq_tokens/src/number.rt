@@ -2,7 +2,8 @@
 ghost use Rattle.std.specs.Prelude.{◌≡◌, pos};
 
 use std::marker::Model;
-use swf_value::{Expr, Json};
+use swf_expr::Expr;
+use swf_value::Json;
 
 /// A whole number from 0 to 9007199254740991.
 #[derive(Drop)]
@@ -23,7 +24,7 @@ impl Model for Number {
 impl Number {
     ghost use Rattle.std.specs.Prelude.{◌≡◌, ◌<◌, ◌^◌, pos, IfSome, IfNone, ◌≤◌};
     ghost use Rattle.swf_value.specs.Value.{int};
-    ghost use Rattle.swf_value.specs.Expr.{lit};
+    ghost use Rattle.swf_expr.specs.Expr.{lit};
 
     /// The number of a value, where it is in range.
     pub fn new(value: u64) -> Option<Number>

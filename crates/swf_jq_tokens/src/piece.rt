@@ -6,7 +6,7 @@ ghost use Rattle.json.specs.Text.{code_unit, short_escape};
 
 use crate::fault::ParseFault;
 use std::alloc::Global;
-use swf_value::{Text, TextBuilder};
+use swf_text::{Text, TextBuilder};
 
 /// A piece of a text and what stands after it.
 #[derive(Drop)]

@@ -6,7 +6,7 @@ ghost use Rattle.swf_jq_tokens.specs.Lexer.{lexeme, double_sign, single_sign, si
 use crate::fault::ParseFault;
 use crate::lexeme::{Lexeme, sign};
 use crate::token::Sign;
-use swf_value::Op;
+use swf_expr::Op;
 
 /// A sign that is no bracket: of two characters, where they are one.
 #[tactic(auto, unfolding(crate::specs::Lexer::other_sign))]

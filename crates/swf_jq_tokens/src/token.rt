@@ -3,7 +3,8 @@ ghost use Rattle.std.specs.Prelude.{◌≡◌};
 ghost use Rattle.swf_jq_tokens.specs.Words.{keyword_text};
 
 use crate::number::Number;
-use swf_value::{Name, Op, Text};
+use swf_expr::{Name, Op};
+use swf_text::Text;
 
 /// A token.
 #[derive(Drop)]

@@ -1,6 +1,6 @@
 // Tokens with words: keywords, names, `.` and a name, `$` and a name.
 ghost use Rattle.std.specs.Prelude.{◌≡◌, ◌+◌, ◌*◌, ◌^◌, ◌<◌, ◌≤◌, ◌∷◌, length, true, IfOk, Ok};
-ghost use Rattle.swf_value.specs.Name.{starts_name, goes_on_name, is_word};
+ghost use Rattle.swf_expr.specs.Name.{starts_name, goes_on_name, is_word};
 ghost use Rattle.swf_jq_tokens.specs.Gives.{Gives};
 ghost use Rattle.swf_jq_tokens.specs.Lexer.{lexeme, word_or_name, word_token, dot, variable};
 ghost use Rattle.swf_jq_tokens.specs.Words.{word, after_word, keyword_in, keyword_of};
@@ -9,7 +9,8 @@ use crate::fault::ParseFault;
 use crate::lexeme::Lexeme;
 use crate::token::{Keyword, Token};
 use std::alloc::{AllocError, Global};
-use swf_value::{Name, Text, TextBuilder, is_word};
+use swf_expr::Name;
+use swf_text::{Text, TextBuilder, is_word};
 
 /// A word and what stands after it.
 #[derive(Drop)]

@@ -2,14 +2,14 @@
 use Rattle.std.proofs.Common.{◌≡◌, ◌∙◌, ◌∷◌, List, if◌then◌else◌, ap, sym, subst, refl, rules, true, false, codes, Some, None, arith}
 use Rattle.swf_value.specs.Node.{node_value, items_of}
 use Rattle.swf_value.specs.Value.{Value, boolean, list, object}
-use Rattle.swf_value.specs.ExprNode.{node_tree, value_or_here}
-use Rattle.swf_value.specs.declared.expr.ExprNode.TheVariants as nodes
+use Rattle.swf_expr.specs.ExprNode.{node_tree, value_or_here}
+use Rattle.swf_expr.specs.declared.expr.ExprNode.TheVariants as nodes
 use Rattle.swf_jq_builtins.specs.Builtins.{with_one}
-use Rattle.swf_jq_builtins.specs.Operations.{is_true, index_of, operate}
+use Rattle.swf_jq_builtins.specs.Operations.{is_true, index_of, operate, parts_of, negated}
 use Rattle.swf_jq_builtins.specs.Outcome.{several_of}
 use Rattle.swf_jq_eval.specs.Run.{Run, clean, gave, turn, gives, made, made_of, answered, over, spread, same_truth, until}
-use Rattle.swf_jq_eval.specs.Outputs.{run, node, with_argument, sorted_by, key_by}
-use Rattle.swf_jq_eval.specs.Names.{scope_of}
+use Rattle.swf_jq_eval.specs.Outputs.{run, node, with_argument, ranged, sorted_by, key_by}
+use Rattle.swf_jq_eval.specs.Names.{names}
 use Rattle.swf_jq_eval.specs.Chosen.{members_so_far}
 use Rattle.swf_jq_eval.specs.Goes.{Goes, Comes}
 use Rattle.std.specs.List.{list_any}
@@ -21,30 +21,30 @@ use Rattle.swf_jq_eval.proofs.+eval.Goals as goal
 
 pub call::all_of-returns-in-List : goal.call::all_of-returns-in-List
 call::all_of-returns-in-List t c =
-    let f = λ (x : Value). run c.args.of.now (scope_of c.args.scope.now) x in
-    let v : list (items_of c.in-List.items) ≡ c.args.input.now = sym (ap node_value c.in-List.is) ∙ c.node.ensures.value in
-    subst (λ s. Goes c.args.out.now s c.until.new.out c.until.result) (across_list (codes "cannot all") c.args.input.now c.in-List.items c.as_slice.result.now (until false f) v c.as_slice.ensures) c.until.ensures
+    let f = λ (x : Value). run c.args.of.now (names c.args.at.now) x in
+    let v : list (items_of c.in-List.items) ≡ c.args.at.now.input.now = sym (ap node_value c.in-List.is) ∙ c.node.ensures.value in
+    subst (λ s. Goes c.args.out.now s c.until.new.out c.until.result) (across_list (codes "cannot all") c.args.at.now.input.now c.in-List.items c.as_slice.result.now (until false f) v c.as_slice.ensures) c.until.ensures
 
 pub call::any_of-returns-in-List : goal.call::any_of-returns-in-List
 call::any_of-returns-in-List t c =
-    let f = λ (x : Value). run c.args.of.now (scope_of c.args.scope.now) x in
-    let v : list (items_of c.in-List.items) ≡ c.args.input.now = sym (ap node_value c.in-List.is) ∙ c.node.ensures.value in
-    subst (λ s. Goes c.args.out.now s c.until.new.out c.until.result) (across_list (codes "cannot any") c.args.input.now c.in-List.items c.as_slice.result.now (until true f) v c.as_slice.ensures) c.until.ensures
+    let f = λ (x : Value). run c.args.of.now (names c.args.at.now) x in
+    let v : list (items_of c.in-List.items) ≡ c.args.at.now.input.now = sym (ap node_value c.in-List.is) ∙ c.node.ensures.value in
+    subst (λ s. Goes c.args.out.now s c.until.new.out c.until.result) (across_list (codes "cannot any") c.args.at.now.input.now c.in-List.items c.as_slice.result.now (until true f) v c.as_slice.ensures) c.until.ensures
 
 pub call::sort_by-returns-in-List : goal.call::sort_by-returns-in-List
 call::sort_by-returns-in-List t c =
-    let f = λ (x : Value). run c.args.of.now (scope_of c.args.scope.now) x in
-    let v : list (items_of c.in-List.items) ≡ c.args.input.now = sym (ap node_value c.in-List.is) ∙ c.node.ensures.value in
-    subst (λ s. Goes c.args.out.now s c.sorted.new.out c.sorted.result) (across_list (codes "cannot sort_by") c.args.input.now c.in-List.items c.as_slice.result.now (sorted_by f) v c.as_slice.ensures) c.sorted.ensures
+    let f = λ (x : Value). run c.args.of.now (names c.args.at.now) x in
+    let v : list (items_of c.in-List.items) ≡ c.args.at.now.input.now = sym (ap node_value c.in-List.is) ∙ c.node.ensures.value in
+    subst (λ s. Goes c.args.out.now s c.sorted.new.out c.sorted.result) (across_list (codes "cannot sort_by") c.args.at.now.input.now c.in-List.items c.as_slice.result.now (sorted_by f) v c.as_slice.ensures) c.sorted.ensures
 
 pub call::call-returns-in-len2-up : goal.call::call-returns-in-len2-up
 call::call-returns-in-len2-up t c =
     subst (λ s. Goes c.args.out.now s c.ranges-in-len2-up.new.out c.ranges-in-len2-up.result)
-    (call_two c.args.builtin c.args.arguments.now c.from-item.result c.to-item.result c.args.input.now (scope_of c.args.scope.now) (omega (arith, c.in-len2-up.len_at_least)) c.from-item.is c.to-item.is)
+    (call_two c.args.builtin c.args.arguments.now c.from-item.result c.to-item.result c.args.at.now.input.now (names c.args.at.now) (omega (arith, c.in-len2-up.len_at_least)) c.from-item.is c.to-item.is)
     c.ranges-in-len2-up.ensures
 
 pub call::map-returns : goal.call::map-returns
-call::map-returns t c = c.make_list.ensures c.args.out.now _ (c.each_of-mapped.ensures _ c.parts.ensures)
+call::map-returns t c = c.gather.ensures c.args.out.now _ (c.each_of-mapped.ensures _ c.parts.ensures)
 
 pub call::with_entries-returns : goal.call::with_entries-returns
 call::with_entries-returns t c = c.rebuild.ensures c.args.out.now _ (c.each_of-outer.ensures _ c.entries_of-entries.ensures)
@@ -53,67 +53,86 @@ pub call::with_argument-returns-in_default : goal.call::with_argument-returns-in
 call::with_argument-returns-in_default t c =
     let d = c.in_default in
     let b = c.args.builtin in
-    let v = c.args.input.now in
-    subst (λ s. Goes c.args.out.now s c.apply_each.new.out c.apply_each.result)
-    (with_other b (λ x. run c.args.of.now (scope_of c.args.scope.now) x) v d.not-AnyOf d.not-AllOf d.not-Map d.not-WithEntries d.not-SortBy d.not-Select d.not-ErrorWith d.not-RangeTo d.not-FirstOf) c.apply_each.ensures
+    let v = c.args.at.now.input.now in
+    subst (λ s. Goes c.args.out.now s c.each_step-in_default.new.out c.each_step-in_default.result)
+    (with_other b (λ x. run c.args.of.now (names c.args.at.now) x) v d.not-AnyOf d.not-AllOf d.not-Map d.not-WithEntries d.not-SortBy d.not-Select d.not-ErrorWith d.not-RangeTo d.not-FirstOf) c.each_step-in_default.ensures
+
+pub call::with_argument-returns-in-RangeTo : goal.call::with_argument-returns-in-RangeTo
+call::with_argument-returns-in-RangeTo t c =
+    let f = λ (x : Value). run c.args.of.now (names c.args.at.now) x in
+    let v = c.args.at.now.input.now in
+    subst (λ s. Goes c.args.out.now s c.each_step-in-RangeTo-2.new.out c.each_step-in-RangeTo-2.result)
+    ((λ i. over (f v) (ranged (c.int.ensures i))) ∙ ap (λ b. with_argument b f v) (sym c.in-RangeTo.is)) c.each_step-in-RangeTo-2.ensures
 
 pub forms::list_of-returns : goal.forms::list_of-returns
-forms::list_of-returns t c = c.make_list.ensures c.args.out.now _ c.all.ensures
+forms::list_of-returns t c = c.gather.ensures c.args.out.now _ c.all.ensures
 
 pub object::values-returns-in-None : goal.object::values-returns-in-None
 object::values-returns-in-None t c =
-    let r = scope_of c.args.scope.now in
-    let v = c.args.input.now in
+    let r = names c.args.at.now in
+    let v = c.args.at.now.input.now in
     let k = c.args.key.now in
     subst (λ s. Comes c.args.out.now s c.members_of_input.new.out c.members_of_input.result)
     ((λ i. turn (over (run k r v) (λ y. over_one v (λ x. answered (index_of x y)) i))) ∙ ap (λ o. run (value_or_here k o) r v) (sym c.in-None.is)) c.members_of_input.ensures
 
 pub search::each_part-returns-in-Values : goal.search::each_part-returns-in-Values
 search::each_part-returns-in-Values t c =
-    let g = λ (x : Value). run c.args.expr.now (scope_of c.args.scope.now) x in
+    let g = λ (x : Value). run c.args.expr.now (names c.args.at.now) x in
     subst (λ s. Goes c.args.out.now s c.each.new.out c.each.result) (each_is_over c.in-Values.values.items g ∙ ap (λ a. over (spread (several_of a)) g) (sym c.in-Values.is))
     (c.each.ensures g (λ x o r o' h. h))
 
 pub search::each_key-returns : goal.search::each_key-returns
 search::each_key-returns t c =
-    let g = key_by (λ (x : Value). run c.args.expr.now (scope_of c.args.scope.now) x) in
+    let g = key_by (λ (x : Value). run c.args.expr.now (names c.args.at.now) x) in
     subst (λ s. Goes c.args.out.now s c.each.new.out c.each.result) (each_is_over _ g ∙ ap (λ vs. over (gave vs clean) g) c.in_ok-copies.ensures)
     (c.each.ensures g (λ x o r o' h. h))
 
 pub forms::level-returns-in-Index : goal.forms::level-returns-in-Index
 forms::level-returns-in-Index t c =
-    let r = scope_of c.args.scope.now in
-    let v = c.args.input.now in
+    let r = names c.args.at.now in
+    let v = c.args.at.now.input.now in
     subst (λ s. Goes c.args.out.now s c.index_by.new.out c.index_by.result) ((λ i. over (run (c.deref-in-Index.ensures i) r v) (λ y. over (run (c.deref.ensures i) r v) (λ x. answered (index_of x y)))) ∙ sym (ap (λ n. node (node_tree n) r v) (c.in-Index.is))) c.index_by.ensures
+
+pub forms::level-returns-in-Iterate : goal.forms::level-returns-in-Iterate
+forms::level-returns-in-Iterate t c =
+    let r = names c.args.at.now in
+    let v = c.args.at.now.input.now in
+    subst (λ s. Goes c.args.out.now s c.each_step.new.out c.each_step.result) ((λ i. over (run (c.deref-in-Iterate.ensures i) r v) (λ x. spread (parts_of x))) ∙ sym (ap (λ n. node (node_tree n) r v) (c.in-Iterate.is))) c.each_step.ensures
+
+pub forms::level-returns-in-Neg : goal.forms::level-returns-in-Neg
+forms::level-returns-in-Neg t c =
+    let r = names c.args.at.now in
+    let v = c.args.at.now.input.now in
+    subst (λ s. Goes c.args.out.now s c.each_step-in-Neg.new.out c.each_step-in-Neg.result) ((λ i. over (run (c.deref-in-Neg.ensures i) r v) (λ x. made_of (negated x))) ∙ sym (ap (λ n. node (node_tree n) r v) (c.in-Neg.is))) c.each_step-in-Neg.ensures
 
 pub forms::level-returns-in-Pipe : goal.forms::level-returns-in-Pipe
 forms::level-returns-in-Pipe t c =
-    let r = scope_of c.args.scope.now in
-    let v = c.args.input.now in
+    let r = names c.args.at.now in
+    let v = c.args.at.now.input.now in
     subst (λ s. Goes c.args.out.now s c.pipe.new.out c.pipe.result) ((λ i. over (run (c.deref-in-Pipe.ensures i) r v) (λ x. run (c.deref-in-Pipe-2.ensures i) r x)) ∙ sym (ap (λ n. node (node_tree n) r v) (c.in-Pipe.is))) c.pipe.ensures
 
 pub forms::level-returns-in-Or : goal.forms::level-returns-in-Or
 forms::level-returns-in-Or t c =
-    let r = scope_of c.args.scope.now in
-    let v = c.args.input.now in
-    subst (λ s. Goes c.args.out.now s c.or.new.out c.or.result) ((λ i. over (run (c.deref-in-Or.ensures i) r v) (λ x. if is_true x then made (boolean true) else over (run (c.deref-in-Or-2.ensures i) r v) (λ y. made (boolean (is_true y))))) ∙ sym (ap (λ n. node (node_tree n) r v) (c.in-Or.is))) c.or.ensures
+    let r = names c.args.at.now in
+    let v = c.args.at.now.input.now in
+    subst (λ s. Goes c.args.out.now s c.decide.new.out c.decide.result) ((λ i. over (run (c.deref-in-Or.ensures i) r v) (λ x. if is_true x then made (boolean true) else over (run (c.deref-in-Or-2.ensures i) r v) (λ y. made (boolean (is_true y))))) ∙ sym (ap (λ n. node (node_tree n) r v) (c.in-Or.is))) c.decide.ensures
 
 pub forms::level-returns-in-And : goal.forms::level-returns-in-And
 forms::level-returns-in-And t c =
-    let r = scope_of c.args.scope.now in
-    let v = c.args.input.now in
-    subst (λ s. Goes c.args.out.now s c.and.new.out c.and.result) ((λ i. over (run (c.deref-in-And.ensures i) r v) (λ x. if is_true x then over (run (c.deref-in-And-2.ensures i) r v) (λ y. made (boolean (is_true y))) else made (boolean false))) ∙ sym (ap (λ n. node (node_tree n) r v) (c.in-And.is))) c.and.ensures
+    let r = names c.args.at.now in
+    let v = c.args.at.now.input.now in
+    subst (λ s. Goes c.args.out.now s c.decide-in-And.new.out c.decide-in-And.result) ((λ i. over (run (c.deref-in-And.ensures i) r v) (λ x. if is_true x then over (run (c.deref-in-And-2.ensures i) r v) (λ y. made (boolean (is_true y))) else made (boolean false))) ∙ sym (ap (λ n. node (node_tree n) r v) (c.in-And.is))) c.decide-in-And.ensures
 
 pub forms::level-returns-in-Binary : goal.forms::level-returns-in-Binary
 forms::level-returns-in-Binary t c =
-    let r = scope_of c.args.scope.now in
-    let v = c.args.input.now in
+    let r = names c.args.at.now in
+    let v = c.args.at.now.input.now in
     subst (λ s. Goes c.args.out.now s c.binary.new.out c.binary.result) ((λ i. over (run (c.deref-in-Binary-2.ensures i) r v) (λ y. over (run (c.deref-in-Binary.ensures i) r v) (λ x. made_of (operate c.in-Binary.op x y)))) ∙ sym (ap (λ n. node (node_tree n) r v) (c.in-Binary.is))) c.binary.ensures
 
 pub forms::level-returns-in-Bind : goal.forms::level-returns-in-Bind
 forms::level-returns-in-Bind t c =
-    let r = scope_of c.args.scope.now in
-    let v = c.args.input.now in
+    let r = names c.args.at.now in
+    let v = c.args.at.now.input.now in
     subst (λ s. Goes c.args.out.now s c.bind.new.out c.bind.result) ((λ i. over (run (c.deref-in-Bind.ensures i) r v) (λ y. run (c.deref-in-Bind-2.ensures i) ((c.text-in-Bind.ensures.text i, y) ∷ r) v)) ∙ sym (ap (λ n. node (node_tree n) r v) (c.in-Bind.is))) c.bind.ensures
 
 pub object::keyed-over-over-requires : goal.object::keyed-over-over-requires
@@ -121,7 +140,7 @@ object::keyed-over-over-requires t c = search (rules, positive)
 
 pub search::until-returns-then-has_truth : goal.search::until-returns-then-has_truth
 search::until-returns-then-has_truth t c =
-    let f = λ (x : Value). run c.args.expr.now (scope_of c.args.scope.now) x in
+    let f = λ (x : Value). run c.args.expr.now (names c.args.at.now) x in
     let o = c.in_ok-values.field-0 in
     let seen : list_any (λ v. same_truth (is_true v) c.args.want) o.values.items ≡ true =
     ap (λ (w : List Value). list_any (λ v. same_truth (is_true v) c.args.want) w) (sym c.deref.ensures.value) ∙ sym c.has_truth.ensures ∙ c.if-has_truth.true in

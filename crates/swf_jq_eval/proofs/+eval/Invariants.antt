@@ -1,10 +1,10 @@
 -- How far the expressions are from being taken apart, and what has come of those of a search.
 use Rattle.std.proofs.Common.{◌≡◌, ◌+◌, ◌*◌, drop}
 use Rattle.std.specs.Option.{option_map_or}
-use Rattle.swf_value.specs.ExprNode.{node_tree, trees_of, pairs_of, value_or_here, weight, weight_trees, weight_pairs}
+use Rattle.swf_expr.specs.ExprNode.{node_tree, trees_of, pairs_of, value_or_here, weight, weight_trees, weight_pairs}
 use Rattle.swf_jq_eval.specs.Run.{until}
 use Rattle.swf_jq_eval.specs.Outputs.{run}
-use Rattle.swf_jq_eval.specs.Names.{scope_of}
+use Rattle.swf_jq_eval.specs.Names.{names}
 use Rattle.swf_jq_eval.specs.Goes.{ahead}
 use Rattle.swf_jq_eval.proofs.+eval.Given as goal
 
@@ -20,9 +20,6 @@ decreases-forms::all l = 16 * weight l.expr.now + 2
 abbrev pub decreases-forms::index_by : goal.decreases-forms::index_by
 decreases-forms::index_by l = 16 * (weight l.of.now + weight l.key.now) + 20
 
-abbrev pub decreases-forms::iterate : goal.decreases-forms::iterate
-decreases-forms::iterate l = 16 * (weight l.of.now) + 20
-
 abbrev pub decreases-forms::maybe : goal.decreases-forms::maybe
 decreases-forms::maybe l = 16 * (weight l.of.now) + 20
 
@@ -35,17 +32,8 @@ decreases-forms::both l = 16 * (weight l.left.now + weight l.right.now) + 20
 abbrev pub decreases-forms::alternative : goal.decreases-forms::alternative
 decreases-forms::alternative l = 16 * (weight l.left.now + weight l.right.now) + 20
 
-abbrev pub decreases-forms::or : goal.decreases-forms::or
-decreases-forms::or l = 16 * (weight l.left.now + weight l.right.now) + 20
-
-abbrev pub decreases-forms::and : goal.decreases-forms::and
-decreases-forms::and l = 16 * (weight l.left.now + weight l.right.now) + 20
-
 abbrev pub decreases-forms::binary : goal.decreases-forms::binary
 decreases-forms::binary l = 16 * (weight l.left.now + weight l.right.now) + 20
-
-abbrev pub decreases-forms::negative : goal.decreases-forms::negative
-decreases-forms::negative l = 16 * (weight l.of.now) + 20
 
 abbrev pub decreases-forms::list_of : goal.decreases-forms::list_of
 decreases-forms::list_of l = 16 * (weight l.of.now) + 20
@@ -53,17 +41,8 @@ decreases-forms::list_of l = 16 * (weight l.of.now) + 20
 abbrev pub decreases-forms::choose : goal.decreases-forms::choose
 decreases-forms::choose l = 16 * (weight l.condition.now + weight l.first.now + option_map_or (λ e. weight e.value) l.second.now 0) + 22
 
-abbrev pub decreases-forms::if_then : goal.decreases-forms::if_then
-decreases-forms::if_then l = 16 * (weight l.condition.now + weight l.first.now) + 20
-
-abbrev pub decreases-forms::if_else : goal.decreases-forms::if_else
-decreases-forms::if_else l = 16 * (weight l.condition.now + weight l.first.now + weight l.second.now) + 20
-
 abbrev pub decreases-forms::bind : goal.decreases-forms::bind
 decreases-forms::bind l = 16 * (weight l.of.now + weight l.inside.now) + 20
-
-abbrev pub decreases-forms::truths : goal.decreases-forms::truths
-decreases-forms::truths l = 16 * weight l.of.now + 4
 
 abbrev pub decreases-forms::index_by-over : goal.decreases-forms::index_by-over
 decreases-forms::index_by-over l = 16 * (weight l.of.now) + 6
@@ -71,20 +50,8 @@ decreases-forms::index_by-over l = 16 * (weight l.of.now) + 6
 abbrev pub decreases-forms::pipe-over : goal.decreases-forms::pipe-over
 decreases-forms::pipe-over l = 16 * (weight l.right.now) + 6
 
-abbrev pub decreases-forms::or-over : goal.decreases-forms::or-over
-decreases-forms::or-over l = 16 * (weight l.right.now) + 6
-
-abbrev pub decreases-forms::and-over : goal.decreases-forms::and-over
-decreases-forms::and-over l = 16 * (weight l.right.now) + 6
-
 abbrev pub decreases-forms::binary-over : goal.decreases-forms::binary-over
 decreases-forms::binary-over l = 16 * (weight l.left.now) + 6
-
-abbrev pub decreases-forms::if_then-over : goal.decreases-forms::if_then-over
-decreases-forms::if_then-over l = 16 * (weight l.first.now) + 6
-
-abbrev pub decreases-forms::if_else-over : goal.decreases-forms::if_else-over
-decreases-forms::if_else-over l = 16 * (weight l.first.now + weight l.second.now) + 6
 
 abbrev pub decreases-forms::bind-over : goal.decreases-forms::bind-over
 decreases-forms::bind-over l = 16 * (weight l.inside.now) + 6
@@ -104,26 +71,14 @@ decreases-call::all_of l = 16 * weight l.of.now + 30
 abbrev pub decreases-call::map : goal.decreases-call::map
 decreases-call::map l = 16 * weight l.of.now + 30
 
-abbrev pub decreases-call::select : goal.decreases-call::select
-decreases-call::select l = 16 * weight l.of.now + 30
-
-abbrev pub decreases-call::error_with : goal.decreases-call::error_with
-decreases-call::error_with l = 16 * weight l.of.now + 30
-
 abbrev pub decreases-call::with_entries : goal.decreases-call::with_entries
 decreases-call::with_entries l = 16 * weight l.of.now + 30
 
 abbrev pub decreases-call::sort_by : goal.decreases-call::sort_by
 decreases-call::sort_by l = 16 * weight l.of.now + 30
 
-abbrev pub decreases-call::range_to : goal.decreases-call::range_to
-decreases-call::range_to l = 16 * weight l.of.now + 30
-
 abbrev pub decreases-call::first_of : goal.decreases-call::first_of
 decreases-call::first_of l = 16 * weight l.of.now + 30
-
-abbrev pub decreases-call::apply_each : goal.decreases-call::apply_each
-decreases-call::apply_each l = 16 * weight l.of.now + 30
 
 abbrev pub decreases-call::ranges : goal.decreases-call::ranges
 decreases-call::ranges l = 16 * (weight l.from.now + weight l.to.now) + 30
@@ -182,9 +137,21 @@ decreases-object::members_of_input l = 16 * weight l.key.now + 53
 abbrev pub decreases-object::member_of_input : goal.decreases-object::member_of_input
 decreases-object::member_of_input l = 16 * weight l.key.now + 40
 
-abbrev pub decreases-object::at_keys : goal.decreases-object::at_keys
-decreases-object::at_keys l = 16 * weight l.key.now + 30
+abbrev pub decreases-forms::decide : goal.decreases-forms::decide
+decreases-forms::decide l = 16 * (weight l.left.now + weight l.right.now) + 20
+
+abbrev pub decreases-forms::decide-over : goal.decreases-forms::decide-over
+decreases-forms::decide-over l = 16 * weight l.right.now + 10
+
+abbrev pub decreases-forms::choose-over : goal.decreases-forms::choose-over
+decreases-forms::choose-over l = 16 * (weight l.first.now + option_map_or (λ e. weight e.value) l.second.now 0) + 10
+
+abbrev pub decreases-forms::otherwise : goal.decreases-forms::otherwise
+decreases-forms::otherwise l = 16 * option_map_or (λ e. weight e.value) l.second.now 0 + 8
+
+abbrev pub decreases-steps::each_step : goal.decreases-steps::each_step
+decreases-steps::each_step l = 16 * weight l.of.now + 4
 
 abbrev pub invariant-search::until-loop-x : goal.invariant-search::until-loop-x
 invariant-search::until-loop-x l =
-    ahead l.out (until l.want (λ x. run l.expr (scope_of l.scope) x) (drop l.x-index l.values)) ≡ ahead l.fn.out (until l.want (λ x. run l.expr (scope_of l.scope) x) l.values)
+    ahead l.out (until l.want (λ x. run l.expr (names l.at) x) (drop l.x-index l.values)) ≡ ahead l.fn.out (until l.want (λ x. run l.expr (names l.at) x) l.values)

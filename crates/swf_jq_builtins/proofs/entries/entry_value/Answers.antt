@@ -1,7 +1,7 @@
 use Rattle.std.proofs.Common.{◌≡◌, ◌∙◌, ap, sym, refl, codes, Some, unwrap_or}
 use Rattle.swf_value.specs.Members.{member_at}
 use Rattle.swf_value.specs.Value.{null}
-use Rattle.swf_value.proofs.SameLemmas.{chars_ascii}
+use Rattle.swf_text.proofs.SameLemmas.{chars_ascii}
 use Rattle.swf_jq_builtins.proofs.entries.entry_value.Goals as goal
 
 pub returns-in-Some : goal.returns-in-Some

@@ -1,9 +1,7 @@
-use Rattle.std.proofs.Common.{◌<◌, arith, length}
-use Rattle.swf_jq_builtins.proofs.Onces.{once_step}
+use Rattle.std.proofs.Common.{rules, ◌∙◌}
+use Rattle.std.proofs.lemmas.Fn.{dedup_same}
+use Rattle.swf_jq_builtins.proofs.Onces.{equals_before, dedup_is}
 use Rattle.swf_jq_builtins.proofs.sorting.once.Goals as goal
 
-pub loop-i-preserved : goal.loop-i-preserved
-loop-i-preserved c =
-    let xs = c.args.values.now in
-    let h : c.loop-i.i < length xs = omega arith in
-    once_step xs c.loop-i.kept.items _ c.loop-i.i _ h c.loop-i.invariant c.in_ok-keep_other.ensures
+pub returns : goal.returns
+returns c = dedup_same _ equals_before _ (λ x y b f' x' y' k. search rules) _ _ c.dedup_by.ensures.filtered ∙ dedup_is _

@@ -1,5 +1,5 @@
 use Rattle.std.proofs.Common.{◌∙◌, ap, chars}
-use Rattle.swf_value.specs.Expr.{lit}
+use Rattle.swf_expr.specs.Expr.{lit}
 use Rattle.swf_value.specs.Value.{text}
 use Rattle.swf_jq_parse.proofs.Rows.{keyword_chars}
 use Rattle.swf_jq_parse.proofs.member.keyword_key.Goals as goal

@@ -1,6 +1,6 @@
 use Rattle.std.proofs.Common.{◌≡◌, ◌∙◌, ap, subst, IfOk}
-use Rattle.swf_value.specs.Expr.{Tree, binary}
-use Rattle.swf_value.specs.declared.op.Op.TheVariants as ops
+use Rattle.swf_expr.specs.Expr.{Tree, binary}
+use Rattle.swf_expr.specs.declared.op.Op.TheVariants as ops
 use Rattle.swf_jq_parse.proofs.Rows.{plus-empty, plus-filled}
 use Rattle.swf_jq_parse.proofs.text_part.plus_text.Goals as goal
 

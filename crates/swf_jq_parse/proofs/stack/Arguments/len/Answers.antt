@@ -1,5 +1,5 @@
 use Rattle.std.proofs.Common.{◌∙◌, ap, sym, length}
-use Rattle.swf_value.specs.Expr.{count}
+use Rattle.swf_expr.specs.Expr.{count}
 use Rattle.swf_jq_parse.proofs.Rows.{count-trees_of}
 use Rattle.swf_jq_parse.proofs.stack.Arguments.len.Goals as goal
 

@@ -1,5 +1,5 @@
 use Rattle.std.proofs.Common.{◌∙◌, ap}
-use Rattle.swf_value.specs.ExprNode.{trees_of}
+use Rattle.swf_expr.specs.ExprNode.{trees_of}
 use Rattle.swf_jq_parse.specs.Rows.{tree_last}
 use Rattle.swf_jq_parse.proofs.Rows.{trees_of-last}
 use Rattle.swf_jq_parse.proofs.stack.Arguments.with.Goals as goal

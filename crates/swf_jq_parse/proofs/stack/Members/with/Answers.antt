@@ -1,5 +1,5 @@
 use Rattle.std.proofs.Common.{◌∙◌, ap}
-use Rattle.swf_value.specs.ExprNode.{pairs_of, value_or_here}
+use Rattle.swf_expr.specs.ExprNode.{pairs_of, value_or_here}
 use Rattle.swf_jq_parse.specs.Rows.{pair_last}
 use Rattle.swf_jq_parse.proofs.Rows.{pairs_of-last}
 use Rattle.swf_jq_parse.proofs.stack.Members.with.Goals as goal

@@ -1,6 +1,0 @@
-use Rattle.std.proofs.Common.{◌≡◌, map, take}
-use Rattle.std.specs.Char.{to_ascii_lowercase}
-use Rattle.swf_jq_builtins.proofs.strings.lower_text.Given as goal
-
-abbrev pub invariant-loop-character : goal.invariant-loop-character
-invariant-loop-character l = l.draft ≡ map to_ascii_lowercase (take l.character-index l.character-items)

@@ -1,0 +1,5 @@
+pub mod Literals
+pub mod PrintingSteps
+pub mod Printed
+pub mod TextReading
+pub mod ReadBack
