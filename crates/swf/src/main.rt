@@ -5,7 +5,7 @@ use std::env;
 use std::io::{self, BufReader, ErrorKind};
 use std::process::ExitCode;
 use std::rt::Env;
-use swf_cli::{is_session, swf_run};
+use swf_cli::{read_words, swf_run};
 use swf_host::ConsoleHost;
 use swf_store::{FileStore, StoreFault};
 
@@ -25,8 +25,10 @@ fn main(rt: HostRuntime) -> ExitCode {
         Err(status) => return ExitCode::from(status),
     };
     // Nothing is made where the words have no meaning.
-    if !is_session(&words) {
-        return ExitCode::from(NO_MEANING);
+    match read_words(alloc, &words) {
+        Ok(Some(_)) => {}
+        Ok(None) => return ExitCode::from(NO_MEANING),
+        Err(_) => return ExitCode::from(NO_MEMORY),
     }
     let Ok(reader) = BufReader::new(alloc, rt.reader()) else {
         return ExitCode::from(NO_MEMORY);

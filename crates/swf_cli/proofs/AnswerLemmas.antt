@@ -1,6 +1,11 @@
 -- What a call of the engine is to a line of a session.
-use Rattle.std.proofs.Common.{◌≡◌, ◌∙◌, ap, sym, refl, subst, ◌⊎◌, inl, inr, ⊎_elim, ℕ, ◌≤◌, List, [], ◌∷◌, ◌++◌, length, length-append, ◌^◌, Bool, true, false, Option, Some, None, Ok, Err, Result, IfOk, arith, if◌then◌else◌}
+use Rattle.std.proofs.Common.{◌≡◌, ◌∙◌, ap, sym, refl, subst, ◌⊎◌, inl, inr, ⊎_elim, ℕ, ◌≤◌, List, [], ◌∷◌, ◌++◌, length, length-append, ◌^◌, append-nil, Bool, true, false, Option, Some, None, unwrap_or, Ok, Err, Result, IfOk, arith, if◌then◌else◌}
 use Rattle.std.specs.List.{AllByRecursion}
+use Rattle.std.specs.Option.{ForSome}
+use Rattle.swf_value.specs.Value.{Value}
+use Rattle.swf_store.specs.Disk.{NothingNew}
+use Rattle.swf_store.specs.Stops.{LeavesOnly}
+use Rattle.swf_store.proofs.Moments.{weaker_only}
 use Rattle.swf_store.specs.declared.image.Image.{Image}
 use Rattle.swf_store.specs.declared.said.Piece.{Piece}
 use Rattle.swf_store.specs.Said.{IsSaid}
@@ -8,11 +13,16 @@ use Rattle.swf_meaning.specs.declared.label.Label.{Label}
 use Rattle.swf_meaning.specs.declared.label.Outcome.{Outcome}
 use Rattle.swf_meaning.specs.declared.label.Outcome.TheVariants.{Load, Start}
 use Rattle.swf_meaning.specs.declared.label.Query.{Query}
+use Rattle.swf_meaning.specs.declared.label.Query.TheVariants.{Status as OfStatus, History as OfHistory}
+use Rattle.swf_meaning.specs.declared.label.Answer.{Answer}
+use Rattle.swf_meaning.specs.Answer.{status}
 use Rattle.swf_meaning.specs.Runs.{run, world_at, is_quiet}
 use Rattle.swf_meaning.specs.World.{World}
 use Rattle.swf_meaning.proofs.RunLemmas.{world_of_run}
 use Rattle.swf_record.specs.Encodes.{Nests}
-use Rattle.swf_world.specs.Answers.{answer}
+use Rattle.swf_world.specs.Answers.{answer, found}
+use Rattle.swf_world.specs.declared.query.QueryFault.{QueryFault}
+use Rattle.swf_world.specs.declared.query.QueryFault.TheVariants.{OutOfMemory as NoMemory}
 use Rattle.swf_world.specs.Latest.{label_of}
 use Rattle.swf_world.specs.Refusals.{refusal}
 use Rattle.swf_world.specs.declared.refusal.Refusal.{Refusal}
@@ -25,7 +35,9 @@ use Rattle.swf_engine.specs.declared.fault.EngineFault.TheVariants.{Store, Damag
 use Rattle.swf_engine.specs.Answers.{Submits, Settles, Stays, IsSmallRefusal}
 use Rattle.swf_engine.specs.Causes.{EngineCause, WhereUsable}
 use Rattle.swf_engine.specs.Core.{Core, StandFor}
-use Rattle.swf_engine.specs.History.{Begins}
+use Rattle.swf_engine.specs.History.{Begins, IsGrown}
+use Rattle.swf_engine.specs.Retelling.{AnswersQuery}
+use Rattle.swf_engine.proofs.HistoryLemmas.{left_history, not_grown}
 use Rattle.swf_engine.specs.Moves.{Adds, Breaks, IsStep, AreSteps}
 use Rattle.swf_engine.proofs.MoveLemmas.{some_of, stays_adds}
 use Rattle.swf_protocol.specs.Line.{is_quit}
@@ -36,8 +48,9 @@ use Rattle.swf_protocol.specs.declared.command.LineFault.{LineFault}
 use Rattle.swf_protocol.specs.declared.reply.Reply.{Reply}
 use Rattle.swf_protocol.specs.declared.reply.Reply.TheVariants.{Loaded, Started, Memory}
 use Rattle.swf_cli.specs.Follows.{MayAdd}
-use Rattle.swf_cli.specs.Steps.{CommandDone, LineDone, IsFilled, IsBreak, or_memory}
+use Rattle.swf_cli.specs.Steps.{CommandDone, LineDone, Passes, Stand, IsFilled, IsBreak, or_memory, queried}
 use Rattle.swf_cli.specs.Turns.{Outcomes, Settled, Lacks, LineTurn, accepted, refused, is_load, settle_reply, query_reply}
+use Rattle.swf_cli.specs.declared.words.Words.{Words}
 
 -- the label of an outcome has its value
 pub shallow_nests : (w : World) (o : Outcome) → IsModest (Do o) → Nests (label_of w o)
@@ -83,12 +96,6 @@ pub begins_none : (part : List Label) → Begins part [] → part ≡ []
 begins_none [] b = refl
 begins_none (x ∷ xs) b = let e : [] ≡ x ∷ (xs ++ b.rest) = b.joined in absurd (cc)
 
-pub may_outcome : (history : List Label) (w : World) (o : Outcome) (part : List Label) → world_at history ≡ w → refusal w (label_of w o) ≡ None → Begins part (label_of w o ∷ [])
-    → MayAdd history (Ok (Do o)) part
-may_outcome history w o part e is b =
-    let P : World → Type 0 = λ v. (part ≡ []) ⊎ ((refusal v (label_of v o) ≡ None) × (part ≡ label_of v o ∷ [])) in
-    subst P (sym e) (⊎_elim (λ none. inl none) (λ all. inr (is, all)) (begins_one part (label_of w o) b))
-
 all_first : (a b : List Label) → AllByRecursion IsStep (a ++ b) → AllByRecursion IsStep a
 all_first [] b h = tt
 all_first (x ∷ xs) b h = (h.0, all_first xs b h.1)
@@ -119,6 +126,23 @@ or_memory_usable T fault r P e h = subst (λ (x : Result Reply EngineFault). Whe
 pub or_memory_cause : (T : Type 0) (fault : EngineFault) (r : Result Reply EngineFault) (before now : ℕ) → r ≡ or_memory fault → EngineCause {T = T} before now (Err fault) → EngineCause before now r
 or_memory_cause T fault r before now e h = subst (λ (x : Result Reply EngineFault). EngineCause before now x) (sym e) (cause_or_memory T fault before now h)
 
+-- an engine that may be used again, whatever it answered
+pub query_usable : (fault : EngineFault) (r : Result Reply EngineFault) (P : Type 0) → r ≡ or_memory fault → P → WhereUsable r P
+query_usable fault r P e h = subst (λ (x : Result Reply EngineFault). WhereUsable x P) (sym e) (by fault)
+  where
+    by : (fault : EngineFault) → WhereUsable (or_memory fault) P
+    by Store = tt
+    by (Damaged at) = tt
+    by (Full size) = tt
+    by OutOfMemory = h
+
+-- of a query nothing is left but a fault of the store, damage or a full journal
+pub query_breaks : (fault : EngineFault) → IsBreak (or_memory fault)
+query_breaks Store = tt
+query_breaks (Damaged at) = tt
+query_breaks (Full size) = tt
+query_breaks OutOfMemory = tt
+
 pub sayable_or_memory : (fault : EngineFault) → IfOk (or_memory fault) IsSayable
 sayable_or_memory Store = tt
 sayable_or_memory (Damaged at) = tt
@@ -134,6 +158,27 @@ submit_reply o (Err fault) = or_memory fault
 abbrev pub settled_reply : ℕ → Result HasSettled EngineFault → Result Reply EngineFault
 settled_reply limit (Ok settled) = Ok (settle_reply settled.quiet settled.steps limit)
 settled_reply limit (Err fault) = or_memory fault
+
+abbrev pub answer_of : Result (Result Answer QueryFault) EngineFault → Result Reply EngineFault
+answer_of (Ok r) = Ok (queried r)
+answer_of (Err fault) = or_memory fault
+
+found_reply : (o : Option Value) → queried (found o) ≡ query_reply (found o)
+found_reply None = refl
+found_reply (Some v) = refl
+
+pub answer_reply : (history : List Label) (w : World) (q : Query) → queried (answer history w q) ≡ query_reply (answer history w q)
+answer_reply history w (OfStatus id) = found_reply (status w id)
+answer_reply history w (OfHistory place) = refl
+
+-- a settling's numbers fit
+pub settled_sayable : (quiet : Bool) (steps limit : ℕ) → limit ≤ 1000000 → (quiet ≡ true → steps ≤ limit) → IsSayable (settle_reply quiet steps limit)
+settled_sayable true steps limit m h = let le : steps ≤ limit = h refl in omega (arith, le, m)
+settled_sayable false steps limit m h = omega (arith, m)
+
+-- what a line adds that was not read
+steps_none : (limit : ℕ) → AreSteps [] limit
+steps_none limit = record { each = tt; most = omega arith }
 
 module _ {S : Type 0} (moment : S → ℕ) (left_since : S → ℕ → Image → List Piece → Type 0) (said : S → Option (List Piece)) (may_leave : S → Image → Type 0) (seen : S → Option Image)
     (only_now : (s : S) (image : Image) (pieces : List Piece) → left_since s (moment s) image pieces → may_leave s image × IsSaid (said s) pieces) where
@@ -166,12 +211,6 @@ module _ {S : Type 0} (moment : S → ℕ) (left_since : S → ℕ → Image →
       subst (λ (n : S). Adds moment left_since said may_leave seen old n before after []) (sym s.0)
       (subst (λ (e : Core). Adds moment left_since said may_leave seen old old before e []) (sym s.1) (stays_adds moment left_since said may_leave seen only_now old before))
 
-  -- a line that adds nothing
-  pub line_stays : (command : Result Command LineFault) (old : S) (engine : Core) (reply : Reply) → ((history : List Label) → run history ≡ Some engine.world → LineTurn history command [] reply)
-      → LineDone moment left_since said may_leave seen command old old engine engine (Ok reply)
-  line_stays command old engine reply does = λ image is history stands.
-      done_by (MayAdd history command) (LineTurn history command) old old engine engine image history [] reply (stays_adds moment left_since said may_leave seen only_now old engine) is stands (does history stands.run)
-
   pub submit_breaks : (o : Outcome) (old new : S) (before after : Core) (fault : EngineFault) → Submits moment left_since said may_leave seen old new before after (label_of before.world o) (Err fault) → IsBreak (or_memory fault)
   submit_breaks o old new before after Store h = tt
   submit_breaks o old new before after (Damaged at) h = absurd h
@@ -184,36 +223,6 @@ module _ {S : Type 0} (moment : S → ℕ) (left_since : S → ℕ → Image →
   settle_breaks limit old new before after (Full size) h = tt
   settle_breaks limit old new before after OutOfMemory h = tt
 
-  pub submit_done : (o : Outcome) (old new : S) (before after : Core) (result : Result Submitted EngineFault)
-      → Submits moment left_since said may_leave seen old new before after (label_of before.world o) result
-      → LineDone moment left_since said may_leave seen (Ok (Do o)) old new before after (submit_reply o result)
-  submit_done o old new before after (Ok (Accepted i)) h = λ image is history stands.
-      let l = label_of before.world o in
-      let e : world_at history ≡ before.world = world_of_run history before.world stands.run in
-      done_by (MayAdd history (Ok (Do o))) (LineTurn history (Ok (Do o))) old new before after image history (l ∷ []) (accepted o i.place) h.0 is stands
-      (inl (outcome_in (world_at history) before.world o None (l ∷ []) (accepted o i.place) e h.1 (refl, ap (accepted o) h.3)))
-  submit_done o old new before after (Ok (Refused r)) h = λ image is history stands.
-      let e : world_at history ≡ before.world = world_of_run history before.world stands.run in
-      done_by (MayAdd history (Ok (Do o))) (LineTurn history (Ok (Do o))) old new before after image history [] (refused r) (adds_none old new before after h.2) is stands
-      (inl (outcome_in (world_at history) before.world o (Some r) [] (refused r) e h.0 (refl, refl)))
-  submit_done o old new before after (Err Store) h = λ image is history stands.
-      let e : world_at history ≡ before.world = world_of_run history before.world stands.run in
-      broken_by (MayAdd history (Ok (Do o))) (LineTurn history (Ok (Do o))) old new before after image history (label_of before.world o ∷ []) h.0 is stands
-      (λ part b. may_outcome history before.world o part e h.1 b)
-  submit_done o old new before after (Err (Damaged at)) h = absurd h
-  submit_done o old new before after (Err (Full size)) h = λ image is history stands.
-      full_by (MayAdd history (Ok (Do o))) (LineTurn history (Ok (Do o))) old new before after image history [] size (adds_none old new before after h.2) is stands
-      (λ part b. inl (begins_none part b))
-      (subst (λ (c : Core). IsFilled c size) (sym h.2.1) (record { label = label_of before.world o; legal = h.1; full = h.0 }))
-  submit_done o old new before after (Err OutOfMemory) h = λ image is history stands.
-      done_by (MayAdd history (Ok (Do o))) (LineTurn history (Ok (Do o))) old new before after image history [] Memory (adds_none old new before after h) is stands (inr (refl, refl))
-
-  pub submit_done_as : (o : Outcome) (old new : S) (before after : Core) (result : Result Submitted EngineFault) (r : Result Reply EngineFault)
-      → Submits moment left_since said may_leave seen old new before after (label_of before.world o) result → submit_reply o result ≡ r
-      → LineDone moment left_since said may_leave seen (Ok (Do o)) old new before after r
-  submit_done_as o old new before after result r h e =
-      subst (λ (x : Result Reply EngineFault). LineDone moment left_since said may_leave seen (Ok (Do o)) old new before after x) e (submit_done o old new before after result h)
-
   -- what a settling answers, where the world is that of the history with its steps
   settled_in : (history steps : List Label) (limit : ℕ) (w : World) (settled : HasSettled) → world_at (history ++ steps) ≡ w → AreSteps steps limit → length steps ≡ settled.steps
       → settled.quiet ≡ is_quiet w → (settled.quiet ≡ false → settled.steps ≡ limit) → Settled history limit steps (settle_reply settled.quiet settled.steps limit)
@@ -225,54 +234,155 @@ module _ {S : Type 0} (moment : S → ℕ) (left_since : S → ℕ → Image →
         told = ap (λ (b : Bool). settle_reply b settled.steps limit) (sym same) ∙ ap (λ (n : ℕ). settle_reply (is_quiet (world_at (history ++ steps))) n limit) (sym count);
       }
 
-  pub settle_done : (limit : ℕ) (old new : S) (before after : Core) (result : Result HasSettled EngineFault) → Settles moment left_since said may_leave seen old new before after limit result
-      → LineDone moment left_since said may_leave seen (Ok (Settle (Some limit))) old new before after (settled_reply limit result)
-  settle_done limit old new before after (Ok settled) h = λ image is history stands.
-      let there = some_of (seen new) (seen old) image h.2.honest is in
-      let stood = h.2.stands image is history stands there.0 there.1 in
-      done_by (MayAdd history (Ok (Settle (Some limit)))) (LineTurn history (Ok (Settle (Some limit)))) old new before after image history h.0 (settle_reply settled.quiet settled.steps limit) h.2 is stands
-      (inl (settled_in history h.0 limit after.world settled (world_of_run (history ++ h.0) after.world stood.run) h.1 h.3 h.4 h.5))
-  settle_done limit old new before after (Err Store) h = λ image is history stands.
-      broken_by (MayAdd history (Ok (Settle (Some limit)))) (LineTurn history (Ok (Settle (Some limit)))) old new before after image history h.0 h.2 is stands
-      (λ part b. steps_begin part h.0 limit h.1 b)
-  settle_done limit old new before after (Err (Damaged at)) h = absurd h
-  settle_done limit old new before after (Err (Full size)) h = λ image is history stands.
-      full_by (MayAdd history (Ok (Settle (Some limit)))) (LineTurn history (Ok (Settle (Some limit)))) old new before after image history h.0 size h.5 is stands
-      (λ part b. steps_begin part h.0 limit (steps_first h.0 (h.1 ∷ []) limit h.4) b)
-      (record { label = h.1; legal = h.3; full = h.6 })
-  settle_done limit old new before after (Err OutOfMemory) h = λ image is history stands.
-      done_by (MayAdd history (Ok (Settle (Some limit)))) (LineTurn history (Ok (Settle (Some limit)))) old new before after image history h.0 Memory h.2 is stands (inr (refl, h.1))
+  -- a call that only reads leaves what there was
+  read_passes : (old new : S) (before : Core) (image : Image) (history : List Label) → StandFor image (may_leave old) before history → LeavesOnly moment left_since said old new (may_leave old)
+      → Passes moment left_since said may_leave seen old new history []
+  read_passes old new before image history stands only =
+      weaker_only moment left_since said old new (may_leave old) (IsGrown history []) only (λ left may. not_grown history [] left (left_history image (may_leave old) before history stands left may))
 
-  pub settle_done_as : (limit : ℕ) (old new : S) (before after : Core) (result : Result HasSettled EngineFault) (r : Result Reply EngineFault)
-      → Settles moment left_since said may_leave seen old new before after limit result → settled_reply limit result ≡ r
-      → LineDone moment left_since said may_leave seen (Ok (Settle (Some limit))) old new before after r
-  settle_done_as limit old new before after result r h e =
-      subst (λ (x : Result Reply EngineFault). LineDone moment left_since said may_leave seen (Ok (Settle (Some limit))) old new before after x) e (settle_done limit old new before after result h)
+  read_stand : (old new : S) (before after : Core) (image : Image) (history : List Label) → StandFor image (may_leave old) before history → seen old ≡ Some image → after ≡ before → seen new ≡ seen old
+      → NothingNew (may_leave old) (may_leave new) → Stand moment left_since said may_leave seen new after (history ++ [])
+  read_stand old new before after image history stands is same unseen stop =
+      let stood : StandFor image (may_leave new) before history = record {
+        bodies = stands.bodies;
+        settled = record { ready = stands.settled.ready; durable = λ other may. stands.settled.durable other (stop other may) };
+        holds = stands.holds;
+        run = stands.run;
+      } in
+      (image, unseen ∙ is, subst (λ (c : Core). StandFor image (may_leave new) c (history ++ [])) (sym same) (subst (λ (l : List Label). StandFor image (may_leave new) before l) (sym (append-nil history)) stood))
 
-  -- the same of equal commands and answers
-  pub line_as : (a b : Result Command LineFault) (old new : S) (before after : Core) (r s : Result Reply EngineFault) → a ≡ b → r ≡ s
-      → LineDone moment left_since said may_leave seen b old new before after r → LineDone moment left_since said may_leave seen a old new before after s
-  line_as a b old new before after r s e f h =
-      subst (λ (c : Result Command LineFault). LineDone moment left_since said may_leave seen c old new before after s) (sym e)
-      (subst (λ (x : Result Reply EngineFault). LineDone moment left_since said may_leave seen b old new before after x) f h)
+-- by the words of the program
+module _ (words : Words) where
+  pub may_outcome : (history : List Label) (w : World) (o : Outcome) (part : List Label) → world_at history ≡ w → refusal w (label_of w o) ≡ None → Begins part (label_of w o ∷ [])
+      → MayAdd words history (Ok (Do o)) part
+  may_outcome history w o part e is b =
+      let P : World → Type 0 = λ v. (part ≡ []) ⊎ ((refusal v (label_of v o) ≡ None) × (part ≡ label_of v o ∷ [])) in
+      subst P (sym e) (⊎_elim (λ none. inl none) (λ all. inr (is, all)) (begins_one part (label_of w o) b))
 
--- a settling's numbers fit
-pub settled_sayable : (quiet : Bool) (steps limit : ℕ) → limit ≤ 1000000 → (quiet ≡ true → steps ≤ limit) → IsSayable (settle_reply quiet steps limit)
-settled_sayable true steps limit m h = let le : steps ≤ limit = h refl in omega (arith, le, m)
-settled_sayable false steps limit m h = omega (arith, m)
+  -- what a query is answered behind a history
+  asked_turn : (history : List Label) (w : World) (q : Query) (r : Result Answer QueryFault) → world_at history ≡ w → (r ≡ Err NoMemory) ⊎ (r ≡ answer history w q) → LineTurn words history (Ok (Ask q)) [] (queried r)
+  asked_turn history w q r e (inl none) = inr (ap queried none, refl)
+  asked_turn history w q r e (inr is) =
+      inl (refl, ap queried is ∙ answer_reply history w q ∙ ap (λ (v : World). query_reply (answer history v q)) (sym e))
 
--- what a query is answered, and what a line is that was not read
-pub asked : (history : List Label) (w : World) (q : Query) (reply : Reply) → run history ≡ Some w → (reply ≡ Memory) ⊎ (reply ≡ query_reply (answer w q)) → LineTurn history (Ok (Ask q)) [] reply
-asked history w q reply e (inl m) = inr (m, refl)
-asked history w q reply e (inr is) = inl (refl, subst (λ (u : World). reply ≡ query_reply (answer u q)) (sym (world_of_run history w e)) is)
+  module _ {S : Type 0} (moment : S → ℕ) (left_since : S → ℕ → Image → List Piece → Type 0) (said : S → Option (List Piece)) (may_leave : S → Image → Type 0) (seen : S → Option Image)
+      (only_now : (s : S) (image : Image) (pieces : List Piece) → left_since s (moment s) image pieces → may_leave s image × IsSaid (said s) pieces) where
+    -- a line that adds nothing
+    pub line_stays : (command : Result Command LineFault) (old : S) (engine : Core) (reply : Reply) → ((history : List Label) → run history ≡ Some engine.world → LineTurn words history command [] reply)
+        → LineDone words moment left_since said may_leave seen command old old engine engine (Ok reply)
+    line_stays command old engine reply does = λ image is history stands.
+        done_by moment left_since said may_leave seen only_now (MayAdd words history command) (LineTurn words history command) old old engine engine image history [] reply (stays_adds moment left_since said may_leave seen only_now old engine) is stands (does history stands.run)
 
-steps_none : (limit : ℕ) → AreSteps [] limit
-steps_none limit = record { each = tt; most = omega arith }
+    pub submit_done : (o : Outcome) (old new : S) (before after : Core) (result : Result Submitted EngineFault)
+        → Submits moment left_since said may_leave seen old new before after (label_of before.world o) result
+        → LineDone words moment left_since said may_leave seen (Ok (Do o)) old new before after (submit_reply o result)
+    submit_done o old new before after (Ok (Accepted i)) h = λ image is history stands.
+        let l = label_of before.world o in
+        let e : world_at history ≡ before.world = world_of_run history before.world stands.run in
+        done_by moment left_since said may_leave seen only_now (MayAdd words history (Ok (Do o))) (LineTurn words history (Ok (Do o))) old new before after image history (l ∷ []) (accepted o i.place) h.0 is stands
+        (inl (outcome_in (world_at history) before.world o None (l ∷ []) (accepted o i.place) e h.1 (refl, ap (accepted o) h.3)))
+    submit_done o old new before after (Ok (Refused r)) h = λ image is history stands.
+        let e : world_at history ≡ before.world = world_of_run history before.world stands.run in
+        done_by moment left_since said may_leave seen only_now (MayAdd words history (Ok (Do o))) (LineTurn words history (Ok (Do o))) old new before after image history [] (refused r) (adds_none moment left_since said may_leave seen only_now old new before after h.2) is stands
+        (inl (outcome_in (world_at history) before.world o (Some r) [] (refused r) e h.0 (refl, refl)))
+    submit_done o old new before after (Err Store) h = λ image is history stands.
+        let e : world_at history ≡ before.world = world_of_run history before.world stands.run in
+        broken_by moment left_since said may_leave seen only_now (MayAdd words history (Ok (Do o))) (LineTurn words history (Ok (Do o))) old new before after image history (label_of before.world o ∷ []) h.0 is stands
+        (λ part b. may_outcome history before.world o part e h.1 b)
+    submit_done o old new before after (Err (Damaged at)) h = absurd h
+    submit_done o old new before after (Err (Full size)) h = λ image is history stands.
+        full_by moment left_since said may_leave seen only_now (MayAdd words history (Ok (Do o))) (LineTurn words history (Ok (Do o))) old new before after image history [] size (adds_none moment left_since said may_leave seen only_now old new before after h.2) is stands
+        (λ part b. inl (begins_none part b))
+        (subst (λ (c : Core). IsFilled c size) (sym h.2.1) (record { label = label_of before.world o; legal = h.1; full = h.0 }))
+    submit_done o old new before after (Err OutOfMemory) h = λ image is history stands.
+        done_by moment left_since said may_leave seen only_now (MayAdd words history (Ok (Do o))) (LineTurn words history (Ok (Do o))) old new before after image history [] Memory (adds_none moment left_since said may_leave seen only_now old new before after h) is stands (inr (refl, refl))
 
-pub lacks_none : (command : Result Command LineFault) → is_quit command ≡ false → Lacks command []
-lacks_none (Err f) e = refl
-lacks_none (Ok (Do o)) e = refl
-lacks_none (Ok (Ask q)) e = refl
-lacks_none (Ok (Settle None)) e = refl
-lacks_none (Ok (Settle (Some n))) e = steps_none n
-lacks_none (Ok Quit) e = absurd (cc)
+    pub submit_done_as : (o : Outcome) (old new : S) (before after : Core) (result : Result Submitted EngineFault) (r : Result Reply EngineFault)
+        → Submits moment left_since said may_leave seen old new before after (label_of before.world o) result → submit_reply o result ≡ r
+        → LineDone words moment left_since said may_leave seen (Ok (Do o)) old new before after r
+    submit_done_as o old new before after result r h e =
+        subst (λ (x : Result Reply EngineFault). LineDone words moment left_since said may_leave seen (Ok (Do o)) old new before after x) e (submit_done o old new before after result h)
+
+    pub settle_done : (limit : ℕ) (old new : S) (before after : Core) (result : Result HasSettled EngineFault) → Settles moment left_since said may_leave seen old new before after limit result
+        → LineDone words moment left_since said may_leave seen (Ok (Settle (Some limit))) old new before after (settled_reply limit result)
+    settle_done limit old new before after (Ok settled) h = λ image is history stands.
+        let there = some_of (seen new) (seen old) image h.2.honest is in
+        let stood = h.2.stands image is history stands there.0 there.1 in
+        done_by moment left_since said may_leave seen only_now (MayAdd words history (Ok (Settle (Some limit)))) (LineTurn words history (Ok (Settle (Some limit)))) old new before after image history h.0 (settle_reply settled.quiet settled.steps limit) h.2 is stands
+        (inl (settled_in moment left_since said may_leave seen only_now history h.0 limit after.world settled (world_of_run (history ++ h.0) after.world stood.run) h.1 h.3 h.4 h.5))
+    settle_done limit old new before after (Err Store) h = λ image is history stands.
+        broken_by moment left_since said may_leave seen only_now (MayAdd words history (Ok (Settle (Some limit)))) (LineTurn words history (Ok (Settle (Some limit)))) old new before after image history h.0 h.2 is stands
+        (λ part b. steps_begin part h.0 limit h.1 b)
+    settle_done limit old new before after (Err (Damaged at)) h = absurd h
+    settle_done limit old new before after (Err (Full size)) h = λ image is history stands.
+        full_by moment left_since said may_leave seen only_now (MayAdd words history (Ok (Settle (Some limit)))) (LineTurn words history (Ok (Settle (Some limit)))) old new before after image history h.0 size h.5 is stands
+        (λ part b. steps_begin part h.0 limit (steps_first h.0 (h.1 ∷ []) limit h.4) b)
+        (record { label = h.1; legal = h.3; full = h.6 })
+    settle_done limit old new before after (Err OutOfMemory) h = λ image is history stands.
+        done_by moment left_since said may_leave seen only_now (MayAdd words history (Ok (Settle (Some limit)))) (LineTurn words history (Ok (Settle (Some limit)))) old new before after image history h.0 Memory h.2 is stands (inr (refl, h.1))
+
+    pub settle_done_as : (limit : ℕ) (old new : S) (before after : Core) (result : Result HasSettled EngineFault) (r : Result Reply EngineFault)
+        → Settles moment left_since said may_leave seen old new before after limit result → settled_reply limit result ≡ r
+        → LineDone words moment left_since said may_leave seen (Ok (Settle (Some limit))) old new before after r
+    settle_done_as limit old new before after result r h e =
+        subst (λ (x : Result Reply EngineFault). LineDone words moment left_since said may_leave seen (Ok (Settle (Some limit))) old new before after x) e (settle_done limit old new before after result h)
+
+    -- a line without a number settles with as many steps as the words say
+    limit_as : (l : Option ℕ) (old new : S) (before after : Core) (r : Result Reply EngineFault) → LineDone words moment left_since said may_leave seen (Ok (Settle (Some (unwrap_or l words.steps)))) old new before after r
+        → LineDone words moment left_since said may_leave seen (Ok (Settle l)) old new before after r
+    limit_as None old new before after r h = h
+    limit_as (Some n) old new before after r h = h
+
+    pub settle_line_as : (l : Option ℕ) (limit : ℕ) (old new : S) (before after : Core) (result : Result HasSettled EngineFault) (r : Result Reply EngineFault) → limit ≡ unwrap_or l words.steps
+        → Settles moment left_since said may_leave seen old new before after limit result → settled_reply limit result ≡ r
+        → LineDone words moment left_since said may_leave seen (Ok (Settle l)) old new before after r
+    settle_line_as l limit old new before after result r is h e =
+        limit_as l old new before after r
+        (subst (λ (n : ℕ). LineDone words moment left_since said may_leave seen (Ok (Settle (Some n))) old new before after r) is (settle_done_as limit old new before after result r h e))
+
+    -- a query was answered
+    pub asked_done : (q : Query) (old new : S) (before after : Core) (result : Result (Result Answer QueryFault) EngineFault) → after ≡ before → seen new ≡ seen old → NothingNew (may_leave old) (may_leave new)
+        → LeavesOnly moment left_since said old new (may_leave old)
+        → ForSome (seen old) (λ image. (history : List Label) → StandFor image (may_leave old) before history → AnswersQuery history before.world q result)
+        → LineDone words moment left_since said may_leave seen (Ok (Ask q)) old new before after (answer_of result)
+    asked_done q old new before after (Ok r) same unseen stop only answers = λ image is history stands. (
+      [],
+      asked_turn history before.world q r (world_of_run history before.world stands.run) (answers image is history stands),
+      read_passes moment left_since said may_leave seen only_now old new before image history stands only,
+      read_stand moment left_since said may_leave seen only_now old new before after image history stands is same unseen stop,
+    )
+    asked_done q old new before after (Err Store) same unseen stop only answers = λ image is history stands. ([], (λ part b. begins_none part b), read_passes moment left_since said may_leave seen only_now old new before image history stands only)
+    asked_done q old new before after (Err (Damaged at)) same unseen stop only answers = λ image is history stands. answers image is history stands
+    asked_done q old new before after (Err (Full size)) same unseen stop only answers = λ image is history stands. absurd (answers image is history stands)
+    asked_done q old new before after (Err OutOfMemory) same unseen stop only answers = λ image is history stands. (
+      [],
+      inr (refl, refl),
+      read_passes moment left_since said may_leave seen only_now old new before image history stands only,
+      read_stand moment left_since said may_leave seen only_now old new before after image history stands is same unseen stop,
+    )
+
+    pub asked_done_as : (q : Query) (old new : S) (before after : Core) (result : Result (Result Answer QueryFault) EngineFault) (r : Result Reply EngineFault) → after ≡ before → seen new ≡ seen old
+        → NothingNew (may_leave old) (may_leave new) → LeavesOnly moment left_since said old new (may_leave old)
+        → ForSome (seen old) (λ image. (history : List Label) → StandFor image (may_leave old) before history → AnswersQuery history before.world q result) → answer_of result ≡ r
+        → LineDone words moment left_since said may_leave seen (Ok (Ask q)) old new before after r
+    asked_done_as q old new before after result r same unseen stop only answers e =
+        subst (λ (x : Result Reply EngineFault). LineDone words moment left_since said may_leave seen (Ok (Ask q)) old new before after x) e (asked_done q old new before after result same unseen stop only answers)
+
+    -- the same of equal commands and answers
+    pub line_as : (a b : Result Command LineFault) (old new : S) (before after : Core) (r s : Result Reply EngineFault) → a ≡ b → r ≡ s
+        → LineDone words moment left_since said may_leave seen b old new before after r → LineDone words moment left_since said may_leave seen a old new before after s
+    line_as a b old new before after r s e f h =
+        subst (λ (c : Result Command LineFault). LineDone words moment left_since said may_leave seen c old new before after s) (sym e)
+        (subst (λ (x : Result Reply EngineFault). LineDone words moment left_since said may_leave seen b old new before after x) f h)
+
+  -- no settling takes more than a million steps
+  pub limit_small : (l : Option ℕ) (limit : ℕ) → limit ≡ unwrap_or l words.steps → words.steps ≤ 1000000 → IsModest (Settle l) → limit ≤ 1000000
+  limit_small None limit is small m = omega (arith, is, small)
+  limit_small (Some n) limit is small m = omega (arith, is, m)
+
+  pub lacks_none : (command : Result Command LineFault) → is_quit command ≡ false → Lacks words command []
+  lacks_none (Err f) e = refl
+  lacks_none (Ok (Do o)) e = refl
+  lacks_none (Ok (Ask q)) e = refl
+  lacks_none (Ok (Settle limit)) e = steps_none (unwrap_or limit words.steps)
+  lacks_none (Ok Quit) e = absurd (cc)

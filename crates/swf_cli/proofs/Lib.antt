@@ -1,4 +1,7 @@
+pub mod WordLemmas
 pub mod AnswerLemmas
 pub mod TurnLemmas
 pub mod SessionLemmas
 pub mod OpeningLemmas
+pub mod SoundLemmas
+pub mod ShowLemmas

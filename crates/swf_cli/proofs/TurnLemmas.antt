@@ -1,5 +1,5 @@
 -- How the calls of a turn are joined.
-use Rattle.std.proofs.Common.{◌≡◌, ◌∙◌, ap, sym, refl, subst, ◌⊎◌, inl, inr, ⊎_elim, ℕ, ◌+◌, List, [], ◌∷◌, ◌++◌, append-nil, length, length-append, Bool, true, false, Option, Some, None, option_map, Ok, Err, Result, arith}
+use Rattle.std.proofs.Common.{◌≡◌, ◌∙◌, ap, sym, refl, subst, ◌⊎◌, inl, inr, ⊎_elim, ℕ, ◌+◌, List, [], ◌∷◌, ◌++◌, append-nil, length, length-append, Bool, true, false, Option, Some, None, option_map, unwrap_or, Ok, Err, Result, arith}
 use Rattle.swf_store.specs.declared.image.Image.{Image}
 use Rattle.swf_store.specs.declared.said.Piece.{Piece}
 use Rattle.swf_store.specs.Disk.{NothingNew}
@@ -35,338 +35,338 @@ use Rattle.swf_cli.specs.Statuses.{IsBlamed}
 use Rattle.swf_cli.specs.Steps.{CommandDone, LineDone, AskDone, MayAsk, Passes, Stand, IsFilled, TurnLeft, Turned, TurnDone, Says, reply_of, follows_end}
 use Rattle.swf_cli.specs.Turns.{Outcomes, LineTurn, AskTurn, IsAnswered, is_long, ends}
 use Rattle.swf_cli.proofs.AnswerLemmas.{begins_none, may_outcome, steps_begin, done_by}
+use Rattle.swf_cli.specs.declared.words.Words.{Words}
 
--- of nothing only nothing is a beginning
-begins_no : (part labels : List Label) → labels ≡ [] → Begins part labels → part ≡ []
-begins_no part labels e b = begins_none part (subst (λ (l : List Label). Begins part l) e b)
+module _ (words : Words) where
+  -- of nothing only nothing is a beginning
+  begins_no : (part labels : List Label) → labels ≡ [] → Begins part labels → part ≡ []
+  begins_no part labels e b = begins_none part (subst (λ (l : List Label). Begins part l) e b)
 
-may_do : (history : List Label) (o : Outcome) (r : Option Refusal) (labels : List Label) (reply : Reply) (part : List Label) → refusal (world_at history) (label_of (world_at history) o) ≡ r
-    → Outcomes (world_at history) o r labels reply → Begins part labels → MayAdd history (Ok (Do o)) part
-may_do history o None labels reply part is h b = may_outcome history (world_at history) o part refl is (subst (λ (l : List Label). Begins part l) h.0 b)
-may_do history o (Some r) labels reply part is h b = inl (begins_no part labels h.0 b)
+  may_do : (history : List Label) (o : Outcome) (r : Option Refusal) (labels : List Label) (reply : Reply) (part : List Label) → refusal (world_at history) (label_of (world_at history) o) ≡ r
+      → Outcomes (world_at history) o r labels reply → Begins part labels → MayAdd words history (Ok (Do o)) part
+  may_do history o None labels reply part is h b = may_outcome words history (world_at history) o part refl is (subst (λ (l : List Label). Begins part l) h.0 b)
+  may_do history o (Some r) labels reply part is h b = inl (begins_no part labels h.0 b)
 
--- a line adds what it may add
-pub line_may : (history : List Label) (command : Result Command LineFault) (labels : List Label) (reply : Reply) (part : List Label) → LineTurn history command labels reply → Begins part labels → MayAdd history command part
-line_may history (Err f) labels reply part (inl a) b = begins_no part labels a.0 b
-line_may history (Ok (Do o)) labels reply part (inl a) b = may_do history o (refusal (world_at history) (label_of (world_at history) o)) labels reply part refl a b
-line_may history (Ok (Ask q)) labels reply part (inl a) b = begins_no part labels a.0 b
-line_may history (Ok (Settle None)) labels reply part (inl a) b = begins_no part labels a.0 b
-line_may history (Ok (Settle (Some n))) labels reply part (inl a) b = steps_begin part labels n a.steps b
-line_may history (Ok Quit) labels reply part (inl a) b = begins_no part labels a.0 b
-line_may history (Err f) labels reply part (inr l) b = begins_no part labels l.1 b
-line_may history (Ok (Do o)) labels reply part (inr l) b = inl (begins_no part labels l.1 b)
-line_may history (Ok (Ask q)) labels reply part (inr l) b = begins_no part labels l.1 b
-line_may history (Ok (Settle None)) labels reply part (inr l) b = begins_no part labels l.1 b
-line_may history (Ok (Settle (Some n))) labels reply part (inr l) b = steps_begin part labels n l.1 b
-line_may history (Ok Quit) labels reply part (inr l) b = absurd l.1
+  -- a line adds what it may add
+  pub line_may : (history : List Label) (command : Result Command LineFault) (labels : List Label) (reply : Reply) (part : List Label) → LineTurn words history command labels reply → Begins part labels → MayAdd words history command part
+  line_may history (Err f) labels reply part (inl a) b = begins_no part labels a.0 b
+  line_may history (Ok (Do o)) labels reply part (inl a) b = may_do history o (refusal (world_at history) (label_of (world_at history) o)) labels reply part refl a b
+  line_may history (Ok (Ask q)) labels reply part (inl a) b = begins_no part labels a.0 b
+  line_may history (Ok (Settle limit)) labels reply part (inl a) b = steps_begin part labels (unwrap_or limit words.steps) a.steps b
+  line_may history (Ok Quit) labels reply part (inl a) b = begins_no part labels a.0 b
+  line_may history (Err f) labels reply part (inr l) b = begins_no part labels l.1 b
+  line_may history (Ok (Do o)) labels reply part (inr l) b = inl (begins_no part labels l.1 b)
+  line_may history (Ok (Ask q)) labels reply part (inr l) b = begins_no part labels l.1 b
+  line_may history (Ok (Settle limit)) labels reply part (inr l) b = steps_begin part labels (unwrap_or limit words.steps) l.1 b
+  line_may history (Ok Quit) labels reply part (inr l) b = absurd l.1
 
-may_short : (b : Bool) (history line part : _) → b ≡ false → MayAdd history (command_of line) part → (b ≡ true → part ≡ []) × (b ≡ false → MayAdd history (command_of line) part)
-may_short true history line part e m = absurd (cc)
-may_short false history line part e m = ((λ f. absurd (cc)), (λ f. m))
+  may_short : (b : Bool) (history line part : _) → b ≡ false → MayAdd words history (command_of line) part → (b ≡ true → part ≡ []) × (b ≡ false → MayAdd words history (command_of line) part)
+  may_short true history line part e m = absurd (cc)
+  may_short false history line part e m = ((λ f. absurd (cc)), (λ f. m))
 
-pub ask_may : (b : Bool) (history : List Label) (line : List ℕ) (labels : List Label) (reply : Reply) (part : List Label) → AskTurn b history line labels reply → Begins part labels
-    → (b ≡ true → part ≡ []) × (b ≡ false → MayAdd history (command_of line) part)
-ask_may true history line labels reply part a b = ((λ e. begins_no part labels a.0 b), (λ e. absurd (cc)))
-ask_may false history line labels reply part a b = ((λ e. absurd (cc)), (λ e. line_may history (command_of line) labels reply part a b))
+  pub ask_may : (b : Bool) (history : List Label) (line : List ℕ) (labels : List Label) (reply : Reply) (part : List Label) → AskTurn words b history line labels reply → Begins part labels
+      → (b ≡ true → part ≡ []) × (b ≡ false → MayAdd words history (command_of line) part)
+  ask_may true history line labels reply part a b = ((λ e. begins_no part labels a.0 b), (λ e. absurd (cc)))
+  ask_may false history line labels reply part a b = ((λ e. absurd (cc)), (λ e. line_may history (command_of line) labels reply part a b))
 
--- the counts behind some calls that changed none
-pub blamed_behind : (status h0 h h_now t0 t t_now : ℕ) → h ≡ h0 → t ≡ t0 → IsBlamed status h h_now t t_now → IsBlamed status h0 h_now t0 t_now
-blamed_behind status h0 h h_now t0 t t_now e f b =
-    subst (λ (n : ℕ). IsBlamed status n h_now t0 t_now) e (subst (λ (n : ℕ). IsBlamed status h h_now n t_now) f b)
+  -- the counts behind some calls that changed none
+  pub blamed_behind : (status h0 h h_now t0 t t_now : ℕ) → h ≡ h0 → t ≡ t0 → IsBlamed status h h_now t t_now → IsBlamed status h0 h_now t0 t_now
+  blamed_behind status h0 h h_now t0 t t_now e f b =
+      subst (λ (n : ℕ). IsBlamed status n h_now t0 t_now) e (subst (λ (n : ℕ). IsBlamed status h h_now n t_now) f b)
 
--- an engine still stands where a stop leaves no more
-pub still_stands : (image : Image) (before now : Image → Type 0) (engine : Core) (history : List Label) → StandFor image before engine history → NothingNew before now → StandFor image now engine history
-still_stands image before now engine history s stop = record {
-  bodies = s.bodies;
-  settled = record { ready = s.settled.ready; durable = λ other may. s.settled.durable other (stop other may) };
-  holds = s.holds;
-  run = s.run;
-}
+  -- an engine still stands where a stop leaves no more
+  pub still_stands : (image : Image) (before now : Image → Type 0) (engine : Core) (history : List Label) → StandFor image before engine history → NothingNew before now → StandFor image now engine history
+  still_stands image before now engine history s stop = record {
+    bodies = s.bodies;
+    settled = record { ready = s.settled.ready; durable = λ other may. s.settled.durable other (stop other may) };
+    holds = s.holds;
+    run = s.run;
+  }
 
-not_over : (over : Bool) (s : ℕ) → follows_end over ≡ Stops s → ⊥
-not_over true s e = cc
-not_over false s e = cc
+  not_over : (over : Bool) (s : ℕ) → follows_end over ≡ Stops s → ⊥
+  not_over true s e = cc
+  not_over false s e = cc
 
-goes_not_over : (over : Bool) → GoesOn ≡ follows_end over → over ≡ false
-goes_not_over true e = absurd (cc)
-goes_not_over false e = refl
+  goes_not_over : (over : Bool) → GoesOn ≡ follows_end over → over ≡ false
+  goes_not_over true e = absurd (cc)
+  goes_not_over false e = refl
 
-ends_over : (over : Bool) → Ends ≡ follows_end over → over ≡ true
-ends_over true e = refl
-ends_over false e = absurd (cc)
+  ends_over : (over : Bool) → Ends ≡ follows_end over → over ≡ true
+  ends_over true e = refl
+  ends_over false e = absurd (cc)
 
-module _ {S : Type 0} (moment : S → ℕ) (left_since : S → ℕ → Image → List Piece → Type 0) (said : S → Option (List Piece)) (may_leave : S → Image → Type 0) (seen : S → Option Image)
-    (only_now : (s : S) (image : Image) (pieces : List Piece) → left_since s (moment s) image pieces → may_leave s image × IsSaid (said s) pieces) where
-  -- a command's answer says more
-  pub command_as : (May More : List Label → Type 0) (Does Tells : List Label → Reply → Type 0) (history : List Label) (old new : S) (after : Core) (result : Result Reply EngineFault)
-      → ((part : List Label) → May part → More part) → ((labels : List Label) (reply : Reply) → Does labels reply → Tells labels reply)
-      → CommandDone moment left_since said may_leave seen May Does history old new after result → CommandDone moment left_since said may_leave seen More Tells history old new after result
-  command_as May More Does Tells history old new after (Ok reply) m d h = (h.0, d h.0 reply h.1, h.2, h.3)
-  command_as May More Does Tells history old new after (Err Store) m d h = (h.0, (λ part b. m part (h.1 part b)), h.2)
-  command_as May More Does Tells history old new after (Err (Damaged at)) m d h = h
-  command_as May More Does Tells history old new after (Err (Full size)) m d h = (h.0, (λ part b. m part (h.1 part b)), h.2, h.3, h.4)
-  command_as May More Does Tells history old new after (Err OutOfMemory) m d h = h
+  module _ {S : Type 0} (moment : S → ℕ) (left_since : S → ℕ → Image → List Piece → Type 0) (said : S → Option (List Piece)) (may_leave : S → Image → Type 0) (seen : S → Option Image)
+      (only_now : (s : S) (image : Image) (pieces : List Piece) → left_since s (moment s) image pieces → may_leave s image × IsSaid (said s) pieces) where
+    -- a command's answer says more
+    pub command_as : (May More : List Label → Type 0) (Does Tells : List Label → Reply → Type 0) (history : List Label) (old new : S) (after : Core) (result : Result Reply EngineFault)
+        → ((part : List Label) → May part → More part) → ((labels : List Label) (reply : Reply) → Does labels reply → Tells labels reply)
+        → CommandDone moment left_since said may_leave seen May Does history old new after result → CommandDone moment left_since said may_leave seen More Tells history old new after result
+    command_as May More Does Tells history old new after (Ok reply) m d h = (h.0, d h.0 reply h.1, h.2, h.3)
+    command_as May More Does Tells history old new after (Err Store) m d h = (h.0, (λ part b. m part (h.1 part b)), h.2)
+    command_as May More Does Tells history old new after (Err (Damaged at)) m d h = h
+    command_as May More Does Tells history old new after (Err (Full size)) m d h = (h.0, (λ part b. m part (h.1 part b)), h.2, h.3, h.4)
+    command_as May More Does Tells history old new after (Err OutOfMemory) m d h = h
 
-  ask_turn : (b : Bool) (history : List Label) (line : List ℕ) (labels : List Label) (reply : Reply) → b ≡ false → LineTurn history (command_of line) labels reply → AskTurn b history line labels reply
-  ask_turn true history line labels reply e h = absurd (cc)
-  ask_turn false history line labels reply e h = h
+    ask_turn : (b : Bool) (history : List Label) (line : List ℕ) (labels : List Label) (reply : Reply) → b ≡ false → LineTurn words history (command_of line) labels reply → AskTurn words b history line labels reply
+    ask_turn true history line labels reply e h = absurd (cc)
+    ask_turn false history line labels reply e h = h
 
-  -- an Ask that is not too long
-  pub asked_short : (line : List ℕ) (old new : S) (before after : Core) (result : Result Reply EngineFault) → is_long line ≡ false
-      → LineDone moment left_since said may_leave seen (command_of line) old new before after result → AskDone moment left_since said may_leave seen line old new before after result
-  asked_short line old new before after result short h = λ image is history stands.
-      command_as (MayAdd history (command_of line)) (MayAsk history line) (LineTurn history (command_of line)) (AskTurn (is_long line) history line) history old new after result
-      (λ part m. may_short (is_long line) history line part short m)
-      (λ labels reply d. ask_turn (is_long line) history line labels reply short d)
-      (h image is history stands)
+    -- an Ask that is not too long
+    pub asked_short : (line : List ℕ) (old new : S) (before after : Core) (result : Result Reply EngineFault) → is_long line ≡ false
+        → LineDone words moment left_since said may_leave seen (command_of line) old new before after result → AskDone words moment left_since said may_leave seen line old new before after result
+    asked_short line old new before after result short h = λ image is history stands.
+        command_as (MayAdd words history (command_of line)) (MayAsk words history line) (LineTurn words history (command_of line)) (AskTurn words (is_long line) history line) history old new after result
+        (λ part m. may_short (is_long line) history line part short m)
+        (λ labels reply d. ask_turn (is_long line) history line labels reply short d)
+        (h image is history stands)
 
-  -- no input, or one, was taken; nothing was said
-  pub next_leaves : (old new : S) (image : Image) (engine : Core) (history : List Label) (pieces : List Piece) → StandFor image (may_leave old) engine history → said old ≡ Some pieces
-      → NothingNew (may_leave old) (may_leave new) → ElapsesSilent (moment old) (moment new) (left_since old) (left_since new) (may_leave new) (said old)
-      → Leaves moment left_since old new (λ left now. IsHistory left history × (now ≡ pieces))
-  next_leaves old new image engine history pieces stands is stop time =
-      called moment left_since old new (may_leave new) (IsSaid (said old)) (λ left now. IsHistory left history × (now ≡ pieces)) time
-      (λ left now since. let n = only_now old left now since in (left_history image (may_leave old) engine history stands left n.0, n.1 pieces is))
-      (λ left now may q. (left_history image (may_leave old) engine history stands left (stop left may), q pieces is))
+    -- no input, or one, was taken; nothing was said
+    pub next_leaves : (old new : S) (image : Image) (engine : Core) (history : List Label) (pieces : List Piece) → StandFor image (may_leave old) engine history → said old ≡ Some pieces
+        → NothingNew (may_leave old) (may_leave new) → ElapsesSilent (moment old) (moment new) (left_since old) (left_since new) (may_leave new) (said old)
+        → Leaves moment left_since old new (λ left now. IsHistory left history × (now ≡ pieces))
+    next_leaves old new image engine history pieces stands is stop time =
+        called moment left_since old new (may_leave new) (IsSaid (said old)) (λ left now. IsHistory left history × (now ≡ pieces)) time
+        (λ left now since. let n = only_now old left now since in (left_history image (may_leave old) engine history stands left n.0, n.1 pieces is))
+        (λ left now may q. (left_history image (may_leave old) engine history stands left (stop left may), q pieces is))
 
-  -- and then the engine's call
-  pub begun : (old one two : S) (history group : List Label) (inputs : ℕ) (pieces : List Piece) (line : List Heard)
-      → Leaves moment left_since old one (λ left now. IsHistory left history × (now ≡ pieces)) → said one ≡ Some pieces → Passes moment left_since said may_leave seen one two history group
-      → Leaves moment left_since old two (TurnLeft history inputs pieces group line)
-  begun old one two history group inputs pieces line first is second =
-      goes_on moment left_since old one two (λ left now. IsHistory left history × (now ≡ pieces)) (λ left now. IsGrown history group left × IsSaid (said one) now) (TurnLeft history inputs pieces group line) first second
-      (λ left now h. inl (not_grown history group left h.0, h.1))
-      (λ left now h. inl (h.0, h.1 pieces is))
+    -- and then the engine's call
+    pub begun : (old one two : S) (history group : List Label) (inputs : ℕ) (pieces : List Piece) (line : List Heard)
+        → Leaves moment left_since old one (λ left now. IsHistory left history × (now ≡ pieces)) → said one ≡ Some pieces → Passes moment left_since said may_leave seen one two history group
+        → Leaves moment left_since old two (TurnLeft history inputs pieces group line)
+    begun old one two history group inputs pieces line first is second =
+        goes_on moment left_since old one two (λ left now. IsHistory left history × (now ≡ pieces)) (λ left now. IsGrown history group left × IsSaid (said one) now) (TurnLeft history inputs pieces group line) first second
+        (λ left now h. inl (not_grown history group left h.0, h.1))
+        (λ left now h. inl (h.0, h.1 pieces is))
 
-  -- and then what is said
-  pub then_said : (old two new : S) (history group : List Label) (inputs : ℕ) (pieces : List Piece) (one : Heard) (after : Core)
-      → Leaves moment left_since old two (TurnLeft history inputs pieces group (one ∷ [])) → Stand moment left_since said may_leave seen two after (history ++ group)
-      → Leaves moment left_since two new (λ left now. may_leave two left × SaidPart one.conn one.bytes (inputs + 1) pieces now)
-      → Leaves moment left_since old new (TurnLeft history inputs pieces group (one ∷ []))
-  then_said old two new history group inputs pieces one after first stand second =
-      goes_on moment left_since old two new (TurnLeft history inputs pieces group (one ∷ [])) (λ left now. may_leave two left × SaidPart one.conn one.bytes (inputs + 1) pieces now) (TurnLeft history inputs pieces group (one ∷ [])) first second
-      (λ left now h. h)
-      (λ left now h. inr (one, refl, left_history stand.0 (may_leave two) after (history ++ group) stand.2 left h.0, h.1))
+    -- and then what is said
+    pub then_said : (old two new : S) (history group : List Label) (inputs : ℕ) (pieces : List Piece) (one : Heard) (after : Core)
+        → Leaves moment left_since old two (TurnLeft history inputs pieces group (one ∷ [])) → Stand moment left_since said may_leave seen two after (history ++ group)
+        → Leaves moment left_since two new (λ left now. may_leave two left × SaidPart one.conn one.bytes (inputs + 1) pieces now)
+        → Leaves moment left_since old new (TurnLeft history inputs pieces group (one ∷ []))
+    then_said old two new history group inputs pieces one after first stand second =
+        goes_on moment left_since old two new (TurnLeft history inputs pieces group (one ∷ [])) (λ left now. may_leave two left × SaidPart one.conn one.bytes (inputs + 1) pieces now) (TurnLeft history inputs pieces group (one ∷ [])) first second
+        (λ left now h. h)
+        (λ left now h. inr (one, refl, left_history stand.0 (may_leave two) after (history ++ group) stand.2 left h.0, h.1))
 
-  long_turn : (b : Bool) (history : List Label) (line : List ℕ) → b ≡ true → AskTurn b history line [] TooLong
-  long_turn true history line e = (refl, refl)
-  long_turn false history line e = absurd (cc)
+    long_turn : (b : Bool) (history : List Label) (line : List ℕ) → b ≡ true → AskTurn words b history line [] TooLong
+    long_turn true history line e = (refl, refl)
+    long_turn false history line e = absurd (cc)
 
-  -- an Ask that is too long
-  pub asked_long : (line : List ℕ) (old : S) (engine : Core) → is_long line ≡ true → AskDone moment left_since said may_leave seen line old old engine engine (Ok TooLong)
-  asked_long line old engine long = λ image is history stands.
-      done_by moment left_since said may_leave seen only_now (MayAsk history line) (AskTurn (is_long line) history line) old old engine engine image history [] TooLong
-      (stays_adds moment left_since said may_leave seen only_now old engine) is stands (long_turn (is_long line) history line long)
+    -- an Ask that is too long
+    pub asked_long : (line : List ℕ) (old : S) (engine : Core) → is_long line ≡ true → AskDone words moment left_since said may_leave seen line old old engine engine (Ok TooLong)
+    asked_long line old engine long = λ image is history stands.
+        done_by moment left_since said may_leave seen only_now (MayAsk words history line) (AskTurn words (is_long line) history line) old old engine engine image history [] TooLong
+        (stays_adds moment left_since said may_leave seen only_now old engine) is stands (long_turn (is_long line) history line long)
 
-  -- an input that adds nothing
-  pub begun_none : (old one : S) (history : List Label) (inputs : ℕ) (pieces : List Piece) (line : List Heard)
-      → Leaves moment left_since old one (λ left now. IsHistory left history × (now ≡ pieces)) → Leaves moment left_since old one (TurnLeft history inputs pieces [] line)
-  begun_none old one history inputs pieces line first =
-      weaker moment left_since old one (λ left now. IsHistory left history × (now ≡ pieces)) (TurnLeft history inputs pieces [] line) first
-      (λ left now h. inl (not_grown history [] left h.0, h.1))
+    -- an input that adds nothing
+    pub begun_none : (old one : S) (history : List Label) (inputs : ℕ) (pieces : List Piece) (line : List Heard)
+        → Leaves moment left_since old one (λ left now. IsHistory left history × (now ≡ pieces)) → Leaves moment left_since old one (TurnLeft history inputs pieces [] line)
+    begun_none old one history inputs pieces line first =
+        weaker moment left_since old one (λ left now. IsHistory left history × (now ≡ pieces)) (TurnLeft history inputs pieces [] line) first
+        (λ left now h. inl (not_grown history [] left h.0, h.1))
 
-  stand_none : (one : S) (image : Image) (engine : Core) (history : List Label) → seen one ≡ Some image → StandFor image (may_leave one) engine history → Stand moment left_since said may_leave seen one engine (history ++ [])
-  stand_none one image engine history is stands = (image, is, subst (λ (l : List Label). StandFor image (may_leave one) engine l) (sym (append-nil history)) stands)
+    stand_none : (one : S) (image : Image) (engine : Core) (history : List Label) → seen one ≡ Some image → StandFor image (may_leave one) engine history → Stand moment left_since said may_leave seen one engine (history ++ [])
+    stand_none one image engine history is stands = (image, is, subst (λ (l : List Label). StandFor image (may_leave one) engine l) (sym (append-nil history)) stands)
 
-  module _ (taken : S → Option (List Input)) where
-    -- an input was taken
-    pub record Comes (old one : S) (input : Input) : Type 0 where
-      pub took : taken one ≡ option_map (λ (all : List Input). all ++ input ∷ []) (taken old)
-      pub same : seen one ≡ seen old
-      pub silent : said one ≡ said old
-      pub stop : NothingNew (may_leave old) (may_leave one)
-      pub time : ElapsesSilent (moment old) (moment one) (left_since old) (left_since one) (may_leave one) (said old)
+    module _ (taken : S → Option (List Input)) where
+      -- an input was taken
+      pub record Comes (old one : S) (input : Input) : Type 0 where
+        pub took : taken one ≡ option_map (λ (all : List Input). all ++ input ∷ []) (taken old)
+        pub same : seen one ≡ seen old
+        pub silent : said one ≡ said old
+        pub stop : NothingNew (may_leave old) (may_leave one)
+        pub time : ElapsesSilent (moment old) (moment one) (left_since old) (left_since one) (may_leave one) (said old)
 
-    one_more : (inputs : List Input) (input : Input) → length (inputs ++ input ∷ []) ≡ length inputs + 1
-    one_more inputs input = length-append inputs (input ∷ [])
+      one_more : (inputs : List Input) (input : Input) → length (inputs ++ input ∷ []) ≡ length inputs + 1
+      one_more inputs input = length-append inputs (input ∷ [])
 
-    all_taken : (old one : S) (input : Input) (inputs : List Input) → Comes old one input → taken old ≡ Some inputs → taken one ≡ Some (inputs ++ input ∷ [])
-    all_taken old one input inputs c is = c.took ∙ ap (option_map (λ (all : List Input). all ++ input ∷ [])) is
+      all_taken : (old one : S) (input : Input) (inputs : List Input) → Comes old one input → taken old ≡ Some inputs → taken one ≡ Some (inputs ++ input ∷ [])
+      all_taken old one input inputs c is = c.took ∙ ap (option_map (λ (all : List Input). all ++ input ∷ [])) is
 
-    -- what is said behind an input that was taken
-    say_leaves : (two new : S) (conn : ℕ) (line : List ℕ) (done r : After) (inputs : List Input) (input : Input) (pieces : List Piece) → Says moment left_since said may_leave seen taken two new conn line done r
-        → taken two ≡ Some (inputs ++ input ∷ []) → said two ≡ Some pieces
-        → Leaves moment left_since two new (λ left now. may_leave two left × SaidPart conn line (length inputs + 1) pieces now)
-    say_leaves two new conn line done r inputs input pieces s took is =
-        subst (λ (n : ℕ). Leaves moment left_since two new (λ left now. may_leave two left × SaidPart conn line n pieces now)) (one_more inputs input) (s.leaves (inputs ++ input ∷ []) took pieces is)
+      -- what is said behind an input that was taken
+      say_leaves : (two new : S) (conn : ℕ) (line : List ℕ) (done r : After) (inputs : List Input) (input : Input) (pieces : List Piece) → Says moment left_since said may_leave seen taken two new conn line done r
+          → taken two ≡ Some (inputs ++ input ∷ []) → said two ≡ Some pieces
+          → Leaves moment left_since two new (λ left now. may_leave two left × SaidPart conn line (length inputs + 1) pieces now)
+      say_leaves two new conn line done r inputs input pieces s took is =
+          subst (λ (n : ℕ). Leaves moment left_since two new (λ left now. may_leave two left × SaidPart conn line n pieces now)) (one_more inputs input) (s.leaves (inputs ++ input ∷ []) took pieces is)
 
-    say_whole : (two new : S) (conn : ℕ) (line : List ℕ) (done r : After) (inputs : List Input) (input : Input) (pieces : List Piece) → Says moment left_since said may_leave seen taken two new conn line done r
-        → taken two ≡ Some (inputs ++ input ∷ []) → said two ≡ Some pieces → r ≡ done → said new ≡ Some (and_piece conn line (length inputs + 1) pieces)
-    say_whole two new conn line done r inputs input pieces s took is e =
-        s.whole (inputs ++ input ∷ []) took pieces is e ∙ ap (λ (n : ℕ). Some (and_piece conn line n pieces)) (one_more inputs input)
+      say_whole : (two new : S) (conn : ℕ) (line : List ℕ) (done r : After) (inputs : List Input) (input : Input) (pieces : List Piece) → Says moment left_since said may_leave seen taken two new conn line done r
+          → taken two ≡ Some (inputs ++ input ∷ []) → said two ≡ Some pieces → r ≡ done → said new ≡ Some (and_piece conn line (length inputs + 1) pieces)
+      say_whole two new conn line done r inputs input pieces s took is e =
+          s.whole (inputs ++ input ∷ []) took pieces is e ∙ ap (λ (n : ℕ). Some (and_piece conn line n pieces)) (one_more inputs input)
 
-    stand_said : (two new : S) (conn : ℕ) (line : List ℕ) (done r : After) (after : Core) (history : List Label) → Says moment left_since said may_leave seen taken two new conn line done r
-        → Stand moment left_since said may_leave seen two after history → Stand moment left_since said may_leave seen new after history
-    stand_said two new conn line done r after history s stand = (stand.0, s.seen_same ∙ stand.1, still_stands stand.0 (may_leave two) (may_leave new) after history stand.2 s.stop)
+      stand_said : (two new : S) (conn : ℕ) (line : List ℕ) (done r : After) (after : Core) (history : List Label) → Says moment left_since said may_leave seen taken two new conn line done r
+          → Stand moment left_since said may_leave seen two after history → Stand moment left_since said may_leave seen new after history
+      stand_said two new conn line done r after history s stand = (stand.0, s.seen_same ∙ stand.1, still_stands stand.0 (may_leave two) (may_leave new) after history stand.2 s.stop)
 
-    -- a turn that said something, or a part of it
-    turned_said : (old two new : S) (after : Core) (history : List Label) (inputs : List Input) (pieces : List Piece) (input : Input) (group : List Label) (one : Heard) (done r : After)
-        → ((part : List Label) → Begins part group → MayBegin history input part) → taken two ≡ Some (inputs ++ input ∷ []) → said two ≡ Some pieces
-        → Leaves moment left_since old two (TurnLeft history (length inputs) pieces group (one ∷ [])) → Stand moment left_since said may_leave seen two after (history ++ group)
-        → Says moment left_since said may_leave seen taken two new one.conn one.bytes done r
-        → Turned moment left_since said may_leave seen taken old new history inputs pieces input group (one ∷ [])
-    turned_said old two new after history inputs pieces input group one done r may took is first stand s = record {
-      may = may;
-      took = s.taken_same ∙ took;
-      leaves = then_said old two new history group (length inputs) pieces one after first stand (say_leaves two new one.conn one.bytes done r inputs input pieces s took is);
-    }
-
-    -- a turn whose reply is said
-    pub said_done : (old two new : S) (after : Core) (history : List Label) (inputs : List Input) (pieces : List Piece) (input : Input) (labels : List Label) (reply : Reply) (over : Bool) (r : After)
-        → ((part : List Label) → Begins part labels → MayBegin history input part) → taken two ≡ Some (inputs ++ input ∷ []) → said two ≡ Some pieces
-        → Leaves moment left_since old two (TurnLeft history (length inputs) pieces labels (heard (conn_of input) (Some reply))) → Stand moment left_since said may_leave seen two after (history ++ labels)
-        → IsAnswered history input labels (Some reply) → ends input ≡ over
-        → Says moment left_since said may_leave seen taken two new (conn_of input) (spoken reply) (follows_end over) r
-        → TurnDone moment left_since said may_leave seen taken old new after history inputs pieces r
-    said_done old two new after history inputs pieces input labels reply over GoesOn may took is first stand a e s =
-        let on : GoesOn ≡ follows_end over = ⊎_elim (λ d. d) (λ f. ⊎_elim (λ g. absurd (cc)) (λ g. absurd (cc)) f) s.which in record {
-          turn = record { input = input; labels = labels; reply = Some reply };
-          turned = turned_said old two new after history inputs pieces input labels (record { conn = conn_of input; bytes = spoken reply }) (follows_end over) GoesOn may took is first stand s;
-          answered = a;
-          ends = e ∙ goes_not_over over on;
-          stands = stand_said two new (conn_of input) (spoken reply) (follows_end over) GoesOn after (history ++ labels) s stand;
-          said_all = say_whole two new (conn_of input) (spoken reply) (follows_end over) GoesOn inputs input pieces s took is on;
-        }
-    said_done old two new after history inputs pieces input labels reply over Ends may took is first stand a e s =
-        let on : Ends ≡ follows_end over = ⊎_elim (λ d. d) (λ f. ⊎_elim (λ g. absurd (cc)) (λ g. absurd (cc)) f) s.which in record {
-          turn = record { input = input; labels = labels; reply = Some reply };
-          turned = turned_said old two new after history inputs pieces input labels (record { conn = conn_of input; bytes = spoken reply }) (follows_end over) Ends may took is first stand s;
-          answered = a;
-          ends = e ∙ ends_over over on;
-          stands = stand_said two new (conn_of input) (spoken reply) (follows_end over) Ends after (history ++ labels) s stand;
-          said_all = say_whole two new (conn_of input) (spoken reply) (follows_end over) Ends inputs input pieces s took is on;
-        }
-    said_done old two new after history inputs pieces input labels reply over (Stops k) may took is first stand a e s =
-        let status : (k ≡ 6) ⊎ (k ≡ 4) = ⊎_elim (λ d. absurd (not_over over k (sym d))) (λ f. ⊎_elim (λ g. inl (cc)) (λ g. inr (cc)) f) s.which in (
-          inr (inl (record {
-            turn = record { input = input; labels = labels; reply = Some reply };
-            turned = turned_said old two new after history inputs pieces input labels (record { conn = conn_of input; bytes = spoken reply }) (follows_end over) (Stops k) may took is first stand s;
-            answered = a;
-          })),
-          ⊎_elim (λ six. (λ zero. absurd (omega arith))) (λ four. (λ zero. absurd (omega arith))) status,
-          (λ seven. ⊎_elim (λ six. absurd (omega arith)) (λ four. absurd (omega arith)) status),
-          (λ not_four not_seven. ⊎_elim (λ six. s.quiet (ap Stops six) ∙ is) (λ four. absurd (not_four four)) status),
-        )
-
-    -- a turn that tells that the journal is full
-    pub full_done : (old two new : S) (after : Core) (history : List Label) (inputs : List Input) (pieces : List Piece) (input : Input) (labels : List Label) (conn size : ℕ) (r : After)
-        → ((part : List Label) → Begins part labels → MayBegin history input part) → taken two ≡ Some (inputs ++ input ∷ []) → said two ≡ Some pieces
-        → Leaves moment left_since old two (TurnLeft history (length inputs) pieces labels ((record { conn = conn; bytes = full_bytes size }) ∷ [])) → Stand moment left_since said may_leave seen two after (history ++ labels)
-        → IsFilled after size
-        → Says moment left_since said may_leave seen taken two new conn (full_bytes size) (Stops 7) r
-        → TurnDone moment left_since said may_leave seen taken old new after history inputs pieces r
-    full_done old two new after history inputs pieces input labels conn size GoesOn may took is first stand filled s = absurd (⊎_elim (λ d. cc) (λ f. ⊎_elim (λ g. cc) (λ g. cc) f) s.which)
-    full_done old two new after history inputs pieces input labels conn size Ends may took is first stand filled s = absurd (⊎_elim (λ d. cc) (λ f. ⊎_elim (λ g. cc) (λ g. cc) f) s.which)
-    full_done old two new after history inputs pieces input labels conn size (Stops k) may took is first stand filled s =
-        let status : (k ≡ 7) ⊎ ((k ≡ 6) ⊎ (k ≡ 4)) = ⊎_elim (λ d. inl (cc)) (λ f. ⊎_elim (λ g. inr (inl (cc))) (λ g. inr (inr (cc))) f) s.which in (
-          inr (inr (record {
-            input = input;
-            group = labels;
-            line = (record { conn = conn; bytes = full_bytes size }) ∷ [];
-            turned = turned_said old two new after history inputs pieces input labels (record { conn = conn; bytes = full_bytes size }) (Stops 7) (Stops k) may took is first stand s;
-            is_full = λ one e. let same : record { conn = conn; bytes = full_bytes size } ≡ one = cc in (size, ap (λ (h : Heard). h.bytes) (sym same));
-          })),
-          ⊎_elim (λ seven. (λ zero. absurd (omega arith))) (λ f. ⊎_elim (λ six. (λ zero. absurd (omega arith))) (λ four. (λ zero. absurd (omega arith))) f) status,
-          (λ seven. (
-            labels,
-            size,
-            stand_said two new conn (full_bytes size) (Stops 7) (Stops k) after (history ++ labels) s stand,
-            filled,
-            (conn, say_whole two new conn (full_bytes size) (Stops 7) (Stops k) inputs input pieces s took is (ap Stops seven)),
-          )),
-          (λ not_four not_seven. ⊎_elim (λ seven. absurd (not_seven seven)) (λ f. ⊎_elim (λ six. s.quiet (ap Stops six) ∙ is) (λ four. absurd (not_four four)) f) status),
-        )
-
-    module _ (old one : S) (engine : Core) (image : Image) (history : List Label) (inputs : List Input) (pieces : List Piece)
-        (seen_is : seen old ≡ Some image) (taken_is : taken old ≡ Some inputs) (said_is : said old ≡ Some pieces) (stands : StandFor image (may_leave old) engine history) where
-      come_leaves : (input : Input) → Comes old one input → Leaves moment left_since old one (λ left now. IsHistory left history × (now ≡ pieces))
-      come_leaves input came = next_leaves old one image engine history pieces stands said_is came.stop came.time
-
-      come_stand : (input : Input) → Comes old one input → Stand moment left_since said may_leave seen one engine (history ++ [])
-      come_stand input came = stand_none one image engine history (came.same ∙ seen_is) (still_stands image (may_leave old) (may_leave one) engine history stands came.stop)
-
-      -- the answer to an Ask
-      answered_as : (two : S) (after : Core) (conn : ℕ) (line : List ℕ) (result : Result Answered EngineFault) (is : Result Answered EngineFault) → Comes old one (Asks conn line)
-          → AskDone moment left_since said may_leave seen line one two engine after (reply_of result) → result ≡ is
-          → CommandDone moment left_since said may_leave seen (MayAsk history line) (AskTurn (is_long line) history line) history one two after (reply_of is)
-      answered_as two after conn line result is came ask e =
-          subst (λ (x : Result Answered EngineFault). CommandDone moment left_since said may_leave seen (MayAsk history line) (AskTurn (is_long line) history line) history one two after (reply_of x)) e
-          (ask image (came.same ∙ seen_is) history (still_stands image (may_leave old) (may_leave one) engine history stands came.stop))
-
-      pub asked_reply : (two new : S) (after : Core) (conn : ℕ) (line : List ℕ) (result : Result Answered EngineFault) (answered : Answered) (r : After) → Comes old one (Asks conn line)
-          → AskDone moment left_since said may_leave seen line one two engine after (reply_of result) → result ≡ Ok answered → answered.ends ≡ ends (Asks conn line)
-          → taken two ≡ taken one → said two ≡ said one → Says moment left_since said may_leave seen taken two new conn (spoken answered.reply) (follows_end answered.ends) r
-          → TurnDone moment left_since said may_leave seen taken old new after history inputs pieces r
-      asked_reply two new after conn line result answered r came ask e over took silent says =
-          let done = answered_as two after conn line result (Ok answered) came ask e in
-          said_done old two new after history inputs pieces (Asks conn line) done.0 answered.reply answered.ends r
-          (λ part b. ask_may (is_long line) history line done.0 answered.reply part done.1 b)
-          (took ∙ all_taken old one (Asks conn line) inputs came taken_is) (silent ∙ came.silent ∙ said_is)
-          (begun old one two history done.0 (length inputs) pieces (heard conn (Some answered.reply)) (come_leaves (Asks conn line) came) (came.silent ∙ said_is) done.2)
-          done.3 done.1 (sym over) says
-
-      pub asked_full : (two new : S) (after : Core) (conn : ℕ) (line : List ℕ) (result : Result Answered EngineFault) (size : ℕ) (r : After) → Comes old one (Asks conn line)
-          → AskDone moment left_since said may_leave seen line one two engine after (reply_of result) → result ≡ Err (Full size)
-          → taken two ≡ taken one → said two ≡ said one → Says moment left_since said may_leave seen taken two new conn (full_bytes size) (Stops 7) r
-          → TurnDone moment left_since said may_leave seen taken old new after history inputs pieces r
-      asked_full two new after conn line result size r came ask e took silent says =
-          let done = answered_as two after conn line result (Err (Full size)) came ask e in
-          full_done old two new after history inputs pieces (Asks conn line) done.0 conn size r
-          done.1
-          (took ∙ all_taken old one (Asks conn line) inputs came taken_is) (silent ∙ came.silent ∙ said_is)
-          (begun old one two history done.0 (length inputs) pieces ((record { conn = conn; bytes = full_bytes size }) ∷ []) (come_leaves (Asks conn line) came) (came.silent ∙ said_is) done.2)
-          done.3 done.4 says
-
-      pub asked_broken : (two : S) (after : Core) (conn : ℕ) (line : List ℕ) (result : Result Answered EngineFault) → Comes old one (Asks conn line)
-          → AskDone moment left_since said may_leave seen line one two engine after (reply_of result) → result ≡ Err Store → taken two ≡ taken one → said two ≡ said one
-          → TurnDone moment left_since said may_leave seen taken old two after history inputs pieces (Stops 3)
-      asked_broken two after conn line result came ask e took silent =
-          let done = answered_as two after conn line result (Err Store) came ask e in (
-            inr (inr (record {
-              input = Asks conn line;
-              group = done.0;
-              line = [];
-              turned = record {
-                may = done.1;
-                took = took ∙ all_taken old one (Asks conn line) inputs came taken_is;
-                leaves = begun old one two history done.0 (length inputs) pieces [] (come_leaves (Asks conn line) came) (came.silent ∙ said_is) done.2;
-              };
-              is_full = λ h f. absurd (cc);
-            })),
-            (λ zero. absurd (omega arith)),
-            (λ seven. absurd (omega arith)),
-            (λ not_four not_seven. silent ∙ came.silent ∙ said_is),
-          )
-
-      pub too_long_done : (new : S) (conn : ℕ) (r : After) → Comes old one (TooLongInput conn) → Says moment left_since said may_leave seen taken one new conn (spoken TooLong) (follows_end false) r
-          → TurnDone moment left_since said may_leave seen taken old new engine history inputs pieces r
-      too_long_done new conn r came says =
-          said_done old one new engine history inputs pieces (TooLongInput conn) [] TooLong false r
-          (λ part b. begins_none part b)
-          (all_taken old one (TooLongInput conn) inputs came taken_is) (came.silent ∙ said_is)
-          (begun_none old one history (length inputs) pieces (heard conn (Some TooLong)) (come_leaves (TooLongInput conn) came))
-          (come_stand (TooLongInput conn) came) (refl, refl) refl says
-
-      pub closed_done : Comes old one Closed → TurnDone moment left_since said may_leave seen taken old one engine history inputs pieces Ends
-      closed_done came = record {
-        turn = record { input = Closed; labels = []; reply = None };
-        turned = record {
-          may = λ part b. begins_none part b;
-          took = all_taken old one Closed inputs came taken_is;
-          leaves = begun_none old one history (length inputs) pieces [] (come_leaves Closed came);
-        };
-        answered = (refl, refl);
-        ends = refl;
-        stands = come_stand Closed came;
-        said_all = came.silent ∙ said_is ∙ ap Some (sym (append-nil pieces));
+      -- a turn that said something, or a part of it
+      turned_said : (old two new : S) (after : Core) (history : List Label) (inputs : List Input) (pieces : List Piece) (input : Input) (group : List Label) (one : Heard) (done r : After)
+          → ((part : List Label) → Begins part group → MayBegin words history input part) → taken two ≡ Some (inputs ++ input ∷ []) → said two ≡ Some pieces
+          → Leaves moment left_since old two (TurnLeft history (length inputs) pieces group (one ∷ [])) → Stand moment left_since said may_leave seen two after (history ++ group)
+          → Says moment left_since said may_leave seen taken two new one.conn one.bytes done r
+          → Turned words moment left_since said may_leave seen taken old new history inputs pieces input group (one ∷ [])
+      turned_said old two new after history inputs pieces input group one done r may took is first stand s = record {
+        may = may;
+        took = s.taken_same ∙ took;
+        leaves = then_said old two new history group (length inputs) pieces one after first stand (say_leaves two new one.conn one.bytes done r inputs input pieces s took is);
       }
 
-      -- nothing was taken
-      pub none_done : NothingNew (may_leave old) (may_leave one) → ElapsesSilent (moment old) (moment one) (left_since old) (left_since one) (may_leave one) (said old) → taken one ≡ taken old
-          → TurnDone moment left_since said may_leave seen taken old one engine history inputs pieces (Stops 4)
-      none_done stop time took = (
-        inl (record { took = took ∙ taken_is; leaves = next_leaves old one image engine history pieces stands said_is stop time }),
-        (λ zero. absurd (omega arith)),
-        (λ seven. absurd (omega arith)),
-        (λ not_four not_seven. absurd (not_four refl)),
-      )
+      -- a turn whose reply is said
+      pub said_done : (old two new : S) (after : Core) (history : List Label) (inputs : List Input) (pieces : List Piece) (input : Input) (labels : List Label) (reply : Reply) (over : Bool) (r : After)
+          → ((part : List Label) → Begins part labels → MayBegin words history input part) → taken two ≡ Some (inputs ++ input ∷ []) → said two ≡ Some pieces
+          → Leaves moment left_since old two (TurnLeft history (length inputs) pieces labels (heard (conn_of input) (Some reply))) → Stand moment left_since said may_leave seen two after (history ++ labels)
+          → IsAnswered words history input labels (Some reply) → ends input ≡ over
+          → Says moment left_since said may_leave seen taken two new (conn_of input) (spoken reply) (follows_end over) r
+          → TurnDone words moment left_since said may_leave seen taken old new after history inputs pieces r
+      said_done old two new after history inputs pieces input labels reply over GoesOn may took is first stand a e s =
+          let on : GoesOn ≡ follows_end over = ⊎_elim (λ d. d) (λ f. ⊎_elim (λ g. absurd (cc)) (λ g. absurd (cc)) f) s.which in record {
+            turn = record { input = input; labels = labels; reply = Some reply };
+            turned = turned_said old two new after history inputs pieces input labels (record { conn = conn_of input; bytes = spoken reply }) (follows_end over) GoesOn may took is first stand s;
+            answered = a;
+            ends = e ∙ goes_not_over over on;
+            stands = stand_said two new (conn_of input) (spoken reply) (follows_end over) GoesOn after (history ++ labels) s stand;
+            said_all = say_whole two new (conn_of input) (spoken reply) (follows_end over) GoesOn inputs input pieces s took is on;
+          }
+      said_done old two new after history inputs pieces input labels reply over Ends may took is first stand a e s =
+          let on : Ends ≡ follows_end over = ⊎_elim (λ d. d) (λ f. ⊎_elim (λ g. absurd (cc)) (λ g. absurd (cc)) f) s.which in record {
+            turn = record { input = input; labels = labels; reply = Some reply };
+            turned = turned_said old two new after history inputs pieces input labels (record { conn = conn_of input; bytes = spoken reply }) (follows_end over) Ends may took is first stand s;
+            answered = a;
+            ends = e ∙ ends_over over on;
+            stands = stand_said two new (conn_of input) (spoken reply) (follows_end over) Ends after (history ++ labels) s stand;
+            said_all = say_whole two new (conn_of input) (spoken reply) (follows_end over) Ends inputs input pieces s took is on;
+          }
+      said_done old two new after history inputs pieces input labels reply over (Stops k) may took is first stand a e s =
+          let status : (k ≡ 6) ⊎ (k ≡ 4) = ⊎_elim (λ d. absurd (not_over over k (sym d))) (λ f. ⊎_elim (λ g. inl (cc)) (λ g. inr (cc)) f) s.which in (
+            inr (inl (record {
+              turn = record { input = input; labels = labels; reply = Some reply };
+              turned = turned_said old two new after history inputs pieces input labels (record { conn = conn_of input; bytes = spoken reply }) (follows_end over) (Stops k) may took is first stand s;
+              answered = a;
+            })),
+            ⊎_elim (λ six. (λ zero. absurd (omega arith))) (λ four. (λ zero. absurd (omega arith))) status,
+            (λ seven. ⊎_elim (λ six. absurd (omega arith)) (λ four. absurd (omega arith)) status),
+            (λ not_four not_seven. ⊎_elim (λ six. s.quiet (ap Stops six) ∙ is) (λ four. absurd (not_four four)) status),
+          )
+
+      -- a turn that tells that the journal is full
+      pub full_done : (old two new : S) (after : Core) (history : List Label) (inputs : List Input) (pieces : List Piece) (input : Input) (labels : List Label) (conn size : ℕ) (r : After)
+          → ((part : List Label) → Begins part labels → MayBegin words history input part) → taken two ≡ Some (inputs ++ input ∷ []) → said two ≡ Some pieces
+          → Leaves moment left_since old two (TurnLeft history (length inputs) pieces labels ((record { conn = conn; bytes = full_bytes size }) ∷ [])) → Stand moment left_since said may_leave seen two after (history ++ labels)
+          → IsFilled after size
+          → Says moment left_since said may_leave seen taken two new conn (full_bytes size) (Stops 7) r
+          → TurnDone words moment left_since said may_leave seen taken old new after history inputs pieces r
+      full_done old two new after history inputs pieces input labels conn size GoesOn may took is first stand filled s = absurd (⊎_elim (λ d. cc) (λ f. ⊎_elim (λ g. cc) (λ g. cc) f) s.which)
+      full_done old two new after history inputs pieces input labels conn size Ends may took is first stand filled s = absurd (⊎_elim (λ d. cc) (λ f. ⊎_elim (λ g. cc) (λ g. cc) f) s.which)
+      full_done old two new after history inputs pieces input labels conn size (Stops k) may took is first stand filled s =
+          let status : (k ≡ 7) ⊎ ((k ≡ 6) ⊎ (k ≡ 4)) = ⊎_elim (λ d. inl (cc)) (λ f. ⊎_elim (λ g. inr (inl (cc))) (λ g. inr (inr (cc))) f) s.which in (
+            inr (inr (record {
+              input = input;
+              group = labels;
+              line = (record { conn = conn; bytes = full_bytes size }) ∷ [];
+              turned = turned_said old two new after history inputs pieces input labels (record { conn = conn; bytes = full_bytes size }) (Stops 7) (Stops k) may took is first stand s;
+              is_full = λ one e. let same : record { conn = conn; bytes = full_bytes size } ≡ one = cc in (size, ap (λ (h : Heard). h.bytes) (sym same));
+            })),
+            ⊎_elim (λ seven. (λ zero. absurd (omega arith))) (λ f. ⊎_elim (λ six. (λ zero. absurd (omega arith))) (λ four. (λ zero. absurd (omega arith))) f) status,
+            (λ seven. (
+              labels,
+              size,
+              stand_said two new conn (full_bytes size) (Stops 7) (Stops k) after (history ++ labels) s stand,
+              filled,
+              (conn, say_whole two new conn (full_bytes size) (Stops 7) (Stops k) inputs input pieces s took is (ap Stops seven)),
+            )),
+            (λ not_four not_seven. ⊎_elim (λ seven. absurd (not_seven seven)) (λ f. ⊎_elim (λ six. s.quiet (ap Stops six) ∙ is) (λ four. absurd (not_four four)) f) status),
+          )
+
+      module _ (old one : S) (engine : Core) (image : Image) (history : List Label) (inputs : List Input) (pieces : List Piece)
+          (seen_is : seen old ≡ Some image) (taken_is : taken old ≡ Some inputs) (said_is : said old ≡ Some pieces) (stands : StandFor image (may_leave old) engine history) where
+        come_leaves : (input : Input) → Comes old one input → Leaves moment left_since old one (λ left now. IsHistory left history × (now ≡ pieces))
+        come_leaves input came = next_leaves old one image engine history pieces stands said_is came.stop came.time
+
+        come_stand : (input : Input) → Comes old one input → Stand moment left_since said may_leave seen one engine (history ++ [])
+        come_stand input came = stand_none one image engine history (came.same ∙ seen_is) (still_stands image (may_leave old) (may_leave one) engine history stands came.stop)
+
+        -- the answer to an Ask
+        answered_as : (two : S) (after : Core) (conn : ℕ) (line : List ℕ) (result : Result Answered EngineFault) (is : Result Answered EngineFault) → Comes old one (Asks conn line)
+            → AskDone words moment left_since said may_leave seen line one two engine after (reply_of result) → result ≡ is
+            → CommandDone moment left_since said may_leave seen (MayAsk words history line) (AskTurn words (is_long line) history line) history one two after (reply_of is)
+        answered_as two after conn line result is came ask e =
+            subst (λ (x : Result Answered EngineFault). CommandDone moment left_since said may_leave seen (MayAsk words history line) (AskTurn words (is_long line) history line) history one two after (reply_of x)) e
+            (ask image (came.same ∙ seen_is) history (still_stands image (may_leave old) (may_leave one) engine history stands came.stop))
+
+        pub asked_reply : (two new : S) (after : Core) (conn : ℕ) (line : List ℕ) (result : Result Answered EngineFault) (answered : Answered) (r : After) → Comes old one (Asks conn line)
+            → AskDone words moment left_since said may_leave seen line one two engine after (reply_of result) → result ≡ Ok answered → answered.ends ≡ ends (Asks conn line)
+            → taken two ≡ taken one → said two ≡ said one → Says moment left_since said may_leave seen taken two new conn (spoken answered.reply) (follows_end answered.ends) r
+            → TurnDone words moment left_since said may_leave seen taken old new after history inputs pieces r
+        asked_reply two new after conn line result answered r came ask e over took silent says =
+            let done = answered_as two after conn line result (Ok answered) came ask e in
+            said_done old two new after history inputs pieces (Asks conn line) done.0 answered.reply answered.ends r
+            (λ part b. ask_may (is_long line) history line done.0 answered.reply part done.1 b)
+            (took ∙ all_taken old one (Asks conn line) inputs came taken_is) (silent ∙ came.silent ∙ said_is)
+            (begun old one two history done.0 (length inputs) pieces (heard conn (Some answered.reply)) (come_leaves (Asks conn line) came) (came.silent ∙ said_is) done.2)
+            done.3 done.1 (sym over) says
+
+        pub asked_full : (two new : S) (after : Core) (conn : ℕ) (line : List ℕ) (result : Result Answered EngineFault) (size : ℕ) (r : After) → Comes old one (Asks conn line)
+            → AskDone words moment left_since said may_leave seen line one two engine after (reply_of result) → result ≡ Err (Full size)
+            → taken two ≡ taken one → said two ≡ said one → Says moment left_since said may_leave seen taken two new conn (full_bytes size) (Stops 7) r
+            → TurnDone words moment left_since said may_leave seen taken old new after history inputs pieces r
+        asked_full two new after conn line result size r came ask e took silent says =
+            let done = answered_as two after conn line result (Err (Full size)) came ask e in
+            full_done old two new after history inputs pieces (Asks conn line) done.0 conn size r
+            done.1
+            (took ∙ all_taken old one (Asks conn line) inputs came taken_is) (silent ∙ came.silent ∙ said_is)
+            (begun old one two history done.0 (length inputs) pieces ((record { conn = conn; bytes = full_bytes size }) ∷ []) (come_leaves (Asks conn line) came) (came.silent ∙ said_is) done.2)
+            done.3 done.4 says
+
+        pub asked_broken : (two : S) (after : Core) (conn : ℕ) (line : List ℕ) (result : Result Answered EngineFault) → Comes old one (Asks conn line)
+            → AskDone words moment left_since said may_leave seen line one two engine after (reply_of result) → result ≡ Err Store → taken two ≡ taken one → said two ≡ said one
+            → TurnDone words moment left_since said may_leave seen taken old two after history inputs pieces (Stops 3)
+        asked_broken two after conn line result came ask e took silent =
+            let done = answered_as two after conn line result (Err Store) came ask e in (
+              inr (inr (record {
+                input = Asks conn line;
+                group = done.0;
+                line = [];
+                turned = record {
+                  may = done.1;
+                  took = took ∙ all_taken old one (Asks conn line) inputs came taken_is;
+                  leaves = begun old one two history done.0 (length inputs) pieces [] (come_leaves (Asks conn line) came) (came.silent ∙ said_is) done.2;
+                };
+                is_full = λ h f. absurd (cc);
+              })),
+              (λ zero. absurd (omega arith)),
+              (λ seven. absurd (omega arith)),
+              (λ not_four not_seven. silent ∙ came.silent ∙ said_is),
+            )
+
+        pub too_long_done : (new : S) (conn : ℕ) (r : After) → Comes old one (TooLongInput conn) → Says moment left_since said may_leave seen taken one new conn (spoken TooLong) (follows_end false) r
+            → TurnDone words moment left_since said may_leave seen taken old new engine history inputs pieces r
+        too_long_done new conn r came says =
+            said_done old one new engine history inputs pieces (TooLongInput conn) [] TooLong false r
+            (λ part b. begins_none part b)
+            (all_taken old one (TooLongInput conn) inputs came taken_is) (came.silent ∙ said_is)
+            (begun_none old one history (length inputs) pieces (heard conn (Some TooLong)) (come_leaves (TooLongInput conn) came))
+            (come_stand (TooLongInput conn) came) (refl, refl) refl says
+
+        pub closed_done : Comes old one Closed → TurnDone words moment left_since said may_leave seen taken old one engine history inputs pieces Ends
+        closed_done came = record {
+          turn = record { input = Closed; labels = []; reply = None };
+          turned = record {
+            may = λ part b. begins_none part b;
+            took = all_taken old one Closed inputs came taken_is;
+            leaves = begun_none old one history (length inputs) pieces [] (come_leaves Closed came);
+          };
+          answered = (refl, refl);
+          ends = refl;
+          stands = come_stand Closed came;
+          said_all = came.silent ∙ said_is ∙ ap Some (sym (append-nil pieces));
+        }
+
+        -- nothing was taken
+        pub none_done : NothingNew (may_leave old) (may_leave one) → ElapsesSilent (moment old) (moment one) (left_since old) (left_since one) (may_leave one) (said old) → taken one ≡ taken old
+            → TurnDone words moment left_since said may_leave seen taken old one engine history inputs pieces (Stops 4)
+        none_done stop time took = (
+          inl (record { took = took ∙ taken_is; leaves = next_leaves old one image engine history pieces stands said_is stop time }),
+          (λ zero. absurd (omega arith)),
+          (λ seven. absurd (omega arith)),
+          (λ not_four not_seven. absurd (not_four refl)),
+        )

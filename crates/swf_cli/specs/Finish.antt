@@ -17,6 +17,7 @@ use Rattle.swf_cli.specs.Turns.{Turn, AreTurns, labels_of, inputs_of, ends}
 use Rattle.swf_cli.specs.Follows.{conn_of, heard}
 use Rattle.swf_cli.specs.Moments.{IsMoment}
 use Rattle.swf_cli.specs.Steps.{piece_of, Stand, IsTold}
+use Rattle.swf_cli.specs.declared.words.Words.{Words}
 
 -- the last turn ends the input
 abbrev pub IsOver : List Turn → Type 0
@@ -35,9 +36,9 @@ pieces_of n (t ∷ ts) = piece_of (n + 1) (heard (conn_of t.input) t.reply) ++ p
 
 -- Read to its end: the inputs that were taken are turns, each with its labels in the history that every image stands for, and
 -- each with its reply said whole.
-pub record Finished (before : List Label) (first : List Input) (said : List Piece) (taken_now : Option (List Input)) (said_now : Option (List Piece)) (may_leave : Image → Type 0) : Type 0 where
+pub record Finished (words : Words) (before : List Label) (first : List Input) (said : List Piece) (taken_now : Option (List Input)) (said_now : Option (List Piece)) (may_leave : Image → Type 0) : Type 0 where
   pub turns : List Turn
-  pub allowed : AreTurns before turns
+  pub allowed : AreTurns words before turns
   pub over : IsOver turns ⊎ (length turns ≡ most_turns)
   pub taken : taken_now ≡ Some (first ++ inputs_of turns)
   pub told : said_now ≡ Some (said ++ pieces_of (length first) turns)
@@ -45,9 +46,9 @@ pub record Finished (before : List Label) (first : List Input) (said : List Piec
 
 -- Where the store failed or memory was missing, whole replies were said and no part of another, and what else was taken is
 -- behind their inputs.
-pub record IsShort (before : List Label) (first : List Input) (said : List Piece) (taken_now : Option (List Input)) (said_now : Option (List Piece)) : Type 0 where
+pub record IsShort (words : Words) (before : List Label) (first : List Input) (said : List Piece) (taken_now : Option (List Input)) (said_now : Option (List Piece)) : Type 0 where
   pub turns : List Turn
-  pub allowed : AreTurns before turns
+  pub allowed : AreTurns words before turns
   pub more : List Input
   pub taken : taken_now ≡ Some ((first ++ inputs_of turns) ++ more)
   pub told : said_now ≡ Some (said ++ pieces_of (length first) turns)
@@ -72,25 +73,25 @@ Tells (Damaged at) old new status taken taken_now said said_now =
 Tells (Full size) old new status taken taken_now said said_now = ⊥
 Tells OutOfMemory old new status taken taken_now said said_now = new ≡ old
 
-module _ {S : Type 0} (moment : S → ℕ) (left_since : S → ℕ → Image → List Piece → Type 0) (said : S → Option (List Piece)) (may_leave : S → Image → Type 0) (seen : S → Option Image) (taken : S → Option (List Input)) where
+module _ (words : Words) {S : Type 0} (moment : S → ℕ) (left_since : S → ℕ → Image → List Piece → Type 0) (said : S → Option (List Piece)) (may_leave : S → Image → Type 0) (seen : S → Option Image) (taken : S → Option (List Input)) where
   -- Where the journal is full: turns were taken and answered, and behind their labels and perhaps some steps more engine and store
   -- stand for a history whose next label is legal and has no room. That was said whole, last.
   pub record TellsFull (new : S) (before : List Label) (first : List Input) (pieces : List Piece) : Type 0 where
     pub engine : Core
     pub turns : List Turn
-    pub allowed : AreTurns before turns
+    pub allowed : AreTurns words before turns
     pub told : IsTold moment left_since said may_leave seen taken new engine (before ++ labels_of turns) (first ++ inputs_of turns) (pieces ++ pieces_of (length first) turns)
 
   -- What turns make of a store that stands for a history since some state. `all` are the inputs in the end.
   pub record Ran (start new : S) (before : List Label) (first : List Input) (pieces : List Piece) (status : ℕ) : Type 0 where
     pub all : List Input
     pub took : taken new ≡ Some all
-    pub leaves : Leaves moment left_since start new (IsMoment before first pieces all)
-    pub finish : status ≡ 0 → Finished before first pieces (taken new) (said new) (may_leave new)
+    pub leaves : Leaves moment left_since start new (IsMoment words before first pieces all)
+    pub finish : status ≡ 0 → Finished words before first pieces (taken new) (said new) (may_leave new)
     pub full : status ≡ 7 → TellsFull new before first pieces
-    pub short : (status ≡ 3) ⊎ (status ≡ 6) → IsShort before first pieces (taken new) (said new)
+    pub short : (status ≡ 3) ⊎ (status ≡ 6) → IsShort words before first pieces (taken new) (said new)
 
   -- the same for whatever the store stands for
   abbrev pub RunsOn : S → S → Core → ℕ → Type 0
   RunsOn old new engine status = (start : S) (before : List Label) (first : List Input) (pieces : List Piece) → taken old ≡ Some first → said old ≡ Some pieces
-      → Stand moment left_since said may_leave seen old engine before → Leaves moment left_since start old (IsMoment before first pieces first) → Ran start new before first pieces status
+      → Stand moment left_since said may_leave seen old engine before → Leaves moment left_since start old (IsMoment words before first pieces first) → Ran start new before first pieces status

@@ -1,7 +1,10 @@
 pub mod Words
+pub mod Arguments
+pub mod Statuses
 pub mod Turns
 pub mod Follows
 pub mod Moments
 pub mod Steps
 pub mod Finish
-pub mod Statuses
+pub mod Shown
+pub mod Running

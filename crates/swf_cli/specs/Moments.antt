@@ -11,6 +11,7 @@ use Rattle.swf_protocol.specs.Spoken.{spoken, full_bytes}
 use Rattle.swf_protocol.specs.declared.reply.Reply.{Reply}
 use Rattle.swf_cli.specs.Turns.{Turn}
 use Rattle.swf_cli.specs.Follows.{Heard, Follows, conn_of}
+use Rattle.swf_cli.specs.declared.words.Words.{Words}
 
 -- what was heard of a piece
 abbrev pub heard_of : Piece → Heard
@@ -34,7 +35,7 @@ IsLastPiece (t ∷ ts) p = (reply : Reply) × (t.reply ≡ Some reply) × (p.con
 
 -- The image stands for a history that begins with the one before, and the inputs that were taken so far and the whole replies
 -- among the pieces follow it. `all` are the inputs that were taken in the end.
-pub record IsMoment (before : List Label) (first : List Input) (said : List Piece) (all : List Input) (image : Image) (pieces : List Piece) : Type 0 where
+pub record IsMoment (words : Words) (before : List Label) (first : List Input) (said : List Piece) (all : List Input) (image : Image) (pieces : List Piece) : Type 0 where
   pub history : List Label
   pub stands : IsHistory image history
   pub once : Once history
@@ -42,14 +43,14 @@ pub record IsMoment (before : List Label) (first : List Input) (said : List Piec
   pub later : List Input
   pub taken_are : all ≡ first ++ (taken ++ later)
   pub whole : List Piece
-  pub follows : Follows before taken (map heard_of whole) history
+  pub follows : Follows words before taken (map heard_of whole) history
   pub prompt : ArePrompt (length first) whole
   pub pieces_are : (pieces ≡ said ++ whole) ⊎ ((last : Piece) × (pieces ≡ said ++ (whole ++ last ∷ [])) × IsLastPiece follows.unsaid last)
 
 module _ {S : Type 0} (moment : S → ℕ) (left_since : S → ℕ → Image → List Piece → Type 0) (told : S → Option (List Piece)) (may_leave : S → Image → Type 0) where
   -- Until the opening's first sync has succeeded a stop leaves what it might have left at first, and nothing was said. From then
-  -- on it leaves a moment of the session.
-  abbrev pub Runs : S → S → List Label → List Input → List Piece → List Input → Type 0
-  Runs old new before first said all =
+  -- on it leaves such a moment.
+  abbrev pub Runs : (Image → List Piece → Type 0) → S → S → Type 0
+  Runs Moment old new =
       LeavesOnly moment left_since told old new (may_leave old)
-      ⊎ ((synced : S) × LeavesOnly moment left_since told old synced (may_leave old) × Leaves moment left_since synced new (IsMoment before first said all))
+      ⊎ ((synced : S) × LeavesOnly moment left_since told old synced (may_leave old) × Leaves moment left_since synced new Moment)

@@ -1,10 +1,14 @@
--- The statuses of a session, and what each blames.
+-- The statuses of each mode, and what each blames.
 use Rattle.std.specs.Prelude.{◌≡◌, ◌≢◌, ◌⊎◌, ℕ}
 use Rattle.swf_store.specs.Faults.{RoseOnce}
+use Rattle.swf_cli.specs.declared.words.Mode.{Mode}
+use Rattle.swf_cli.specs.declared.words.Mode.TheVariants.{Session, Show}
 
--- read to the end, no meaning, the store failed, the host failed, damage, want of memory, or a full journal
-abbrev pub IsStatus : ℕ → Type 0
-IsStatus s = (s ≡ 0) ⊎ (s ≡ 2) ⊎ (s ≡ 3) ⊎ (s ≡ 4) ⊎ (s ≡ 5) ⊎ (s ≡ 6) ⊎ (s ≡ 7)
+-- In a session: read to the end, the store failed, the host failed, damage, want of memory, or a full journal. `show` fills no
+-- journal.
+abbrev pub IsStatus : Mode → ℕ → Type 0
+IsStatus Session s = (s ≡ 0) ⊎ (s ≡ 3) ⊎ (s ≡ 4) ⊎ (s ≡ 5) ⊎ (s ≡ 6) ⊎ (s ≡ 7)
+IsStatus Show s = (s ≡ 0) ⊎ (s ≡ 3) ⊎ (s ≡ 4) ⊎ (s ≡ 5) ⊎ (s ≡ 6)
 
 -- A call that failed is the last: at 3 the store's count of faults has risen by one, at 4 the host's, and else both stay.
 pub record IsBlamed (status host host_now store store_now : ℕ) : Type 0 where

@@ -13,18 +13,23 @@ use Rattle.swf_engine.specs.declared.fault.EngineFault.TheVariants.{Store, Damag
 use Rattle.swf_engine.specs.Core.{Core, StandFor}
 use Rattle.swf_engine.specs.History.{IsHistory, Begins, IsGrown}
 use Rattle.swf_engine.specs.Moves.{IsFull}
+use Rattle.swf_meaning.specs.declared.label.Answer.{Answer}
+use Rattle.swf_meaning.specs.declared.label.Answer.TheVariants.{Status, History}
 use Rattle.swf_world.specs.Refusals.{refusal}
+use Rattle.swf_world.specs.declared.query.QueryFault.{QueryFault}
+use Rattle.swf_world.specs.declared.query.QueryFault.TheVariants.{UnknownInstance, OutOfMemory as NoMemory}
 use Rattle.swf_protocol.specs.Line.{command_of}
 use Rattle.swf_protocol.specs.Spoken.{full_bytes}
 use Rattle.swf_protocol.specs.declared.command.Command.{Command}
 use Rattle.swf_protocol.specs.declared.command.LineFault.{LineFault}
 use Rattle.swf_protocol.specs.declared.reply.Reply.{Reply}
-use Rattle.swf_protocol.specs.declared.reply.Reply.TheVariants.{Memory}
+use Rattle.swf_protocol.specs.declared.reply.Reply.TheVariants.{Report, History as Labels, UnknownInstance as NoInstance, Memory}
 use Rattle.swf_cli.specs.declared.answer.Answered.{Answered}
 use Rattle.swf_cli.specs.declared.turn.After.{After}
 use Rattle.swf_cli.specs.declared.turn.After.TheVariants.{GoesOn, Ends, Stops}
 use Rattle.swf_cli.specs.Turns.{Turn, LineTurn, AskTurn, IsAnswered, is_long, ends}
 use Rattle.swf_cli.specs.Follows.{Heard, MayAdd, MayBegin, conn_of, heard}
+use Rattle.swf_cli.specs.declared.words.Words.{Words}
 
 -- a label that would be taken, and whose frame would end past the most bytes of a journal
 pub record IsFilled (engine : Core) (size : ℕ) : Type 0 where
@@ -49,17 +54,24 @@ or_memory (Damaged at) = Err (Damaged at)
 or_memory (Full size) = Err (Full size)
 or_memory OutOfMemory = Ok Memory
 
--- of a call of the engine nothing is left but a fault of the store or a full journal
+-- the reply to a query by its answer, or that no memory was found
+abbrev pub queried : Result Answer QueryFault → Reply
+queried (Ok (Status v)) = Report v
+queried (Ok (History v)) = Labels v
+queried (Err UnknownInstance) = NoInstance
+queried (Err NoMemory) = Memory
+
+-- of a call of the engine nothing is left but a fault of the store, damage or a full journal
 abbrev pub IsBreak : {T : Type 0} → Result T EngineFault → Type 0
 IsBreak (Ok x) = Unit {0}
 IsBreak (Err Store) = Unit {0}
-IsBreak (Err (Damaged at)) = ⊥
+IsBreak (Err (Damaged at)) = Unit {0}
 IsBreak (Err (Full size)) = Unit {0}
 IsBreak (Err OutOfMemory) = ⊥
 
 -- a line has added these labels so far
-abbrev pub MayAsk : List Label → List ℕ → List Label → Type 0
-MayAsk history line part = (is_long line ≡ true → part ≡ []) × (is_long line ≡ false → MayAdd history (command_of line) part)
+abbrev pub MayAsk : Words → List Label → List ℕ → List Label → Type 0
+MayAsk words history line part = (is_long line ≡ true → part ≡ []) × (is_long line ≡ false → MayAdd words history (command_of line) part)
 
 -- whether what follows a turn is the end of the input
 abbrev pub follows_end : Bool → After
@@ -79,11 +91,11 @@ TurnLeft history inputs pieces group line image now =
     (IsGrown history group image × (now ≡ pieces))
     ⊎ ((one : Heard) × (line ≡ one ∷ []) × IsHistory image (history ++ group) × SaidPart one.conn one.bytes (inputs + 1) pieces now)
 
--- a turn stops the program only where the store or the host failed, for want of memory, or at a full journal
+-- a turn stops the program only where the store or the host failed, at damage, for want of memory, or at a full journal
 abbrev pub IsStop : After → Type 0
 IsStop GoesOn = Unit {0}
 IsStop Ends = Unit {0}
-IsStop (Stops s) = (s ≡ 3) ⊎ (s ≡ 4) ⊎ (s ≡ 6) ⊎ (s ≡ 7)
+IsStop (Stops s) = (s ≡ 3) ⊎ (s ≡ 4) ⊎ (s ≡ 5) ⊎ (s ≡ 6) ⊎ (s ≡ 7)
 
 module _ {S : Type 0} (moment : S → ℕ) (left_since : S → ℕ → Image → List Piece → Type 0) (said : S → Option (List Piece)) (may_leave : S → Image → Type 0) (seen : S → Option Image) where
   -- a call that says nothing: at every moment of it an image stands for the history and the first labels of the group
@@ -94,6 +106,16 @@ module _ {S : Type 0} (moment : S → ℕ) (left_since : S → ℕ → Image →
   abbrev pub Stand : S → Core → List Label → Type 0
   Stand host engine history = (image : Image) × (seen host ≡ Some image) × StandFor image (may_leave host) engine history
 
+  -- they stand for some history
+  abbrev pub IsSound : S → Core → Type 0
+  IsSound host engine = (history : List Label) × Stand host engine history
+
+  -- what follows a turn is no damage, and the next turn begins where they stand for a history
+  abbrev pub StaysSound : S → Core → After → Type 0
+  StaysSound host engine GoesOn = IsSound host engine
+  StaysSound host engine Ends = Unit {0}
+  StaysSound host engine (Stops s) = s ≢ 5
+
   -- a command was done, which added labels and owes the reply; or the store failed, or the journal is full, behind some labels
   abbrev pub CommandDone : (List Label → Type 0) → (List Label → Reply → Type 0) → List Label → S → S → Core → Result Reply EngineFault → Type 0
   CommandDone May Does history old new after (Ok reply) = (labels : List Label) × Does labels reply × Passes old new history labels × Stand new after (history ++ labels)
@@ -102,16 +124,6 @@ module _ {S : Type 0} (moment : S → ℕ) (left_since : S → ℕ → Image →
   CommandDone May Does history old new after (Err (Full size)) =
       (labels : List Label) × ((part : List Label) → Begins part labels → May part) × Passes old new history labels × Stand new after (history ++ labels) × IsFilled after size
   CommandDone May Does history old new after (Err OutOfMemory) = ⊥
-
-  -- where engine and store stood for a history before it, a line was answered so
-  abbrev pub LineDone : Result Command LineFault → S → S → Core → Core → Result Reply EngineFault → Type 0
-  LineDone command old new before after result = ForSome (seen old) (λ image. (history : List Label) → StandFor image (may_leave old) before history
-      → CommandDone (MayAdd history command) (LineTurn history command) history old new after result)
-
-  -- the same of an Ask, which may be too long
-  abbrev pub AskDone : List ℕ → S → S → Core → Core → Result Reply EngineFault → Type 0
-  AskDone line old new before after result = ForSome (seen old) (λ image. (history : List Label) → StandFor image (may_leave old) before history
-      → CommandDone (MayAsk history line) (AskTurn (is_long line) history line) history old new after result)
 
   module _ (taken : S → Option (List Input)) where
     -- bytes were said to a connection, or they are not made for want of memory, or the host failed
@@ -125,35 +137,6 @@ module _ {S : Type 0} (moment : S → ℕ) (left_since : S → ℕ → Image →
       pub seen_same : seen new ≡ seen old
       pub taken_same : taken new ≡ taken old
 
-    -- a turn has taken this input; while it added the group nothing was said, and then a part of these bytes, if there are some
-    pub record Turned (old new : S) (history : List Label) (inputs : List Input) (pieces : List Piece) (input : Input) (group : List Label) (line : List Heard) : Type 0 where
-      pub may : (part : List Label) → Begins part group → MayBegin history input part
-      pub took : taken new ≡ Some (inputs ++ input ∷ [])
-      pub leaves : Leaves moment left_since old new (TurnLeft history (length inputs) pieces group line)
-
-    -- the turn is whole: its labels were added and its reply was said
-    pub record Whole (old new : S) (after : Core) (history : List Label) (inputs : List Input) (pieces : List Piece) (over : Bool) : Type 0 where
-      pub turn : Turn
-      pub turned : Turned old new history inputs pieces turn.input turn.labels (heard (conn_of turn.input) turn.reply)
-      pub answered : IsAnswered history turn.input turn.labels turn.reply
-      pub ends : ends turn.input ≡ over
-      pub stands : Stand new after (history ++ turn.labels)
-      pub said_all : said new ≡ Some (pieces ++ piece_of (length inputs + 1) (heard (conn_of turn.input) turn.reply))
-
-    -- its labels were added, and its reply was not said whole
-    pub record Unsaid (old new : S) (history : List Label) (inputs : List Input) (pieces : List Piece) : Type 0 where
-      pub turn : Turn
-      pub turned : Turned old new history inputs pieces turn.input turn.labels (heard (conn_of turn.input) turn.reply)
-      pub answered : IsAnswered history turn.input turn.labels turn.reply
-
-    -- the store failed, or the journal is full, of which a line was said
-    pub record Broken (old new : S) (history : List Label) (inputs : List Input) (pieces : List Piece) : Type 0 where
-      pub input : Input
-      pub group : List Label
-      pub line : List Heard
-      pub turned : Turned old new history inputs pieces input group line
-      pub is_full : (one : Heard) → line ≡ one ∷ [] → (size : ℕ) × (one.bytes ≡ full_bytes size)
-
     -- no input was taken
     pub record Nothing (old new : S) (history : List Label) (inputs : List Input) (pieces : List Piece) : Type 0 where
       pub took : taken new ≡ Some inputs
@@ -165,9 +148,51 @@ module _ {S : Type 0} (moment : S → ℕ) (left_since : S → ℕ → Image →
     IsTold new after history inputs pieces = (group : List Label) × (size : ℕ) × Stand new after (history ++ group) × IsFilled after size
         × ((conn : ℕ) × (said new ≡ Some (and_piece conn (full_bytes size) (length inputs + 1) pieces)))
 
+-- by the words of the program
+module _ (words : Words) {S : Type 0} (moment : S → ℕ) (left_since : S → ℕ → Image → List Piece → Type 0) (said : S → Option (List Piece)) (may_leave : S → Image → Type 0) (seen : S → Option Image) where
+  -- where engine and store stood for a history before it, a line was answered so
+  abbrev pub LineDone : Result Command LineFault → S → S → Core → Core → Result Reply EngineFault → Type 0
+  LineDone command old new before after result = ForSome (seen old) (λ image. (history : List Label) → StandFor image (may_leave old) before history
+      → CommandDone moment left_since said may_leave seen (MayAdd words history command) (LineTurn words history command) history old new after result)
+
+  -- the same of an Ask, which may be too long
+  abbrev pub AskDone : List ℕ → S → S → Core → Core → Result Reply EngineFault → Type 0
+  AskDone line old new before after result = ForSome (seen old) (λ image. (history : List Label) → StandFor image (may_leave old) before history
+      → CommandDone moment left_since said may_leave seen (MayAsk words history line) (AskTurn words (is_long line) history line) history old new after result)
+
+  module _ (taken : S → Option (List Input)) where
+    -- a turn has taken this input; while it added the group nothing was said, and then a part of these bytes, if there are some
+    pub record Turned (old new : S) (history : List Label) (inputs : List Input) (pieces : List Piece) (input : Input) (group : List Label) (line : List Heard) : Type 0 where
+      pub may : (part : List Label) → Begins part group → MayBegin words history input part
+      pub took : taken new ≡ Some (inputs ++ input ∷ [])
+      pub leaves : Leaves moment left_since old new (TurnLeft history (length inputs) pieces group line)
+
+    -- the turn is whole: its labels were added and its reply was said
+    pub record Whole (old new : S) (after : Core) (history : List Label) (inputs : List Input) (pieces : List Piece) (over : Bool) : Type 0 where
+      pub turn : Turn
+      pub turned : Turned old new history inputs pieces turn.input turn.labels (heard (conn_of turn.input) turn.reply)
+      pub answered : IsAnswered words history turn.input turn.labels turn.reply
+      pub ends : ends turn.input ≡ over
+      pub stands : Stand moment left_since said may_leave seen new after (history ++ turn.labels)
+      pub said_all : said new ≡ Some (pieces ++ piece_of (length inputs + 1) (heard (conn_of turn.input) turn.reply))
+
+    -- its labels were added, and its reply was not said whole
+    pub record Unsaid (old new : S) (history : List Label) (inputs : List Input) (pieces : List Piece) : Type 0 where
+      pub turn : Turn
+      pub turned : Turned old new history inputs pieces turn.input turn.labels (heard (conn_of turn.input) turn.reply)
+      pub answered : IsAnswered words history turn.input turn.labels turn.reply
+
+    -- the store failed, or the journal is full, of which a line was said
+    pub record Broken (old new : S) (history : List Label) (inputs : List Input) (pieces : List Piece) : Type 0 where
+      pub input : Input
+      pub group : List Label
+      pub line : List Heard
+      pub turned : Turned old new history inputs pieces input group line
+      pub is_full : (one : Heard) → line ≡ one ∷ [] → (size : ℕ) × (one.bytes ≡ full_bytes size)
+
     abbrev pub TurnDone : S → S → Core → List Label → List Input → List Piece → After → Type 0
     TurnDone old new after history inputs pieces GoesOn = Whole old new after history inputs pieces false
     TurnDone old new after history inputs pieces Ends = Whole old new after history inputs pieces true
     TurnDone old new after history inputs pieces (Stops s) =
-        (Nothing old new history inputs pieces ⊎ Unsaid old new history inputs pieces ⊎ Broken old new history inputs pieces)
-        × (s ≢ 0) × (s ≡ 7 → IsTold new after history inputs pieces) × (s ≢ 4 → s ≢ 7 → said new ≡ Some pieces)
+        (Nothing moment left_since said may_leave seen taken old new history inputs pieces ⊎ Unsaid old new history inputs pieces ⊎ Broken old new history inputs pieces)
+        × (s ≢ 0) × (s ≡ 7 → IsTold moment left_since said may_leave seen taken new after history inputs pieces) × (s ≢ 4 → s ≢ 7 → said new ≡ Some pieces)

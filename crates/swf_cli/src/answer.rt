@@ -1,20 +1,20 @@
 // What a line is answered, and what it adds to the journal.
-ghost use Rattle.std.specs.Prelude.{◌≡◌, ◌⊎◌, ◌≤◌, ◌^◌, Some, Ok, IfOk, false, is_some, if◌then◌else◌};
-ghost use Rattle.std.specs.Option.{ForSome};
+ghost use Rattle.std.specs.Prelude.{◌≡◌, ◌≤◌, Ok, IfOk, is_some, if◌then◌else◌};
 ghost use Rattle.swf_engine.specs.Causes.{EngineCause, WhereUsable};
 ghost use Rattle.swf_engine.specs.Core.{IsEngineOf};
-ghost use Rattle.swf_world.specs.Answers.{answer};
 ghost use Rattle.swf_protocol.specs.Line.{command_of, is_quit};
 ghost use Rattle.swf_protocol.specs.Sayable.{IsSayable, IsModest};
-ghost use Rattle.swf_cli.specs.Steps.{LineDone, reply_of, or_memory, IsBreak};
-ghost use Rattle.swf_cli.specs.Turns.{is_load, refused, query_reply, settle_reply};
+ghost use Rattle.swf_cli.specs.Steps.{LineDone, reply_of, or_memory, queried, IsBreak};
+ghost use Rattle.swf_cli.specs.Turns.{is_load, refused, settle_reply};
+ghost use Rattle.swf_cli.specs.declared.words.Words.{Words as Meaning};
 
+use crate::words::Words;
 use std::alloc::Global;
 use swf_engine::{Engine, EngineFault, Settled, Submitted};
-use swf_meaning::{Outcome, Query};
-use swf_protocol::{Command, LineFault, ReadFault, Reply, read_line};
+use swf_meaning::{Answer, Outcome, Query};
+use swf_protocol::{Command, ReadFault, Reply, read_line};
 use swf_store::Store;
-use swf_world::{Answer, QueryFault, Refusal};
+use swf_world::{QueryFault, Refusal};
 
 /// What a line is answered, and whether the input ends with it.
 #[derive(Drop)]
@@ -73,7 +73,7 @@ fn submit<S: Store>(
     requires place { IsEngineOf (S.seen store.old) engine.old }
     requires modest { IsModest (Command.Do outcome) }
     ensures place { WhereUsable result (IsEngineOf (S.seen store.new) engine.new) }
-    ensures done { LineDone S.moment S.left_since S.said S.may_leave S.seen (Ok (Command.Do outcome)) store.old store.new engine.old engine.new result }
+    ensures done { (words : Meaning) → LineDone words S.moment S.left_since S.said S.may_leave S.seen (Ok (Command.Do outcome)) store.old store.new engine.old engine.new result }
     ensures which { IsBreak result }
     ensures sayable { IfOk result IsSayable }
     ensures said { S.said store.new ≡ S.said store.old }
@@ -100,34 +100,18 @@ fn settled_reply(settled: Settled, limit: u64) -> Reply
     }
 }
 
-fn settle<S: Store>(store: &mut S, engine: &mut Engine, limit: u64) -> Result<Reply, EngineFault>
-    requires place { IsEngineOf (S.seen store.old) engine.old }
-    requires modest { limit ≤ 1000000 }
-    ensures place { WhereUsable result (IsEngineOf (S.seen store.new) engine.new) }
-    ensures done { LineDone S.moment S.left_since S.said S.may_leave S.seen (Ok (Command.Settle (Some limit))) store.old store.new engine.old engine.new result }
-    ensures which { IsBreak result }
-    ensures sayable { IfOk result IsSayable }
-    ensures said { S.said store.new ≡ S.said store.old }
-    ensures beside { S.beside store.new ≡ S.beside store.old }
-    ensures honest { is_some (S.seen store.new) ≡ is_some (S.seen store.old) }
-    ensures cause { EngineCause (S.store_faults store.old) (S.store_faults store.new) result }
-{
-    match engine.settle(store, limit) {
-        Ok(settled) => Ok(settled_reply(settled, limit)),
-        Err(fault) => or_memory(fault),
-    }
-}
-
-// A settling of at most so many steps, where the line gives their number.
-fn settle_line<S: Store>(
+// A settling of at most so many steps, where the line gives their number, or else as many as the words say.
+fn settle<S: Store>(
+    words: &Words,
     store: &mut S,
     engine: &mut Engine,
     limit: Option<u64>,
 ) -> Result<Reply, EngineFault>
     requires place { IsEngineOf (S.seen store.old) engine.old }
     requires modest { IsModest (Command.Settle limit) }
+    requires words { words.now.steps ≤ 1000000 }
     ensures place { WhereUsable result (IsEngineOf (S.seen store.new) engine.new) }
-    ensures done { LineDone S.moment S.left_since S.said S.may_leave S.seen (Ok (Command.Settle limit)) store.old store.new engine.old engine.new result }
+    ensures done { LineDone words.now S.moment S.left_since S.said S.may_leave S.seen (Ok (Command.Settle limit)) store.old store.new engine.old engine.new result }
     ensures which { IsBreak result }
     ensures sayable { IfOk result IsSayable }
     ensures said { S.said store.new ≡ S.said store.old }
@@ -135,33 +119,55 @@ fn settle_line<S: Store>(
     ensures honest { is_some (S.seen store.new) ≡ is_some (S.seen store.old) }
     ensures cause { EngineCause (S.store_faults store.old) (S.store_faults store.new) result }
 {
-    match limit {
-        Some(limit) => settle(store, engine, limit),
-        None => Ok(Reply::BadLine(LineFault::Command)),
+    let most = limit.unwrap_or(u64::from(words.steps));
+    match engine.settle(store, most) {
+        Ok(settled) => Ok(settled_reply(settled, most)),
+        Err(fault) => or_memory(fault),
     }
 }
 
-fn ask(engine: &Engine, query: &Query) -> Reply
-    ensures answer { (result ≡ Reply.Memory) ⊎ (result ≡ query_reply (answer engine.now.world query.now)) }
+/// The reply to a query, by its answer.
+pub fn queried(answer: Result<Answer, QueryFault>) -> Reply
+    ensures reply { result ≡ queried answer }
     ensures sayable { IsSayable result }
 {
-    match engine.query(query) {
+    match answer {
         Ok(Answer::Status(value)) => Reply::Report(value),
+        Ok(Answer::History(value)) => Reply::History(value),
         Err(QueryFault::UnknownInstance) => Reply::UnknownInstance,
         Err(QueryFault::OutOfMemory) => Reply::Memory,
     }
 }
 
+fn ask<S: Store>(store: &mut S, engine: &mut Engine, query: &Query) -> Result<Reply, EngineFault>
+    requires place { IsEngineOf (S.seen store.old) engine.old }
+    ensures place { WhereUsable result (IsEngineOf (S.seen store.new) engine.new) }
+    ensures done { (words : Meaning) → LineDone words S.moment S.left_since S.said S.may_leave S.seen (Ok (Command.Ask query.now)) store.old store.new engine.old engine.new result }
+    ensures which { IsBreak result }
+    ensures sayable { IfOk result IsSayable }
+    ensures said { S.said store.new ≡ S.said store.old }
+    ensures beside { S.beside store.new ≡ S.beside store.old }
+    ensures honest { is_some (S.seen store.new) ≡ is_some (S.seen store.old) }
+    ensures cause { EngineCause (S.store_faults store.old) (S.store_faults store.new) result }
+{
+    match engine.query(store, query) {
+        Ok(answer) => Ok(queried(answer)),
+        Err(fault) => or_memory(fault),
+    }
+}
+
 // Does what a command says.
 fn obey<S: Store>(
+    words: &Words,
     store: &mut S,
     engine: &mut Engine,
     command: Command,
 ) -> Result<Reply, EngineFault>
     requires place { IsEngineOf (S.seen store.old) engine.old }
     requires modest { IsModest command }
+    requires words { words.now.steps ≤ 1000000 }
     ensures place { WhereUsable result (IsEngineOf (S.seen store.new) engine.new) }
-    ensures done { LineDone S.moment S.left_since S.said S.may_leave S.seen (Ok command) store.old store.new engine.old engine.new result }
+    ensures done { LineDone words.now S.moment S.left_since S.said S.may_leave S.seen (Ok command) store.old store.new engine.old engine.new result }
     ensures which { IsBreak result }
     ensures sayable { IfOk result IsSayable }
     ensures said { S.said store.new ≡ S.said store.old }
@@ -171,8 +177,8 @@ fn obey<S: Store>(
 {
     match command {
         Command::Do(outcome) => submit(store, engine, outcome),
-        Command::Ask(query) => Ok(ask(engine, &query)),
-        Command::Settle(limit) => settle_line(store, engine, limit),
+        Command::Ask(query) => ask(store, engine, &query),
+        Command::Settle(limit) => settle(words, store, engine, limit),
         Command::Quit => Ok(Reply::Quit),
     }
 }
@@ -183,16 +189,18 @@ fn is_quit(command: &Command) -> bool
     matches!(command, Command::Quit)
 }
 
-/// Answers a line that is not too long. A fault is one of the store, or that the journal is full.
+/// Answers a line that is not too long. A fault is one of the store, or that the journal is damaged or full.
 pub fn answer_line<S: Store>(
     alloc: Global,
+    words: &Words,
     store: &mut S,
     engine: &mut Engine,
     line: &[u8],
 ) -> Result<Answered, EngineFault>
     requires place { IsEngineOf (S.seen store.old) engine.old }
+    requires words { words.now.steps ≤ 1000000 }
     ensures place { WhereUsable result (IsEngineOf (S.seen store.new) engine.new) }
-    ensures done { LineDone S.moment S.left_since S.said S.may_leave S.seen (command_of line.now) store.old store.new engine.old engine.new (reply_of result) }
+    ensures done { LineDone words.now S.moment S.left_since S.said S.may_leave S.seen (command_of line.now) store.old store.new engine.old engine.new (reply_of result) }
     ensures ends { IfOk result (λ answered. answered.ends ≡ is_quit (command_of line.now)) }
     ensures which { IsBreak result }
     ensures sayable { IfOk result (λ answered. IsSayable answered.reply) }
@@ -204,7 +212,7 @@ pub fn answer_line<S: Store>(
     match read_line(alloc, line) {
         Ok(command) => {
             let ends = is_quit(&command);
-            match obey(store, engine, command) {
+            match obey(words, store, engine, command) {
                 Ok(reply) => Ok(Answered { reply, ends }),
                 Err(fault) => Err(fault),
             }

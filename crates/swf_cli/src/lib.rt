@@ -2,9 +2,14 @@
 #![tactic(auto)]
 
 mod answer;
+mod arguments;
+mod opening;
+mod run;
 mod session;
+mod show;
 mod turn;
 mod words;
 
-pub use session::swf_run;
-pub use words::is_session;
+pub use arguments::read_words;
+pub use run::swf_run;
+pub use words::{Mode, Words};

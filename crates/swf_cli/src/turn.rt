@@ -1,27 +1,32 @@
 // One turn of a session: an input is taken, answered, and its reply is said.
-ghost use Rattle.std.specs.Prelude.{◌≡◌, ◌⊎◌, ℕ, Ok, Err, IfOk, List, true, false, is_some, length, if◌then◌else◌};
+ghost use Rattle.std.specs.Prelude.{◌≡◌, ◌⊎◌, ◌≤◌, ℕ, Some, Ok, Err, IfOk, List, true, false, is_some, length, if◌then◌else◌};
 ghost use Rattle.std.specs.Option.{ForSome};
 ghost use Rattle.swf_meaning.specs.declared.label.Label.{Label};
 ghost use Rattle.swf_engine.specs.Causes.{EngineCause, WhereUsable};
 ghost use Rattle.swf_engine.specs.Core.{IsEngineOf, StandFor};
 ghost use Rattle.swf_protocol.specs.Line.{command_of, is_quit};
 ghost use Rattle.swf_protocol.specs.Sayable.{IsSayable};
-ghost use Rattle.swf_protocol.specs.Spoken.{spoken, full_bytes};
+ghost use Rattle.swf_protocol.specs.Spoken.{spoken, damaged_bytes, full_bytes};
+ghost use Rattle.swf_store.specs.Said.{and_piece};
 ghost use Rattle.swf_cli.specs.Statuses.{IsBlamed};
-ghost use Rattle.swf_cli.specs.Steps.{AskDone, IsBreak, IsStop, Says, TurnDone, reply_of, follows_end, status_of};
+ghost use Rattle.swf_cli.specs.Steps.{AskDone, IsBreak, IsSound, IsStop, Says, StaysSound, TurnDone, reply_of, follows_end, status_of};
 ghost use Rattle.swf_cli.specs.Turns.{is_long};
 
 use crate::answer::{Answered, answer_line};
+use crate::words::Words;
 use std::alloc::Global;
 use swf_engine::{Engine, EngineFault};
 use swf_host::{Host, Input, MOST_LINE};
-use swf_protocol::{Reply, full_line, reply_line};
+use swf_protocol::{Reply, damaged_line, full_line, reply_line};
 
 /// The store failed.
 pub const STORE_FAULT: u8 = 3;
 
 /// The host failed.
 pub const HOST_FAULT: u8 = 4;
+
+/// The journal is damaged.
+pub const DAMAGED: u8 = 5;
 
 /// No memory was found.
 pub const NO_MEMORY: u8 = 6;
@@ -42,13 +47,15 @@ pub enum After {
 // Answers an Ask.
 fn answer_ask<H: Host>(
     alloc: Global,
+    words: &Words,
     host: &mut H,
     engine: &mut Engine,
     line: &[u8],
 ) -> Result<Answered, EngineFault>
     requires place { IsEngineOf (H.seen host.old) engine.old }
+    requires words { words.now.steps ≤ 1000000 }
     ensures place { WhereUsable result (IsEngineOf (H.seen host.new) engine.new) }
-    ensures done { AskDone H.moment H.left_since H.said H.may_leave H.seen line.now host.old host.new engine.old engine.new (reply_of result) }
+    ensures done { AskDone words.now H.moment H.left_since H.said H.may_leave H.seen line.now host.old host.new engine.old engine.new (reply_of result) }
     ensures ends { IfOk result (λ answered. answered.ends ≡ (if is_long line.now then false else is_quit (command_of line.now))) }
     ensures which { IsBreak result }
     ensures sayable { IfOk result (λ answered. IsSayable answered.reply) }
@@ -64,11 +71,11 @@ fn answer_ask<H: Host>(
             ends: false,
         });
     }
-    answer_line(alloc, host, engine, line)
+    answer_line(alloc, words, host, engine, line)
 }
 
-// Says a reply to the connection that asked.
-fn say<H: Host>(alloc: Global, host: &mut H, conn: u64, answered: Answered) -> After
+/// Says a reply to the connection that asked.
+pub fn say<H: Host>(alloc: Global, host: &mut H, conn: u64, answered: Answered) -> After
     requires { IsSayable answered.reply }
     ensures says { Says H.moment H.left_since H.said H.may_leave H.seen H.taken host.old host.new conn (spoken answered.reply) (follows_end answered.ends) result }
     ensures stops { IsStop result }
@@ -99,23 +106,47 @@ fn say_full<H: Host>(alloc: Global, host: &mut H, conn: u64, size: u64) -> After
     }
 }
 
+/// Says to a connection where the journal is damaged, and answers the status.
+pub fn say_damage<H: Host>(alloc: Global, host: &mut H, conn: u64, at: u64) -> u8
+    ensures told { ForSome (H.taken host.old) (λ inputs. ForSome (H.said host.old) (λ pieces. result ≡ 5 → H.said host.new ≡ Some (and_piece conn (damaged_bytes at) (length inputs) pieces))) }
+    ensures taken { H.taken host.new ≡ H.taken host.old }
+    ensures blamed { IsBlamed result (H.host_faults host.old) (H.host_faults host.new) (H.store_faults host.old) (H.store_faults host.new) }
+    ensures which { (result ≡ 5) ⊎ (result ≡ 6) ⊎ (result ≡ 4) }
+{
+    let Ok(line) = damaged_line(alloc, at) else {
+        return NO_MEMORY;
+    };
+    match host.say(conn, &line) {
+        Ok(()) => DAMAGED,
+        Err(_) => HOST_FAULT,
+    }
+}
+
 /// Takes the next input, and says its reply.
-pub fn take_turn<H: Host>(alloc: Global, host: &mut H, engine: &mut Engine) -> After
+pub fn take_turn<H: Host>(alloc: Global, words: &Words, host: &mut H, engine: &mut Engine) -> After
     requires place { IsEngineOf (H.seen host.old) engine.old }
+    requires words { words.now.steps ≤ 1000000 }
     ensures place { result ≡ After.GoesOn → IsEngineOf (H.seen host.new) engine.new }
     ensures turn { ForSome (H.seen host.old) (λ image. ForSome (H.taken host.old) (λ inputs. ForSome (H.said host.old) (λ pieces.
         (history : List Label) → StandFor image (H.may_leave host.old) engine.old history
-        → TurnDone H.moment H.left_since H.said H.may_leave H.seen H.taken host.old host.new engine.new history inputs pieces result))) }
+        → TurnDone words.now H.moment H.left_since H.said H.may_leave H.seen H.taken host.old host.new engine.new history inputs pieces result))) }
+    // Where engine and store stand for a history no damage is found, and they stand for one after it.
+    ensures sound { IsSound H.moment H.left_since H.said H.may_leave H.seen host.old engine.old → StaysSound H.moment H.left_since H.said H.may_leave H.seen host.new engine.new result }
     ensures which { IsStop result }
     ensures blamed { IsBlamed (status_of result) (H.host_faults host.old) (H.host_faults host.new) (H.store_faults host.old) (H.store_faults host.new) }
 {
     match host.next() {
-        Ok(Input::Ask(conn, line)) => match answer_ask(alloc, host, engine, line.as_slice()) {
-            Ok(answered) => say(alloc, host, conn, answered),
-            Err(EngineFault::Full { size }) => say_full(alloc, host, conn, size),
-            Err(EngineFault::Store) => After::Stops(STORE_FAULT),
-            Err(EngineFault::Damaged { .. } | EngineFault::OutOfMemory) => unreachable!(),
-        },
+        Ok(Input::Ask(conn, line)) => {
+            match answer_ask(alloc, words, host, engine, line.as_slice()) {
+                Ok(answered) => say(alloc, host, conn, answered),
+                Err(EngineFault::Full { size }) => say_full(alloc, host, conn, size),
+                Err(EngineFault::Damaged { at }) => {
+                    After::Stops(say_damage(alloc, host, conn, at))
+                }
+                Err(EngineFault::Store) => After::Stops(STORE_FAULT),
+                Err(EngineFault::OutOfMemory) => unreachable!(),
+            }
+        }
         Ok(Input::TooLong(conn)) => {
             let answered = Answered {
                 reply: Reply::TooLong,

@@ -1,13 +1,18 @@
-// The words of the command line.
-ghost use Rattle.std.specs.Prelude.{◌≡◌};
-ghost use Rattle.swf_cli.specs.Words.{is_session};
+// What the words of the command line may mean.
 
-/// Whether the words are the one word `session`.
-pub fn is_session(words: &[String]) -> bool
-    ensures { result ≡ is_session words.now }
-{
-    match words {
-        [word] => word.as_str() == "session",
-        _ => false,
-    }
+/// What the program does.
+#[derive(Clone, Copy, PartialEq, Eq)]
+pub enum Mode {
+    /// It reads commands line by line.
+    Session,
+    /// It says the status of each instance.
+    Show,
+}
+
+/// What the words of the command line mean.
+#[derive(Clone, Copy)]
+pub struct Words {
+    /// How many steps a settling without a number takes at most.
+    pub steps: u32,
+    pub mode: Mode,
 }

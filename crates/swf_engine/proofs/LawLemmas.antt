@@ -33,14 +33,14 @@ history_one image a b p q =
     holds_one q.bodies a b (subst (λ (l : List (List ℕ)). HoldLabels l a) same p.holds) q.holds
 
 -- what the first bodies hold, and what the others do
-record Split (front more : List (List ℕ)) (labels : List Label) : Type 0 where
-  first : List Label
-  rest : List Label
-  joined : labels ≡ first ++ rest
-  of_front : HoldLabels front first
-  of_more : HoldLabels more rest
+pub record Split (front more : List (List ℕ)) (labels : List Label) : Type 0 where
+  pub first : List Label
+  pub rest : List Label
+  pub joined : labels ≡ first ++ rest
+  pub of_front : HoldLabels front first
+  pub of_more : HoldLabels more rest
 
-split : (front more : List (List ℕ)) (labels : List Label) → HoldLabels (front ++ more) labels → Split front more labels
+pub split : (front more : List (List ℕ)) (labels : List Label) → HoldLabels (front ++ more) labels → Split front more labels
 split [] more labels h = record { first = []; rest = labels; joined = refl; of_front = refl; of_more = h }
 split (f ∷ front) more labels h =
     let s = split front more h.1 h.4 in
@@ -53,13 +53,13 @@ split (f ∷ front) more labels h =
     }
 
 -- frames that stand in front of an open gate are the first of those that stand in front of a shut one
-record Further (fs h : List (List ℕ)) (behind : List ℕ) (x : ℕ) (r : List ℕ) : Type 0 where
-  more : List (List ℕ)
-  joined : h ≡ fs ++ more
-  behind_is : behind ≡ frames_bytes more ++ x ∷ r
-  fit : AllByRecursion Fits more
+pub record Further (fs h : List (List ℕ)) (behind : List ℕ) (x : ℕ) (r : List ℕ) : Type 0 where
+  pub more : List (List ℕ)
+  pub joined : h ≡ fs ++ more
+  pub behind_is : behind ≡ frames_bytes more ++ x ∷ r
+  pub fit : AllByRecursion Fits more
 
-further : (fs h : List (List ℕ)) (behind rest : List ℕ) (x : ℕ) (r : List ℕ) → AllByRecursion Fits fs → AllByRecursion Fits h → x ≢ open_gate → behind ≡ open_gate ∷ rest
+pub further : (fs h : List (List ℕ)) (behind rest : List ℕ) (x : ℕ) (r : List ℕ) → AllByRecursion Fits fs → AllByRecursion Fits h → x ≢ open_gate → behind ≡ open_gate ∷ rest
     → frames_bytes fs ++ behind ≡ frames_bytes h ++ x ∷ r → Further fs h behind x r
 further [] h behind rest x r fit fit' shut opens is = record { more = h; joined = refl; behind_is = is; fit = fit' }
 further (f ∷ fs) [] behind rest x r fit fit' shut opens is = let e : x ≡ open_gate = cc in absurd (shut e)
@@ -74,7 +74,7 @@ further (f ∷ fs) (b ∷ h) behind rest x r fit fit' shut opens is =
     }
 
 -- the first of more frames is the one that stands there
-first_frame : (more : List (List ℕ)) (behind body after : List ℕ) (x : ℕ) (r : List ℕ) → AllByRecursion Fits more → x ≢ open_gate → IsFrame behind body after → behind ≡ frames_bytes more ++ x ∷ r
+pub first_frame : (more : List (List ℕ)) (behind body after : List ℕ) (x : ℕ) (r : List ℕ) → AllByRecursion Fits more → x ≢ open_gate → IsFrame behind body after → behind ≡ frames_bytes more ++ x ∷ r
     → (others : List (List ℕ)) × (more ≡ body ∷ others)
 first_frame [] behind body after x r fit shut frame is = let b = frame.bytes in let e : x ≡ open_gate = cc in absurd (shut e)
 first_frame (m ∷ ms) behind body after x r fit shut frame is =
@@ -104,7 +104,7 @@ bad_body w gate at body labels rest e legal (inr bad) =
     let no : is_some (run_from w (labels ++ rest)) ≡ false = ap is_some none in
     absurd (cc)
 
-header_first : (journal rest : List ℕ) → journal ≡ header ++ rest → take 16 journal ≡ header
+pub header_first : (journal rest : List ℕ) → journal ≡ header ++ rest → take 16 journal ≡ header
 header_first journal rest is = ap (λ (l : List ℕ). take 16 l) is ∙ take_at header rest 16 length-header
 
 bad_frame : (image : Image) (history : List Label) (at : ℕ) (h : IsHistory image history) (shut : IsShutAfter header image.journal h.bodies) (d : IsFrameDamage image.journal at)

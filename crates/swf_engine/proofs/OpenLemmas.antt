@@ -1,10 +1,14 @@
 -- How an opening goes on from frame to frame, and what it stands for at its end.
-use Rattle.std.proofs.Common.{◌≡◌, ◌≢◌, ◌∙◌, ap, sym, refl, subst, inl, inr, ⊎_elim, ℕ, ◌+◌, ◌≤◌, List, [], ◌∷◌, ◌++◌, length, take, drop, Option, Some, true, Vec, Global, Result, Ok, Err, IfOk, append_assoc, arith}
+use Rattle.std.proofs.Common.{◌≡◌, ◌≢◌, ◌∙◌, ap, sym, refl, subst, inl, inr, ⊎_elim, ℕ, ◌+◌, ◌≤◌, List, [], ◌∷◌, ◌++◌, length, take, drop, Option, Some, None, true, Vec, Global, Result, Ok, Err, IfOk, append_assoc, arith}
 use Rattle.std.specs.List.{AllByRecursion}
+use Rattle.std.specs.Option.{MatchOption}
 use Rattle.std.proofs.lemmas.Bool.{cases_lt}
 use Rattle.std.proofs.lemmas.List.{append_cancel_left}
 use Rattle.swf_store.specs.declared.image.Image.{Image}
+use Rattle.swf_store.specs.declared.image.File.{File}
+use Rattle.swf_store.specs.declared.image.File.TheVariants.{Journal}
 use Rattle.swf_store.specs.Disk.{Only}
+use Rattle.swf_store.specs.Files.{bytes_of}
 use Rattle.swf_journal.specs.Frames.{header, open_gate, length_bytes, frames_bytes, next_gate}
 use Rattle.swf_journal.specs.Opening.{begun, opened, KeepsFrames, IsFrame, IsDamage, Opens}
 use Rattle.swf_journal.specs.Place.{Place, HasRead, IsReady}
@@ -32,6 +36,17 @@ use Rattle.swf_engine.specs.Opening.{OpensHistory, IsOpened}
 use Rattle.swf_engine.specs.Reading.{HasReplayed, HasReadAll, Reads, ReadsAll}
 use Rattle.swf_engine.proofs.HistoryLemmas.{holds_push}
 use Rattle.swf_engine.proofs.MoveLemmas.{run_joined}
+
+-- what the reading found, of the journal
+pub of_journal : (image : Image) (file : File) (new : Place) (bodies : List (List ℕ)) (o p : Option (Vec ℕ Global)) → file ≡ Journal → o ≡ p
+    → MatchOption o (HasRead (bytes_of image file) new header bodies × IsShutAfter header (bytes_of image file) bodies) (λ body. HasRead (bytes_of image file) new header (bodies ++ body.items ∷ []))
+    → MatchOption p (HasRead image.journal new header bodies × IsShutAfter header image.journal bodies) (λ body. HasRead image.journal new header (bodies ++ body.items ∷ []))
+of_journal image file new bodies o p is same found =
+    subst (λ (f : File). MatchOption p (HasRead (bytes_of image f) new header bodies × IsShutAfter header (bytes_of image f) bodies) (λ body. HasRead (bytes_of image f) new header (bodies ++ body.items ∷ []))) is
+    (subst (λ (q : Option (Vec ℕ Global)). MatchOption q (HasRead (bytes_of image file) new header bodies × IsShutAfter header (bytes_of image file) bodies) (λ body. HasRead (bytes_of image file) new header (bodies ++ body.items ∷ []))) same found)
+
+pub in_file : (image : Image) (file : File) (place : Place) (bodies : List (List ℕ)) → file ≡ Journal → HasRead image.journal place header bodies → HasRead (bytes_of image file) place header bodies
+in_file image file place bodies is read = subst (λ (f : File). HasRead (bytes_of image f) place header bodies) (sym is) read
 
 -- no frame yet
 pub replayed_none : (journal : List ℕ) (place : Place) → HasRead journal place header [] → HasReplayed journal place empty
@@ -115,7 +130,7 @@ last_fits [] body f = f.0
 last_fits (x ∷ frames) body f = last_fits frames body f.1
 
 -- the frame that was read stands at the gate where the reading stood
-frame_there : (bytes : List ℕ) (old new : Place) (front : List ℕ) (frames : List (List ℕ)) (body : List ℕ) → HasRead bytes old front frames → (now : HasRead bytes new front (frames ++ body ∷ []))
+pub frame_there : (bytes : List ℕ) (old new : Place) (front : List ℕ) (frames : List (List ℕ)) (body : List ℕ) → HasRead bytes old front frames → (now : HasRead bytes new front (frames ++ body ∷ []))
     → IsFrame (drop old.gate bytes) body (now.gate ∷ now.rest)
 frame_there bytes old new front frames body was now =
     let rest = now.gate ∷ now.rest in

@@ -6,3 +6,4 @@ pub mod Answers
 pub mod Damage
 pub mod Reading
 pub mod Opening
+pub mod Retelling

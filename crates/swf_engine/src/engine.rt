@@ -1,22 +1,28 @@
 // The engine: a world, and the journal of the labels that made it.
-ghost use Rattle.std.specs.Prelude.{◌≡◌, ◌⊎◌, Err, IfOk, OnOk, is_some};
+ghost use Rattle.std.specs.Prelude.{◌≡◌, ℕ, List, Err, IfOk, IsOk, is_some, slice_get, option_map};
+ghost use Rattle.std.specs.Option.{ForSome};
+ghost use Rattle.swf_store.specs.Disk.{NothingNew};
+ghost use Rattle.swf_store.specs.Stops.{LeavesOnly};
 ghost use Rattle.swf_store.specs.declared.image.File.TheVariants.{Journal as JournalFile};
-ghost use Rattle.swf_meaning.specs.Answer.{status};
+ghost use Rattle.swf_meaning.specs.declared.label.Label.{Label};
 ghost use Rattle.swf_record.specs.Encodes.{Nests};
-ghost use Rattle.swf_world.specs.Answers.{answer};
+ghost use Rattle.swf_world.specs.Answers.{IsOfWorld};
 ghost use Rattle.swf_world.specs.Latest.{label_of};
 ghost use Rattle.swf_engine.specs.Answers.{Submits, Steps, Settles, IsSmall};
 ghost use Rattle.swf_engine.specs.Causes.{EngineCause, WhereUsable};
-ghost use Rattle.swf_engine.specs.Core.{IsEngineOf, most_bytes};
+ghost use Rattle.swf_engine.specs.Core.{IsEngineOf, StandFor, most_bytes};
+ghost use Rattle.swf_engine.specs.Retelling.{Queries, AnswersQuery};
 
 use crate::EngineFault;
 use crate::add::add_label;
+use crate::retelling::retell;
 use std::alloc::Global;
 use std::marker::Model;
 use swf_journal::Journal;
-use swf_meaning::{Outcome, Query};
+use swf_meaning::{Answer, Outcome, Query};
 use swf_store::Store;
-use swf_world::{Answer, Installed, QueryFault, Refusal, World};
+use swf_text::Text;
+use swf_world::{Installed, QueryFault, Refusal, World};
 
 /// What handing an outcome in did.
 #[derive(Drop)]
@@ -135,10 +141,39 @@ impl Engine {
         })
     }
 
-    /// Answers a query.
-    pub fn query(&self, query: &Query) -> Result<Answer, QueryFault>
-        ensures { (result ≡ Err QueryFault.OutOfMemory) ⊎ (result ≡ answer self.now.world query.now) }
+    /// Answers a query. A history is told from the journal, whose frames are read again; no other query makes a call of the store.
+    pub fn query<S: Store>(
+        &mut self,
+        store: &mut S,
+        query: &Query,
+    ) -> Result<Result<Answer, QueryFault>, EngineFault>
+        requires place { IsEngineOf (S.seen store.old) self.old }
+        ensures place { IsEngineOf (S.seen store.new) self.new }
+        ensures engine { self.new ≡ self.old }
+        ensures queries { ForSome (S.seen store.old) (λ image. Queries image.journal query.now result) }
+        ensures answers { ForSome (S.seen store.old) (λ image. (history : List Label) → StandFor image (S.may_leave store.old) self.old history → AnswersQuery history self.old.world query.now result) }
+        ensures of_world { IsOfWorld query.now → (store.new ≡ store.old) × IsOk result × ((history : List Label) → AnswersQuery history self.old.world query.now result) }
+        ensures full { (size : ℕ) → result ≡ Err (EngineFault.Full size) → ⊥ }
+        ensures seen { S.seen store.new ≡ S.seen store.old }
+        ensures stop { NothingNew (S.may_leave store.old) (S.may_leave store.new) }
+        ensures any_moment { LeavesOnly S.moment S.left_since S.said store.old store.new (S.may_leave store.old) }
+        ensures said { S.said store.new ≡ S.said store.old }
+        ensures beside { S.beside store.new ≡ S.beside store.old }
+        ensures cause { EngineCause (S.store_faults store.old) (S.store_faults store.new) result }
     {
-        self.world.answer(query)
+        match query {
+            Query::History(from) => match retell(self.alloc, store, *from) {
+                Ok(value) => Ok(Ok(Answer::History(value))),
+                Err(fault) => Err(fault),
+            },
+            Query::Status(_) => Ok(self.world.answer(query)),
+        }
+    }
+
+    /// The id of the instance of that number, from 0, in start order. It takes no memory.
+    pub fn instance(&self, number: u64) -> Option<&Text>
+        ensures { option_map (λ id. id.now) result ≡ option_map (λ i. i.id) (slice_get self.now.world.instances number) }
+    {
+        self.world.instance(number)
     }
 }

@@ -6,7 +6,9 @@ mod engine;
 mod fault;
 mod law;
 mod open;
+mod printed;
 mod replay;
+mod retelling;
 
 pub use engine::{Engine, Settled, Submitted};
 pub use fault::EngineFault;

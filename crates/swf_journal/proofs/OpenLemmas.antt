@@ -131,18 +131,22 @@ read_new journal place short here ended = record {
 }
 
 -- a reading that begins behind a header that was there
-pub read_old : (journal : List ℕ) (place : Place) → 25 ≤ length journal → take 16 journal ≡ header → place.gate ≡ 16 → place.ended ≡ false → HasRead (begun journal) place header []
-read_old journal place long right here ended =
-    let same = begun_long journal long in
+pub read_first : (journal : List ℕ) (place : Place) → 16 < length journal → take 16 journal ≡ header → place.gate ≡ 16 → place.ended ≡ false → HasRead journal place header []
+read_first journal place long right here ended =
     let behind : drop 16 journal ≡ get_or journal 16 0 ∷ drop 17 journal = drop_more journal 16 0 (omega (arith, long)) in
     record {
       gate = get_or journal 16 0;
       rest = drop 17 journal;
-      laid = same ∙ sym (take-append-drop 16 journal) ∙ ap (λ (l : List ℕ). l ++ drop 16 journal) right ∙ ap (λ (l : List ℕ). header ++ l) behind;
+      laid = sym (take-append-drop 16 journal) ∙ ap (λ (l : List ℕ). l ++ drop 16 journal) right ∙ ap (λ (l : List ℕ). header ++ l) behind;
       fit = tt;
       here = omega (arith, here, length-header);
       ended = λ no. absurd (cc);
     }
+
+-- the same of what opening made of it
+pub read_old : (journal : List ℕ) (place : Place) → 25 ≤ length journal → take 16 journal ≡ header → place.gate ≡ 16 → place.ended ≡ false → HasRead (begun journal) place header []
+read_old journal place long right here ended =
+    subst (λ (l : List ℕ). HasRead l place header []) (sym (begun_long journal long)) (read_first journal place (omega (arith, long)) right here ended)
 
 -- what opening makes of a journal holds the frames that it stands for
 pub begun_holds : (journal : List ℕ) (frames : List (List ℕ)) → StandsFor journal frames → IsShutAfter header (begun journal) frames

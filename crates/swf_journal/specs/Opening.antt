@@ -1,5 +1,5 @@
 -- What opening makes of a journal, what a reading finds at a gate, and what a stop of an opening leaves.
-use Rattle.std.specs.Prelude.{◌≡◌, ◌≢◌, ◌⊎◌, ℕ, ◌^◌, ◌<◌, Option, Some, None, List, [], ◌∷◌, ◌++◌, length, drop, nat_lt, if◌then◌else◌, Vec}
+use Rattle.std.specs.Prelude.{◌≡◌, ◌≢◌, ◌⊎◌, ℕ, ◌^◌, ◌<◌, ◌≤◌, Option, Some, None, List, [], ◌∷◌, ◌++◌, length, take, drop, nat_lt, if◌then◌else◌, Vec}
 use Rattle.std.specs.declared.alloc.Global.{Global}
 use Rattle.swf_store.specs.declared.image.File.TheVariants.{Journal}
 use Rattle.swf_store.specs.declared.image.Image.{Image}
@@ -18,6 +18,10 @@ begun journal = if nat_lt (length journal) 25 then header ++ 0 ∷ [] ++ drop 17
 -- what opening makes of an image
 abbrev pub opened : Image → Image
 opened image = with_bytes image Journal (begun image.journal)
+
+-- a journal that does not begin with the header, or has no gate behind it
+abbrev pub HasNoHeader : List ℕ → Type 0
+HasNoHeader journal = (take 16 journal ≢ header) ⊎ (length journal ≤ 16)
 
 -- what at most nine bytes from a gate on begin
 abbrev pub IsHead : List ℕ → Head → Type 0

@@ -11,7 +11,7 @@ ghost use Rattle.swf_store.specs.Stops.{LeavesOnly};
 ghost use Rattle.swf_journal.specs.Causes.{OpenCause};
 ghost use Rattle.swf_journal.specs.Frames.{header};
 ghost use Rattle.swf_journal.specs.JournalCalls.{IsBegun, IsBegunSynced};
-ghost use Rattle.swf_journal.specs.Opening.{begun, opened, KeepsFrames, Opens};
+ghost use Rattle.swf_journal.specs.Opening.{begun, opened, HasNoHeader, KeepsFrames, Opens};
 ghost use Rattle.swf_journal.specs.Place.{HasRead, IsReadingOf};
 ghost use Rattle.swf_journal.specs.Stands.{Stands, IsShutAfter};
 
@@ -24,6 +24,9 @@ const LIMIT: u64 = 1 << 40;
 
 /// A journal with a frame has at least so many bytes.
 const LEAST_SIZE: u64 = 25;
+
+/// The place of the first gate.
+const BEHIND_HEADER: u64 = 16;
 
 const HEADER: [u8; 16] = *b"SWFJRNL1\0\0\0\0\0\0\0\0";
 
@@ -53,6 +56,29 @@ pub fn begin<S: Store>(store: &mut S) -> Result<Reading, OpenFault>
 {
     sync_first(store)?;
     begin_synced(store)
+}
+
+/// Begins to read once more a journal that was opened. It only reads. A journal that has no header with a gate behind it is damaged
+/// at 0.
+pub fn begin_again<S: Store>(store: &mut S) -> Result<Reading, OpenFault>
+    ensures stands { IfOk result (IsReadingOf (S.seen store.new)) }
+    ensures format { IfOk result (λ reading. (reading.file ≡ JournalFile) × (reading.limit ≡ 2 ^ 40) × (reading.ended ≡ false)) }
+    ensures reading { ForSome (S.seen store.old) (λ image. IfOk result (λ reading. HasRead image.journal reading header [])) }
+    ensures damaged { ForSome (S.seen store.old) (λ image. (at : ℕ) → result ≡ Err (OpenFault.Damaged at) → (at ≡ 0) × HasNoHeader image.journal) }
+    ensures enough { IsErrOf result OpenFault.OutOfMemory → ⊥ }
+    ensures seen { S.seen store.new ≡ S.seen store.old }
+    ensures stop { NothingNew (S.may_leave store.old) (S.may_leave store.new) }
+    ensures any_moment { LeavesOnly S.moment S.left_since S.said store.old store.new (S.may_leave store.old) }
+    ensures said { S.said store.new ≡ S.said store.old }
+    ensures beside { S.beside store.new ≡ S.beside store.old }
+    ensures cause { OpenCause (S.store_faults store.old) (S.store_faults store.new) result }
+{
+    let size = journal_size(store)?;
+    let right = has_header(store)?;
+    if !right || size <= BEHIND_HEADER {
+        return Err(OpenFault::Damaged { at: 0 });
+    }
+    Ok(Reading::at(File::Journal, BEHIND_HEADER, size, LIMIT))
 }
 
 fn sync_first<S: Store>(store: &mut S) -> Result<(), Failed>
@@ -87,12 +113,12 @@ fn begin_synced<S: Store>(store: &mut S) -> Result<Reading, OpenFault>
     let size = journal_size(store)?;
     if size < LEAST_SIZE {
         write_header(store)?;
-        return Ok(Reading::at(File::Journal, 16, size.max(17), LIMIT));
+        return Ok(Reading::at(File::Journal, BEHIND_HEADER, size.max(17), LIMIT));
     }
     if !has_header(store)? {
         return Err(OpenFault::Damaged { at: 0 });
     }
-    Ok(Reading::at(File::Journal, 16, size, LIMIT))
+    Ok(Reading::at(File::Journal, BEHIND_HEADER, size, LIMIT))
 }
 
 fn journal_size<S: Store>(store: &mut S) -> Result<u64, Failed>

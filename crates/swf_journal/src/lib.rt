@@ -12,6 +12,6 @@ mod write;
 pub use append::Journal;
 pub use fault::{AppendFault, OpenFault};
 pub use frame::{FrameBytes, build};
-pub use header::begin;
+pub use header::{begin, begin_again};
 pub use law::stands_for_one_list;
 pub use reading::Reading;

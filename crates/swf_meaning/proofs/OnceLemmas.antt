@@ -6,8 +6,8 @@ use Rattle.std.proofs.lemmas.Option.{cond_some, option_and_then_some, same_Some}
 use Rattle.std.proofs.lemmas.List.Folds.{list_any-append}
 use Rattle.swf_value.specs.Value.{Value}
 use Rattle.swf_value.specs.Members.{member_at}
-use Rattle.swf_value.specs.Same.{same}
-use Rattle.swf_value.proofs.SameLemmas.{same_true, same_refl}
+use Rattle.swf_text.specs.Same.{same}
+use Rattle.swf_text.proofs.SameLemmas.{same_true, same_refl}
 use Rattle.swf_document.specs.Forms.{is_dsl, is_label, is_version}
 use Rattle.swf_document.specs.Reads.{document_of, key_of as key_in, list_of, text_of, text_at, has_names}
 use Rattle.swf_document.specs.declared.document.DocKey.{DocKey}

@@ -2,7 +2,7 @@
 use Rattle.std.specs.Prelude.{◌+◌, ◌||◌, ℕ, List, [], ◌∷◌, ◌++◌, Bool, true, false, length, nat_le, Option, Some, None, option_map, option_and_then, if◌then◌else◌}
 use Rattle.std.specs.List.{list_any}
 use Rattle.swf_value.specs.Value.{Value, null}
-use Rattle.swf_value.specs.Same.{same}
+use Rattle.swf_text.specs.Same.{same}
 use Rattle.swf_document.specs.Reads.{document_of}
 use Rattle.swf_document.specs.declared.document.DocKey.{DocKey}
 use Rattle.swf_document.specs.declared.document.Document.{Document}

@@ -1,7 +1,7 @@
 -- What a query is answered in a world.
 use Rattle.std.specs.Prelude.{ℕ, List, [], ◌∷◌, Bool, codes, Option, Some, None, option_map, if◌then◌else◌}
 use Rattle.swf_value.specs.Value.{Value, text, object, Members, no_members, member}
-use Rattle.swf_value.specs.Same.{same}
+use Rattle.swf_text.specs.Same.{same}
 use Rattle.swf_meaning.specs.Node.{Node, Done}
 use Rattle.swf_meaning.specs.Local.{is_enabled}
 use Rattle.swf_meaning.specs.World.{Instance, World}

@@ -3,7 +3,7 @@ use Rattle.std.specs.Prelude.{◌≡◌, ◌&&◌, ℕ, List, [], ◌∷◌, Boo
 use Rattle.std.specs.List.{list_any, filter_map}
 use Rattle.swf_value.specs.Value.{Value}
 use Rattle.swf_value.specs.Members.{member_at}
-use Rattle.swf_value.specs.Same.{same}
+use Rattle.swf_text.specs.Same.{same}
 use Rattle.swf_document.specs.Reads.{text_of}
 use Rattle.swf_document.specs.declared.document.DocKey.{DocKey}
 use Rattle.swf_meaning.specs.declared.label.Label.{Label}

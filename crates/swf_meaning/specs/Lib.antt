@@ -6,3 +6,4 @@ pub mod Runs
 pub mod Keys
 pub mod Answer
 pub mod Codes
+pub mod Printed

@@ -1,6 +1,7 @@
 // What happens to the world, one label after another.
 use swf_document::DocKey;
-use swf_value::{Json, Strand, Text};
+use swf_text::{Strand, Text};
+use swf_value::Json;
 
 /// One event of a run: what was handed in, or one step of an instance.
 #[derive(Drop)]
@@ -25,4 +26,15 @@ pub enum Outcome {
 pub enum Query {
     /// The status of the instance of this id.
     Status(Text),
+    /// The labels from this place on.
+    History(u64),
+}
+
+/// What a query is answered.
+#[derive(Drop)]
+pub enum Answer {
+    /// The report of an instance.
+    Status(Json),
+    /// Labels as they print.
+    History(Json),
 }

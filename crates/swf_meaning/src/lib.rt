@@ -4,5 +4,5 @@
 mod label;
 mod laws;
 
-pub use label::{Label, Outcome, Query};
+pub use label::{Answer, Label, Outcome, Query};
 pub use laws::legal_once;

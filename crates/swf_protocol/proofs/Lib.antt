@@ -1,2 +1,2 @@
-pub mod DigitLemmas
+pub mod NumberLemmas
 pub mod LineLemmas

@@ -3,15 +3,16 @@ use Rattle.std.proofs.Common.{◌≡◌, ◌∙◌, ap, sym, refl, cond, List, �
 use Rattle.std.specs.Str.{IsUtf8, is_utf8}
 use Rattle.std.proofs.lemmas.Str.{is_utf8-from_IsUtf8, IsUtf8-from_is_utf8}
 use Rattle.swf_value.specs.Value.{Value}
-use Rattle.swf_value.specs.Same.{same}
+use Rattle.swf_text.specs.Same.{same}
 use Rattle.swf_value.specs.Read.{read_within}
 use Rattle.swf_value.specs.declared.fault.ValueFault.{ValueFault}
 use Rattle.swf_document.specs.declared.document.DocKey.{DocKey}
 use Rattle.swf_protocol.specs.declared.command.Command.{Command}
 use Rattle.swf_protocol.specs.declared.command.LineFault.{LineFault}
 use Rattle.swf_protocol.specs.declared.command.LineFault.TheVariants.{Command as BadCommand}
-use Rattle.swf_protocol.specs.Line.{cut, spelled, command_of, loads, starts, start_with, key_of, fourth, third, second, first, settles, settle_of, budget_of, status_of, with_rest, is_id}
+use Rattle.swf_protocol.specs.Line.{cut, spelled, command_of, loads, starts, start_with, key_of, fourth, third, second, first, settles, settle_of, tells, history_of, status_of, with_rest, is_id}
 use Rattle.swf_protocol.specs.Line.{is_quit}
+use Rattle.swf_protocol.specs.Number.{number_of, budget_of}
 
 utf8_line : (line : List ℕ) → IsUtf8 line → command_of line ≡ spelled line (cut line)
 utf8_line line u = ap (λ b. cond b (spelled line (cut line)) (Err BadCommand)) (is_utf8-from_IsUtf8 line u)
@@ -66,6 +67,13 @@ settles_stay (Some n) = refl
 settle_stays : (rest : List ℕ) → is_quit (settle_of rest) ≡ false
 settle_stays rest = stays (is_some (cut rest)) _ _ refl (settles_stay (budget_of rest))
 
+tells_stay : (o : Option ℕ) → is_quit (tells o) ≡ false
+tells_stay None = refl
+tells_stay (Some n) = refl
+
+history_stays : (rest : List ℕ) → is_quit (history_of rest) ≡ false
+history_stays rest = stays (is_some (cut rest)) _ _ refl (tells_stay (number_of rest))
+
 status_stays : (rest : List ℕ) → is_quit (status_of rest) ≡ false
 status_stays rest = stays (is_some (cut rest)) _ _ refl (stays (is_id rest) _ _ refl refl)
 
@@ -75,4 +83,5 @@ with_rest_stays word rest =
     stays (same word _) _ _ (loads_stay (read_within 64 rest))
     (stays (same word _) _ _ (first_stays (cut rest))
     (stays (same word _) _ _ (settle_stays rest)
-    (stays (same word _) _ _ (status_stays rest) refl)))
+    (stays (same word _) _ _ (status_stays rest)
+    (stays (same word _) _ _ (history_stays rest) refl))))

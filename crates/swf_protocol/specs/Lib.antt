@@ -1,3 +1,4 @@
+pub mod Number
 pub mod Line
 pub mod Reading
 pub mod Spoken

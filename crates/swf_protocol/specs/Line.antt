@@ -1,16 +1,17 @@
 -- Which command a line spells, or its first fault from the left.
-use Rattle.std.specs.Prelude.{◌==◌, ◌&&◌, ◌||◌, ◌+◌, ◌-◌, ◌*◌, ℕ, List, Bool, true, false, not, length, codes, chars, slice_index, nat_le, nat_lt, Option, Some, None, is_some, Result, Ok, Err, if◌then◌else◌, fold}
+use Rattle.std.specs.Prelude.{◌==◌, ◌&&◌, ◌||◌, ℕ, List, Bool, true, false, length, codes, chars, nat_le, nat_lt, Option, Some, None, is_some, Result, Ok, Err, if◌then◌else◌}
 use Rattle.std.specs.List.{list_all, before_first, after_first, position_or_len}
 use Rattle.std.specs.Str.{is_utf8}
 use Rattle.swf_value.specs.Value.{Value}
-use Rattle.swf_value.specs.Same.{same}
+use Rattle.swf_text.specs.Same.{same}
 use Rattle.swf_value.specs.Read.{read_within}
 use Rattle.swf_value.specs.declared.fault.ValueFault.{ValueFault}
 use Rattle.swf_value.specs.declared.fault.ValueFault.TheVariants.{NotJson as ValueNotJson, TooDeep as ValueTooDeep, NotWhole as ValueNotWhole, OutOfMemory}
-use Rattle.swf_value.specs.Ascii.{is_digit, is_letter}
+use Rattle.swf_text.specs.Ascii.{is_digit, is_letter}
 use Rattle.swf_document.specs.declared.document.DocKey.{DocKey}
 use Rattle.swf_meaning.specs.declared.label.Outcome.TheVariants.{Load, Start}
-use Rattle.swf_meaning.specs.declared.label.Query.TheVariants.{Status}
+use Rattle.swf_meaning.specs.declared.label.Query.TheVariants.{Status, History}
+use Rattle.swf_protocol.specs.Number.{number_of, budget_of}
 use Rattle.swf_protocol.specs.declared.command.Command.{Command}
 use Rattle.swf_protocol.specs.declared.command.Command.TheVariants.{Do, Ask, Settle, Quit}
 use Rattle.swf_protocol.specs.declared.command.LineFault.{LineFault}
@@ -30,20 +31,6 @@ is_id_char b = is_letter b || is_digit b || b == 45 || b == 95 || b == 46
 -- 1 to 64 letters, digits, `-`, `_` and `.`
 abbrev pub is_id : List ℕ → Bool
 is_id t = nat_lt 0 (length t) && nat_le (length t) 64 && list_all is_id_char t
-
-abbrev pub value_of_digits : List ℕ → ℕ
-value_of_digits t = fold (λ n d. n * 10 + (d - 48)) 0 t
-
-abbrev pub greatest_budget : ℕ
-greatest_budget = 1000000
-
--- digits without a leading zero, of which no number in the range has more than seven
-abbrev pub has_digits : List ℕ → Bool
-has_digits t = nat_lt 0 (length t) && nat_le (length t) 7 && list_all is_digit t && not (slice_index t 0 == 48)
-
--- a number from 1 to 1,000,000
-abbrev pub budget_of : List ℕ → Option ℕ
-budget_of t = if has_digits t && nat_le (value_of_digits t) greatest_budget then Some (value_of_digits t) else None
 
 abbrev pub fault_of : ValueFault → LineFault
 fault_of ValueNotJson = NotJson
@@ -93,6 +80,14 @@ settles None = Err Number
 abbrev pub settle_of : List ℕ → Result Command LineFault
 settle_of rest = if is_some (cut rest) then Err BadCommand else settles (budget_of rest)
 
+abbrev pub tells : Option ℕ → Result Command LineFault
+tells (Some n) = Ok (Ask (History n))
+tells None = Err Number
+
+-- `history N`, behind its word
+abbrev pub history_of : List ℕ → Result Command LineFault
+history_of rest = if is_some (cut rest) then Err BadCommand else tells (number_of rest)
+
 -- `status ID`, behind its word
 abbrev pub status_of : List ℕ → Result Command LineFault
 status_of rest = if is_some (cut rest) then Err BadCommand else (if is_id rest then Ok (Ask (Status (chars rest))) else Err Word)
@@ -104,7 +99,8 @@ with_rest word rest =
     else (if same word (codes "start") then start_of rest
     else (if same word (codes "settle") then settle_of rest
     else (if same word (codes "status") then status_of rest
-    else Err BadCommand)))
+    else (if same word (codes "history") then history_of rest
+    else Err BadCommand))))
 
 abbrev pub alone : List ℕ → Result Command LineFault
 alone word = if same word (codes "quit") then Ok Quit else (if same word (codes "settle") then Ok (Settle None) else Err BadCommand)

@@ -6,7 +6,7 @@ use Rattle.swf_meaning.specs.declared.label.Outcome.TheVariants.{Load, Start}
 use Rattle.swf_protocol.specs.declared.command.Command.{Command}
 use Rattle.swf_protocol.specs.declared.command.Command.TheVariants.{Do, Ask, Settle, Quit as Leave}
 use Rattle.swf_protocol.specs.declared.reply.Reply.{Reply}
-use Rattle.swf_protocol.specs.declared.reply.Reply.TheVariants.{Loaded, Started, Quiet, Budget, Report, Quit, BadLine, TooLong, Refused, Duplicate, UnknownDocument, UnknownInstance, Full, Memory}
+use Rattle.swf_protocol.specs.declared.reply.Reply.TheVariants.{Loaded, Started, Quiet, Budget, Report, History, Quit, BadLine, TooLong, Refused, Duplicate, UnknownDocument, UnknownInstance, Full, Memory}
 
 abbrev pub IsSayable : Reply → Type 0
 IsSayable (Loaded n) = n ≤ 2 ^ 40
@@ -14,6 +14,7 @@ IsSayable (Started n) = n ≤ 2 ^ 40
 IsSayable (Quiet n) = n ≤ 2 ^ 40
 IsSayable (Budget n) = n ≤ 2 ^ 40
 IsSayable (Report v) = Unit {0}
+IsSayable (History v) = Unit {0}
 IsSayable Quit = Unit {0}
 IsSayable (BadLine f) = Unit {0}
 IsSayable TooLong = Unit {0}

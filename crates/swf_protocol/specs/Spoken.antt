@@ -2,7 +2,7 @@
 use Rattle.std.specs.Prelude.{ℕ, pos, List, [], ◌∷◌, ◌++◌, codes, map}
 use Rattle.swf_value.specs.Value.{Value, int, text, list, object, no_members, member}
 use Rattle.swf_value.specs.Node.{items_of}
-use Rattle.swf_value.specs.Pointer.{pointer}
+use Rattle.swf_text.specs.Pointer.{pointer}
 use Rattle.swf_value.specs.Written.{written}
 use Rattle.swf_document.specs.declared.fault.Fault.{Fault}
 use Rattle.swf_document.specs.declared.fault.FaultKind.{FaultKind}
@@ -10,7 +10,7 @@ use Rattle.swf_document.specs.declared.fault.FaultKind.TheVariants.{NotInProfile
 use Rattle.swf_protocol.specs.declared.command.LineFault.{LineFault}
 use Rattle.swf_protocol.specs.declared.command.LineFault.TheVariants.{Command, Word, Number, NotJson, TooDeep, NotWhole}
 use Rattle.swf_protocol.specs.declared.reply.Reply.{Reply}
-use Rattle.swf_protocol.specs.declared.reply.Reply.TheVariants.{Loaded, Started, Quiet, Budget, Report, Quit, BadLine, TooLong, Refused, Duplicate, UnknownDocument, UnknownInstance, Full, Memory}
+use Rattle.swf_protocol.specs.declared.reply.Reply.TheVariants.{Loaded, Started, Quiet, Budget, Report, History, Quit, BadLine, TooLong, Refused, Duplicate, UnknownDocument, UnknownInstance, Full, Memory}
 
 -- an object of one text, and of a text and something else
 abbrev pub one : List ℕ → List ℕ → Value
@@ -46,6 +46,7 @@ reply_value (Started n) = ok_with (codes "started") (codes "place") n
 reply_value (Quiet n) = ok_with (codes "quiet") (codes "steps") n
 reply_value (Budget n) = ok_with (codes "budget") (codes "steps") n
 reply_value (Report v) = v
+reply_value (History v) = v
 reply_value Quit = one (codes "ok") (codes "quit")
 reply_value (BadLine f) = two (codes "error") (codes "bad-line") (codes "fault") (text (fault_text f))
 reply_value TooLong = one (codes "error") (codes "too-long")

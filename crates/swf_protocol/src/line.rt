@@ -1,17 +1,19 @@
 // Reading a line as a command.
-ghost use Rattle.std.specs.Prelude.{◌≡◌, ◌≢◌, ◌≤◌, IfOk, IfSome, false, length, option_map};
+ghost use Rattle.std.specs.Prelude.{◌≡◌, ◌≢◌, IfOk, false, option_map};
 ghost use Rattle.std.specs.List.{list_all};
-ghost use Rattle.swf_value.specs.Same.{same};
-ghost use Rattle.swf_protocol.specs.Line.{cut, is_id_char, is_id, value_of_digits, has_digits, budget_of, loads, start_with, key_of, fourth, third, second, start_of, settle_of, status_of, with_rest, alone, command_of, is_quit};
+ghost use Rattle.swf_text.specs.Same.{same};
+ghost use Rattle.swf_protocol.specs.Line.{cut, is_id_char, is_id, loads, start_with, key_of, fourth, third, second, start_of, settle_of, history_of, status_of, with_rest, alone, command_of, is_quit};
 ghost use Rattle.swf_value.specs.Read.{read_within};
 ghost use Rattle.swf_protocol.specs.Reading.{Reads, FaultIs};
 ghost use Rattle.swf_protocol.specs.Sayable.{IsModest};
 
 use crate::command::{Command, LineFault};
+use crate::number::{budget_of, number_of};
 use std::alloc::{AllocError, Global};
 use swf_document::DocKey;
 use swf_meaning::{Outcome, Query};
-use swf_value::{Text, ValueFault, all_digits, is_digit, is_letter, read_json};
+use swf_text::{Text, is_digit, is_letter};
+use swf_value::{ValueFault, read_json};
 use thiserror::Error;
 
 /// Why a line was not read: it spells no command, or no memory was found.
@@ -54,42 +56,6 @@ fn is_id(bytes: &[u8]) -> bool
 {
     let len = bytes.len();
     len > 0 && len <= 64 && all_id_chars(bytes)
-}
-
-// Digits without a leading zero, of which no number in the range has more than seven.
-fn has_digits(bytes: &[u8]) -> bool
-    ensures { result ≡ has_digits bytes.now }
-{
-    let len = bytes.len();
-    len > 0 && len <= 7 && all_digits(bytes) && bytes[0] != b'0'
-}
-
-// The number that some digits spell.
-fn value_of_digits(bytes: &[u8]) -> u64
-    requires { length bytes.now ≤ 7 }
-    ensures { result ≡ value_of_digits bytes.now }
-{
-    let mut value = 0u64;
-    for byte in bytes {
-        value = value * 10 + u64::from(byte.saturating_sub(b'0'));
-    }
-    value
-}
-
-// A number from 1 to 1,000,000.
-fn budget_of(bytes: &[u8]) -> Option<u64>
-    ensures budget { result ≡ budget_of bytes.now }
-    ensures modest { IfSome result (λ n. n ≤ 1000000) }
-{
-    if !has_digits(bytes) {
-        return None;
-    }
-    let value = value_of_digits(bytes);
-    if value <= 1_000_000 {
-        Some(value)
-    } else {
-        None
-    }
 }
 
 fn fault_of(fault: ValueFault) -> ReadFault
@@ -229,6 +195,20 @@ fn read_status(alloc: Global, rest: &str) -> Result<Command, ReadFault>
     }
 }
 
+// `history N`, behind its word.
+fn read_history(rest: &str) -> Result<Command, ReadFault>
+    ensures reads { Reads result (history_of rest.now) }
+    ensures modest { IfOk result IsModest }
+{
+    if cut(rest).is_some() {
+        return Err(ReadFault::Line(LineFault::Command));
+    }
+    match number_of(rest.as_bytes()) {
+        Some(place) => Ok(Command::Ask(Query::History(place))),
+        None => Err(ReadFault::Line(LineFault::Number)),
+    }
+}
+
 fn is_word(word: &str, known: &str) -> bool
     ensures { result ≡ same word.now known.now }
 {
@@ -248,6 +228,8 @@ fn read_with_rest(alloc: Global, word: &str, rest: &str) -> Result<Command, Read
         read_settle(rest)
     } else if is_word(word, "status") {
         read_status(alloc, rest)
+    } else if is_word(word, "history") {
+        read_history(rest)
     } else {
         Err(ReadFault::Line(LineFault::Command))
     }

@@ -16,6 +16,8 @@ pub enum Reply {
     Budget(u64),
     /// The report of an instance.
     Report(Json),
+    /// Labels of the history as they print.
+    History(Json),
     /// The session ends.
     Quit,
     /// The line spells no command.

@@ -1,6 +1,6 @@
 // Writing a reply as its line.
 ghost use Rattle.std.specs.Prelude.{◌≡◌, ◌≤◌, ◌^◌, IsTrue, IfOk, codes};
-ghost use Rattle.swf_value.specs.Same.{is_ascii};
+ghost use Rattle.swf_text.specs.Same.{is_ascii};
 ghost use Rattle.swf_value.specs.Value.{IsBefore};
 ghost use Rattle.swf_protocol.specs.Spoken.{one, two, ok_with, fault_text, kind_text, fault_value, faults_value, reply_value, spoken};
 ghost use Rattle.swf_protocol.specs.Sayable.{IsSayable};
@@ -9,7 +9,8 @@ use crate::command::LineFault;
 use crate::reply::Reply;
 use std::alloc::{AllocError, Global};
 use swf_document::{Fault, FaultKind, Faults};
-use swf_value::{Json, member, pointer_text, word, write_json};
+use swf_text::{pointer_text, word};
+use swf_value::{Json, member, write_json};
 
 // An object of one text.
 fn one(alloc: Global, name: &str, text: &str) -> Result<Json, AllocError>
@@ -119,7 +120,7 @@ fn reply_json(alloc: Global, reply: Reply) -> Result<Json, AllocError>
         Reply::Started(place) => ok_with(alloc, "started", "place", place),
         Reply::Quiet(steps) => ok_with(alloc, "quiet", "steps", steps),
         Reply::Budget(steps) => ok_with(alloc, "budget", "steps", steps),
-        Reply::Report(value) => Ok(value),
+        Reply::Report(value) | Reply::History(value) => Ok(value),
         Reply::Quit => one(alloc, "ok", "quit"),
         Reply::BadLine(fault) => bad_line(alloc, fault),
         Reply::TooLong => one(alloc, "error", "too-long"),

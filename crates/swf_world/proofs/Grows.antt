@@ -6,7 +6,7 @@ use Rattle.std.proofs.lemmas.Bool.{or_parts, eqb-true}
 use Rattle.std.proofs.lemmas.Bool.Decides.{Decides-eqb}
 use Rattle.std.specs.List.{AllByRecursion, list_any}
 use Rattle.std.specs.Map.{lookup, keys_of}
-use Rattle.swf_value.specs.Same.{same}
+use Rattle.swf_text.specs.Same.{same}
 use Rattle.swf_document.specs.declared.document.DocKey.{DocKey}
 use Rattle.swf_meaning.specs.Keys.{Key as WorldKey, Document as OfDocument, Instance as OfInstance, same_doc, same_key}
 use Rattle.swf_meaning.specs.World.{Instance as WorldInstance}

@@ -2,8 +2,8 @@
 use Rattle.std.proofs.Common.{◌≡◌, ◌∙◌, ap, sym, refl, subst, cond, ℕ, zero, suc, ◌+◌, ◌<◌, ◌||◌, List, [], ◌∷◌, length, Bool, true, false, not, is_some, Option, Some, None, option_map, unwrap_or, slice_get, arith}
 use Rattle.std.specs.List.{AllByRecursion, list_any, position_or_len}
 use Rattle.std.specs.Map.{lookup, keys_of, values_of}
-use Rattle.swf_value.specs.Same.{same}
-use Rattle.swf_value.proofs.SameLemmas.{same_true}
+use Rattle.swf_text.specs.Same.{same}
+use Rattle.swf_text.proofs.SameLemmas.{same_true}
 use Rattle.swf_document.specs.declared.document.DocKey.{DocKey}
 use Rattle.swf_meaning.specs.Node.{Node}
 use Rattle.swf_meaning.specs.Local.{local, is_enabled}

@@ -1,7 +1,7 @@
 -- A label has a cause for which it is refused exactly where there is no world after it.
 use Rattle.std.proofs.Common.{◌≡◌, ◌∙◌, ap, sym, refl, cond, ℕ, ◌||◌, ◌&&◌, List, [], ◌∷◌, length, nat_le, Bool, true, false, not, is_some, Option, Some, None, option_map, option_and_then}
 use Rattle.swf_value.specs.Value.{Value}
-use Rattle.swf_value.specs.Same.{same}
+use Rattle.swf_text.specs.Same.{same}
 use Rattle.swf_document.specs.declared.document.Document.{Document}
 use Rattle.swf_document.specs.Reads.{document_of}
 use Rattle.swf_meaning.specs.declared.label.Label.{Label}

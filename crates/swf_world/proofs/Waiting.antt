@@ -6,7 +6,7 @@ use Rattle.std.proofs.lemmas.List.Folds.{list_any-append}
 use Rattle.std.specs.List.{AllByRecursion, list_any}
 use Rattle.std.specs.Option.{IfNone}
 use Rattle.std.specs.Map.{lookup, values_of}
-use Rattle.swf_value.specs.Same.{same}
+use Rattle.swf_text.specs.Same.{same}
 use Rattle.swf_meaning.specs.declared.label.Label.TheVariants.{Step}
 use Rattle.swf_meaning.specs.Local.{is_enabled}
 use Rattle.swf_meaning.specs.World.{World, Instance as WorldInstance}

@@ -2,7 +2,7 @@
 use denote.Bor.{Bor}
 use Rattle.std.specs.Prelude.{◌≡◌, ◌&&◌, refl, ℕ, List, [], ◌∷◌, Bool, true, false, Option, Some, None, if◌then◌else◌}
 use Rattle.std.proofs.Common.{ap, ◌∙◌}
-use Rattle.swf_value.specs.Same.{same}
+use Rattle.swf_text.specs.Same.{same}
 use Rattle.swf_meaning.proofs.OnceLemmas.{same_key_true}
 use Rattle.swf_document.specs.declared.document.DocKey.{DocKey}
 use Rattle.swf_meaning.specs.Keys.{Key as WorldKey, Document as OfDocument, Instance as OfInstance, same_doc, same_key}

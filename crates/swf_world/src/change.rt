@@ -15,7 +15,7 @@ use crate::world::{Loaded, World};
 use indexmap::IndexMap;
 use std::hash::Hash;
 use swf_document::DocKey;
-use swf_value::Text;
+use swf_text::Text;
 
 /// What was installed.
 #[derive(Clone, Copy)]

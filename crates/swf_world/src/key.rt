@@ -7,7 +7,7 @@ ghost use Rattle.swf_meaning.specs.Keys.{same_doc};
 use indexmap::{Equivalent, IndexMap};
 use std::hash::Hash;
 use swf_document::DocKey;
-use swf_value::{Text, same_texts};
+use swf_text::{Text, same_texts};
 
 /// The key of a document, or the id of an instance.
 #[derive(PartialEq, Eq, Hash, Drop)]

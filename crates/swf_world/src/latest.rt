@@ -6,7 +6,7 @@ use crate::world::World;
 use std::alloc::AllocError;
 use swf_document::DocKey;
 use swf_meaning::{Label, Outcome};
-use swf_value::{Text, is_word, same_texts};
+use swf_text::{Text, is_word, same_texts};
 
 impl World {
     /// The label of an outcome: a start of the version `latest` gets the last one that was loaded of its namespace

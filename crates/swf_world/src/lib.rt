@@ -16,6 +16,6 @@ mod world;
 
 pub use change::{Change, Installed};
 pub use laws::refusal_laws;
-pub use query::{Answer, QueryFault};
+pub use query::QueryFault;
 pub use refusal::{PrepareFault, Refusal};
 pub use world::World;

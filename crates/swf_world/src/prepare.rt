@@ -23,7 +23,8 @@ use std::alloc::{AllocError, Global};
 use swf_document::{DocKey, Document};
 use swf_meaning::Label;
 use swf_reader::{ReadFault, read_small};
-use swf_value::{Json, Strand, Text};
+use swf_text::{Strand, Text};
+use swf_value::Json;
 
 /// How many documents may be loaded.
 const MOST_DOCUMENTS: usize = 1000;

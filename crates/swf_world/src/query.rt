@@ -1,6 +1,7 @@
 // Queries, which change nothing.
-ghost use Rattle.std.specs.Prelude.{◌≡◌, ◌⊎◌, ◌++◌, Err, IfOk, OnOk};
-ghost use Rattle.swf_world.specs.Answers.{answer, found};
+ghost use Rattle.std.specs.Prelude.{◌≡◌, ◌⊎◌, ◌++◌, List, Err, IfOk, OnOk};
+ghost use Rattle.swf_world.specs.Answers.{answer, found, IsOfWorld};
+ghost use Rattle.swf_meaning.specs.declared.label.Label.{Label};
 ghost use Rattle.swf_meaning.specs.Answer.{status};
 ghost use Rattle.swf_world.specs.Enabled.{enabled_strands, strand_at};
 ghost use Rattle.swf_world.specs.Fields.{instances_in};
@@ -12,16 +13,9 @@ use crate::reports::report;
 use crate::world::World;
 use indexmap::IndexMap;
 use std::alloc::{AllocError, Global};
-use swf_meaning::Query;
-use swf_value::{Json, Strand, Text};
+use swf_meaning::{Answer, Query};
+use swf_text::{Strand, Text};
 use thiserror::Error;
-
-/// What a query is answered.
-#[derive(Drop)]
-pub enum Answer {
-    /// The report of an instance.
-    Status(Json),
-}
 
 /// Why a query has no answer.
 #[derive(Clone, Copy, Debug, PartialEq, Eq, Error)]
@@ -33,12 +27,14 @@ pub enum QueryFault {
 }
 
 impl World {
-    /// Answers a query.
+    /// Answers a query that asks for no history, which the world does not keep.
     pub fn answer(&self, query: &Query) -> Result<Answer, QueryFault>
-        ensures { (result ≡ Err QueryFault.OutOfMemory) ⊎ (result ≡ answer self.now.world query.now) }
+        requires { IsOfWorld query.now }
+        ensures { (labels : List Label) → (result ≡ Err QueryFault.OutOfMemory) ⊎ (result ≡ answer labels self.now.world query.now) }
     {
         match query {
             Query::Status(id) => self.status(id),
+            Query::History(_) => unreachable!(),
         }
     }
 

@@ -1,7 +1,7 @@
 // What is reported of an instance.
 ghost use Rattle.std.specs.Prelude.{◌≡◌, ◌≤◌, ◌∷◌, ◌++◌, [], codes, IsTrue, IfOk, OnOk, length, option_map};
 ghost use Rattle.swf_value.specs.Value.{null, text};
-ghost use Rattle.swf_value.specs.Same.{is_ascii};
+ghost use Rattle.swf_text.specs.Same.{is_ascii};
 ghost use Rattle.swf_meaning.specs.Answer.{report};
 ghost use Rattle.swf_world.specs.Machine.{instance_of, raw_at};
 ghost use Rattle.swf_world.specs.Progress.{InList};
@@ -10,7 +10,8 @@ ghost use Rattle.swf_world.specs.Reports.{output_of};
 use crate::machine::{Instance, Progress};
 use std::alloc::{AllocError, Global};
 use swf_document::{Kind, Named, Template};
-use swf_value::{Json, Member, Text, member, word};
+use swf_text::{Text, word};
+use swf_value::{Json, Member, member};
 
 // The output of an instance that is done.
 fn output(instance: &Instance) -> Option<&Json>

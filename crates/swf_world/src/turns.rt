@@ -14,7 +14,7 @@ use indexmap::IndexMap;
 use std::alloc::{AllocError, Global};
 use std::collections::VecDeque;
 use swf_meaning::Label;
-use swf_value::{Strand, Text};
+use swf_text::{Strand, Text};
 
 impl World {
     /// The next step that can be taken, where there is one. The instance that takes it has its next turn after all others.

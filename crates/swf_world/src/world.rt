@@ -10,7 +10,8 @@ use std::alloc::Global;
 use std::collections::VecDeque;
 use std::marker::Model;
 use swf_document::DocKey;
-use swf_value::{Json, Text};
+use swf_text::Text;
+use swf_value::Json;
 
 /// A document, and the value that it was read from.
 #[derive(Drop)]

@@ -13,10 +13,10 @@ use Rattle.swf_cli.proofs.AnswerLemmas.{accepted_as, said_accepted, submit_reply
 use Rattle.swf_cli.proofs.answer.submit.Goals as goal
 
 pub returns-in-Ok-Accepted-clause-done : goal.returns-in-Ok-Accepted-clause-done
-returns-in-Ok-Accepted-clause-done g c =
+returns-in-Ok-Accepted-clause-done g c = λ words.
     let H = g.S.Store in
     let o = c.args.outcome in
-    submit_done_as H.moment H.left_since H.said H.may_leave H.seen g.met.S.Store.only_now o c.args.store.now c.submit.new.store c.args.engine.now c.submit.new.self c.submit.result (Ok c.accepted.result)
+    submit_done_as words H.moment H.left_since H.said H.may_leave H.seen g.met.S.Store.only_now o c.args.store.now c.submit.new.store c.args.engine.now c.submit.new.self c.submit.result (Ok c.accepted.result)
     c.submit.ensures.submits
     (ap (submit_reply o) (c.in-Ok-Accepted.is ∙ ap Ok c.in-Ok-Accepted.field-0-is) ∙ ap Ok (accepted_as o c.in-Ok-Accepted.installed.place c.is_load-is_load.result c.accepted.result c.is_load-is_load.ensures c.accepted.ensures))
 
@@ -27,10 +27,10 @@ returns-in-Ok-Accepted-clause-sayable g c =
     (accepted_as c.args.outcome c.in-Ok-Accepted.installed.place c.is_load-is_load.result c.accepted.result c.is_load-is_load.ensures c.accepted.ensures) small
 
 pub returns-in-Ok-Refused-clause-done : goal.returns-in-Ok-Refused-clause-done
-returns-in-Ok-Refused-clause-done g c =
+returns-in-Ok-Refused-clause-done g c = λ words.
     let H = g.S.Store in
     let o = c.args.outcome in
-    submit_done_as H.moment H.left_since H.said H.may_leave H.seen g.met.S.Store.only_now o c.args.store.now c.submit.new.store c.args.engine.now c.submit.new.self c.submit.result (Ok c.refused.result)
+    submit_done_as words H.moment H.left_since H.said H.may_leave H.seen g.met.S.Store.only_now o c.args.store.now c.submit.new.store c.args.engine.now c.submit.new.self c.submit.result (Ok c.refused.result)
     c.submit.ensures.submits
     (ap (submit_reply o) (c.in-Ok-Refused.is ∙ ap Ok c.in-Ok-Refused.field-0-is) ∙ ap Ok (sym c.refused.ensures))
 
@@ -45,7 +45,7 @@ returns-in-Err g c =
       which = subst (λ (r : Result Reply EngineFault). IsBreak r) (sym c.or_memory.ensures)
           (submit_breaks H.moment H.left_since H.said H.may_leave H.seen g.met.S.Store.only_now o c.args.store.now c.submit.new.store c.args.engine.now c.submit.new.self c.in-Err.fault submits);
       place = or_memory_usable Submitted c.in-Err.fault c.or_memory.result (IsEngineOf (H.seen c.submit.new.store) c.submit.new.self) c.or_memory.ensures usable;
-      done = submit_done_as H.moment H.left_since H.said H.may_leave H.seen g.met.S.Store.only_now o c.args.store.now c.submit.new.store c.args.engine.now c.submit.new.self c.submit.result c.or_memory.result
+      done = λ words. submit_done_as words H.moment H.left_since H.said H.may_leave H.seen g.met.S.Store.only_now o c.args.store.now c.submit.new.store c.args.engine.now c.submit.new.self c.submit.result c.or_memory.result
           c.submit.ensures.submits (ap (submit_reply o) c.in-Err.is ∙ sym c.or_memory.ensures);
       sayable = subst (λ (r : Result Reply EngineFault). IfOk r IsSayable) (sym c.or_memory.ensures) (sayable_or_memory c.in-Err.fault);
       said = c.submit.ensures.said;

@@ -1,4 +1,4 @@
-use Rattle.std.proofs.Common.{rules, refl, ◌≡◌, ◌++◌, arith}
+use Rattle.std.proofs.Common.{inr, rules, refl, ◌≡◌, ◌++◌, arith}
 use Rattle.swf_cli.specs.Finish.{pieces_of, most_turns}
 use Rattle.swf_cli.specs.Turns.{labels_of, inputs_of}
 use Rattle.swf_cli.proofs.SessionLemmas.{begins, turn_goes_on, turn_ends, turn_stops, all_made}
@@ -9,7 +9,8 @@ pub loop-init : goal.loop-init
 loop-init g c = record {
   place = search rules;
   so_far = λ start before first told took is stands leaves.
-      begins g.H.Store.moment g.H.Store.left_since g.H.Store.said g.H.Store.may_leave g.H.Store.seen g.H.Host.taken start c.args.host.now c.args.engine before first told took is stands leaves;
+      begins c.args.words.now g.H.Store.moment g.H.Store.left_since g.H.Store.said g.H.Store.may_leave g.H.Store.seen g.H.Host.taken start c.args.host.now c.args.engine before first told took is stands leaves;
+  sound = λ s. s;
   host_faults = refl;
   store_faults = refl;
 }
@@ -18,14 +19,14 @@ pub returns-in-Ends-clause-ran : goal.returns-in-Ends-clause-ran
 returns-in-Ends-clause-ran g c = λ start before first told took is stands leaves.
     let H = g.H.Store in
     let s = c.loop.invariant.so_far start before first told took is stands leaves in
-    turn_ends H.moment H.left_since H.said H.may_leave H.seen g.H.Host.taken start c.loop.host c.take_turn.new.host c.loop.engine c.take_turn.new.engine before first told c.loop.counter s
+    turn_ends c.args.words.now H.moment H.left_since H.said H.may_leave H.seen g.H.Host.taken start c.loop.host c.take_turn.new.host c.loop.engine c.take_turn.new.engine before first told c.loop.counter s
     (c.in-Ends.ensures.turn s.stands.0 s.stands.1 (first ++ inputs_of s.turns) s.took (told ++ pieces_of (length first) s.turns) s.said_all (before ++ labels_of s.turns) s.stands.2)
 
 pub returns-in-Stops-clause-ran : goal.returns-in-Stops-clause-ran
 returns-in-Stops-clause-ran g c = λ start before first told took is stands leaves.
     let H = g.H.Store in
     let s = c.loop.invariant.so_far start before first told took is stands leaves in
-    turn_stops H.moment H.left_since H.said H.may_leave H.seen g.H.Host.taken start c.loop.host c.take_turn.new.host c.loop.engine c.take_turn.new.engine before first told c.loop.counter s c.in-Stops.status
+    turn_stops c.args.words.now H.moment H.left_since H.said H.may_leave H.seen g.H.Host.taken start c.loop.host c.take_turn.new.host c.loop.engine c.take_turn.new.engine before first told c.loop.counter s c.in-Stops.status
     (c.in-Stops.ensures.turn s.stands.0 s.stands.1 (first ++ inputs_of s.turns) s.took (told ++ pieces_of (length first) s.turns) s.said_all (before ++ labels_of s.turns) s.stands.2)
 
 pub loop-preserved : goal.loop-preserved
@@ -35,8 +36,9 @@ loop-preserved g c =
       place = search rules;
       so_far = λ start before first told took is stands leaves.
           let s = c.loop.invariant.so_far start before first told took is stands leaves in
-          turn_goes_on H.moment H.left_since H.said H.may_leave H.seen g.H.Host.taken start c.loop.host c.take_turn.new.host c.loop.engine c.take_turn.new.engine before first told c.loop.counter s
+          turn_goes_on c.args.words.now H.moment H.left_since H.said H.may_leave H.seen g.H.Host.taken start c.loop.host c.take_turn.new.host c.loop.engine c.take_turn.new.engine before first told c.loop.counter s
           (c.in-GoesOn.ensures.turn s.stands.0 s.stands.1 (first ++ inputs_of s.turns) s.took (told ++ pieces_of (length first) s.turns) s.said_all (before ++ labels_of s.turns) s.stands.2);
+      sound = λ s. c.in-GoesOn.ensures.sound (c.loop.invariant.sound s);
       host_faults = search rules;
       store_faults = search rules;
     }
@@ -46,4 +48,10 @@ returns-clause-ran g c = λ start before first told took is stands leaves.
     let H = g.H.Store in
     let s = c.loop.invariant.so_far start before first told took is stands leaves in
     let all : c.loop.counter ≡ most_turns = omega arith in
-    all_made H.moment H.left_since H.said H.may_leave H.seen g.H.Host.taken start c.loop.host c.loop.engine before first told c.loop.counter s all
+    all_made c.args.words.now H.moment H.left_since H.said H.may_leave H.seen g.H.Host.taken start c.loop.host c.loop.engine before first told c.loop.counter s all
+
+pub returns-in-Stops-clause-sound : goal.returns-in-Stops-clause-sound
+returns-in-Stops-clause-sound g c = λ s. c.in-Stops.ensures.sound (c.loop.invariant.sound s)
+
+pub returns-in-Stops-clause-which : goal.returns-in-Stops-clause-which
+returns-in-Stops-clause-which g c = inr c.in-Stops.ensures.which

@@ -5,7 +5,7 @@ use Rattle.swf_meaning.specs.declared.label.Label.{Label}
 use Rattle.swf_host.specs.declared.host.Input.{Input}
 use Rattle.swf_engine.specs.Core.{IsEngineOf}
 use Rattle.swf_cli.specs.Moments.{IsMoment}
-use Rattle.swf_cli.specs.Steps.{Stand}
+use Rattle.swf_cli.specs.Steps.{IsSound, Stand}
 use Rattle.swf_cli.proofs.SessionLemmas.{SoFar}
 use Rattle.swf_cli.proofs.session.take_turns.Given as goal
 
@@ -15,8 +15,9 @@ invariant-loop g l = record {
   place : IsEngineOf (g.H.Store.seen l.host) l.engine;
   so_far : (start : g.row.H.Denot) (before : List Label) (first : List Input) (told : List Piece) → g.H.Host.taken l.fn.host ≡ Some first → g.H.Store.said l.fn.host ≡ Some told
       → Stand g.H.Store.moment g.H.Store.left_since g.H.Store.said g.H.Store.may_leave g.H.Store.seen l.fn.host l.fn.engine before
-      → Leaves g.H.Store.moment g.H.Store.left_since start l.fn.host (IsMoment before first told first)
-      → SoFar g.H.Store.moment g.H.Store.left_since g.H.Store.said g.H.Store.may_leave g.H.Store.seen g.H.Host.taken start l.host l.engine before first told l.counter;
+      → Leaves g.H.Store.moment g.H.Store.left_since start l.fn.host (IsMoment l.words before first told first)
+      → SoFar l.words g.H.Store.moment g.H.Store.left_since g.H.Store.said g.H.Store.may_leave g.H.Store.seen g.H.Host.taken start l.host l.engine before first told l.counter;
+  sound : IsSound g.H.Store.moment g.H.Store.left_since g.H.Store.said g.H.Store.may_leave g.H.Store.seen l.fn.host l.fn.engine → IsSound g.H.Store.moment g.H.Store.left_since g.H.Store.said g.H.Store.may_leave g.H.Store.seen l.host l.engine;
   host_faults : g.H.Host.host_faults l.host ≡ g.H.Host.host_faults l.fn.host;
   store_faults : g.H.Store.store_faults l.host ≡ g.H.Store.store_faults l.fn.host;
 }

@@ -1,5 +1,4 @@
 use Rattle.std.proofs.Common.{◌≡◌, ◌∙◌, ap, sym, subst, ℕ, ◌+◌, List, [], ◌∷◌, ◌++◌, Option, Some, None, Vec, Global, Err, is_none, drop}
-use Rattle.std.specs.Option.{MatchOption}
 use Rattle.swf_store.specs.Files.{bytes_of}
 use Rattle.swf_store.specs.declared.image.Image.{Image}
 use Rattle.swf_store.specs.declared.image.File.{File}
@@ -10,19 +9,8 @@ use Rattle.swf_journal.specs.Place.{Place, HasRead}
 use Rattle.swf_journal.specs.Stands.{IsShutAfter}
 use Rattle.swf_engine.specs.declared.fault.EngineFault.{EngineFault}
 use Rattle.swf_engine.specs.Reading.{Reads}
-use Rattle.swf_engine.proofs.OpenLemmas.{read_more, read_bad, read_ended, read_failed}
+use Rattle.swf_engine.proofs.OpenLemmas.{of_journal, in_file, read_more, read_bad, read_ended, read_failed}
 use Rattle.swf_engine.proofs.open.read_one.Goals as goal
-
--- what the reading found, of the journal
-of_journal : (image : Image) (file : File) (new : Place) (bodies : List (List ℕ)) (o p : Option (Vec ℕ Global)) → file ≡ Journal → o ≡ p
-    → MatchOption o (HasRead (bytes_of image file) new header bodies × IsShutAfter header (bytes_of image file) bodies) (λ body. HasRead (bytes_of image file) new header (bodies ++ body.items ∷ []))
-    → MatchOption p (HasRead image.journal new header bodies × IsShutAfter header image.journal bodies) (λ body. HasRead image.journal new header (bodies ++ body.items ∷ []))
-of_journal image file new bodies o p is same found =
-    subst (λ (f : File). MatchOption p (HasRead (bytes_of image f) new header bodies × IsShutAfter header (bytes_of image f) bodies) (λ body. HasRead (bytes_of image f) new header (bodies ++ body.items ∷ []))) is
-    (subst (λ (q : Option (Vec ℕ Global)). MatchOption q (HasRead (bytes_of image file) new header bodies × IsShutAfter header (bytes_of image file) bodies) (λ body. HasRead (bytes_of image file) new header (bodies ++ body.items ∷ []))) same found)
-
-in_file : (image : Image) (file : File) (place : Place) (bodies : List (List ℕ)) → file ≡ Journal → HasRead image.journal place header bodies → HasRead (bytes_of image file) place header bodies
-in_file image file place bodies is read = subst (λ (f : File). HasRead (bytes_of image f) place header bodies) (sym is) read
 
 pub returns-in-Ok-clause-reads : goal.returns-in-Ok-clause-reads
 returns-in-Ok-clause-reads g c = λ image seen s.

@@ -1,7 +1,7 @@
 use Rattle.std.proofs.Common.{◌∙◌, ap, sym, inr, option_map, Ok, None, Some}
 use Rattle.std.specs.Option.{option_copied}
 use Rattle.swf_meaning.specs.Answer.{report}
-use Rattle.swf_world.specs.declared.query.Answer.TheVariants.{Status}
+use Rattle.swf_meaning.specs.declared.label.Answer.TheVariants.{Status}
 use Rattle.swf_world.specs.Answers.{found}
 use Rattle.swf_world.proofs.Lookups.{placed_lookup}
 use Rattle.swf_world.proofs.Checks.{instance_found}

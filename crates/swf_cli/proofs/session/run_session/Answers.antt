@@ -1,0 +1,34 @@
+use Rattle.std.proofs.Common.{ap, Err, ◌∙◌}
+use Rattle.swf_cli.proofs.OpeningLemmas.{session_opened, session_closed}
+use Rattle.swf_cli.proofs.TurnLemmas.{blamed_behind}
+use Rattle.swf_cli.proofs.session.run_session.Goals as goal
+
+pub returns-in-Ok-clause-runs : goal.returns-in-Ok-clause-runs
+returns-in-Ok-clause-runs g c =
+    let H = g.H.Store in
+    let old = c.args.host.now in
+    let opened = c.open_on.new.store in
+    session_opened H.moment H.left_since H.said H.may_leave H.seen g.H.Host.taken g.met.H.Store.only_now c.args.words.now old opened c.take_turns.new.host c.in-Ok.engine c.take_turns.result
+    (g.met.H.Host.beside_taken opened old c.open_on.ensures.beside) c.open_on.ensures.said
+    (λ image is. c.in-Ok.ensures.opened image is) (λ image is history h. c.open_on.ensures.any_moment image is history h) c.take_turns.ensures.ran c.take_turns.ensures.sound
+
+pub returns-in-Ok-clause-blamed : goal.returns-in-Ok-clause-blamed
+returns-in-Ok-clause-blamed g c =
+    let H = g.H.Store in
+    let old = c.args.host.now in
+    let opened = c.open_on.new.store in
+    let new = c.take_turns.new.host in
+    blamed_behind c.args.words.now c.take_turns.result (g.H.Host.host_faults old) (g.H.Host.host_faults opened) (g.H.Host.host_faults new) (H.store_faults old) (H.store_faults opened) (H.store_faults new)
+    (g.met.H.Host.beside_faults opened old c.open_on.ensures.beside) c.in-Ok.ensures.cause c.take_turns.ensures.blamed
+
+pub returns-in-Err-clause-runs : goal.returns-in-Err-clause-runs
+returns-in-Err-clause-runs g c =
+    let H = g.H.Store in
+    let old = c.args.host.now in
+    let opened = c.open_on.new.store in
+    let new = c.not_opened.new.host in
+    session_closed H.moment H.left_since H.said H.may_leave H.seen g.H.Host.taken g.met.H.Store.only_now c.args.words.now c.in-Err.fault old opened new c.not_opened.result
+    (g.H.Host.host_faults opened) (g.H.Host.host_faults new) (H.store_faults opened) (H.store_faults new)
+    (g.met.H.Host.beside_taken opened old c.open_on.ensures.beside) c.open_on.ensures.said c.not_opened.ensures.taken
+    (λ image is at e. c.open_on.ensures.damaged image is at (c.in-Err.is ∙ ap Err e)) (λ image is history h. c.open_on.ensures.any_moment image is history h)
+    c.not_opened.ensures.tells c.not_opened.ensures.closes

@@ -1,0 +1,52 @@
+-- What the program does, by what its words mean.
+use Rattle.std.specs.Prelude.{◌≡◌, ◌≢◌, ◌⊎◌, ℕ, List, ◌∷◌, [], ◌++◌, length, Option, Some}
+use Rattle.std.specs.Option.{ForSome}
+use Rattle.swf_store.specs.declared.image.Image.{Image}
+use Rattle.swf_store.specs.declared.said.Piece.{Piece}
+use Rattle.swf_meaning.specs.declared.label.Label.{Label}
+use Rattle.swf_host.specs.declared.host.Input.{Input}
+use Rattle.swf_engine.specs.Damage.{IsDamaged}
+use Rattle.swf_engine.specs.History.{IsHistory}
+use Rattle.swf_cli.specs.declared.words.Mode.{Mode}
+use Rattle.swf_cli.specs.declared.words.Mode.TheVariants.{Session, Show}
+use Rattle.swf_cli.specs.declared.words.Words.{Words}
+use Rattle.swf_cli.specs.Finish.{Finished, IsShort, TellsFull, TellsDamage}
+use Rattle.swf_cli.specs.Moments.{IsMoment, Runs}
+use Rattle.swf_cli.specs.Shown.{IsShowing, IsShown, IsPartShown}
+
+module _ {S : Type 0} (moment : S → ℕ) (left_since : S → ℕ → Image → List Piece → Type 0) (said : S → Option (List Piece)) (may_leave : S → Image → Type 0) (seen : S → Option Image) (taken : S → Option (List Input)) where
+  -- where the host tells what it gave and took, and its store stands for a history
+  abbrev pub Told : S → (Image → List Input → List Piece → List Label → Type 0) → Type 0
+  Told old P = ForSome (seen old) (λ image. ForSome (taken old) (λ inputs. ForSome (said old) (λ pieces. (before : List Label) → IsHistory image before → P image inputs pieces before)))
+
+  -- 5 comes only where the journal is damaged, which is told; then no input is taken. One that stands for a history is not.
+  pub record TellsOfDamage (old new : S) (status : ℕ) : Type 0 where
+    pub damaged : ForSome (seen old) (λ image. ForSome (taken old) (λ inputs. ForSome (said old) (λ pieces.
+        status ≡ 5 → (at : ℕ) × IsDamaged image at × TellsDamage at inputs pieces (taken new) (said new))))
+    pub refused : ForSome (seen old) (λ image. (at : ℕ) → IsDamaged image at → (taken new ≡ taken old) × (status ≢ 0) × (status ≢ 7))
+    pub whole : ForSome (seen old) (λ image. (before : List Label) → IsHistory image before → status ≢ 5)
+
+  pub record SessionRun (words : Words) (old new : S) (status : ℕ) : Type 0 where
+    -- A stop at any moment leaves a journal whose history begins with that of the journal at entry and has a place for every
+    -- reply that was said.
+    pub moments : Told old (λ image inputs pieces before. (all : List Input) × (taken new ≡ Some all) × Runs moment left_since said may_leave (IsMoment words before inputs pieces all) old new)
+    -- At 0 the input was read to its end, each reply was said whole, and every image stands for the one history.
+    pub finish : Told old (λ image inputs pieces before. status ≡ 0 → Finished words before inputs pieces (taken new) (said new) (may_leave new))
+    -- At 7 the journal is full, which was said whole, and the store stands for a history that has no room for its next label.
+    pub full : Told old (λ image inputs pieces before. status ≡ 7 → TellsFull words moment left_since said may_leave seen taken new before inputs pieces)
+    -- At 3 and 6 whole replies were said, and no part of another.
+    pub short : Told old (λ image inputs pieces before. (status ≡ 3) ⊎ (status ≡ 6) → IsShort words before inputs pieces (taken new) (said new))
+    pub damage : TellsOfDamage old new status
+
+  pub record ShowRun (old new : S) (status : ℕ) : Type 0 where
+    -- A stop at any moment leaves a journal of the same history, and a beginning of its lines was said.
+    pub moments : Told old (λ image inputs pieces before. (taken new ≡ Some inputs) × Runs moment left_since said may_leave (IsShowing before inputs pieces) old new)
+    -- At 0 all lines were said.
+    pub finish : Told old (λ image inputs pieces before. status ≡ 0 → IsShown before inputs pieces (taken new) (said new) (may_leave new))
+    -- At 3 and 6 whole lines were said, and no part of another.
+    pub short : Told old (λ image inputs pieces before. (status ≡ 3) ⊎ (status ≡ 6) → IsPartShown before inputs pieces (taken new) (said new))
+    pub damage : TellsOfDamage old new status
+
+  abbrev pub RunsIn : Mode → Words → S → S → ℕ → Type 0
+  RunsIn Session words old new status = SessionRun words old new status
+  RunsIn Show words old new status = ShowRun old new status

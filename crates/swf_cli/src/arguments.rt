@@ -1,0 +1,177 @@
+// Reading the words of the command line.
+ghost use Rattle.std.specs.Prelude.{◌≡◌, [], Ok, option_map};
+ghost use Rattle.swf_text.specs.Same.{same};
+ghost use Rattle.swf_cli.specs.Words.{texts, parts, value_in, is_dashed, mode_named, words_of};
+ghost use Rattle.swf_cli.specs.Arguments.{meant, Takes, TakesValue, TakesOther};
+
+use crate::words::{Mode, Words};
+use std::alloc::{AllocError, Global};
+use swf_protocol::budget_of;
+
+/// How many steps a settling takes at most where no word says it.
+const STEPS: u32 = 1000;
+
+/// What the next word may be.
+#[derive(Clone, Copy)]
+enum Expects {
+    /// An option, its end, or another word.
+    Any,
+    /// The value of the option before.
+    Value,
+    /// Another word, since the options have ended.
+    Other,
+}
+
+/// What was read so far.
+#[derive(Drop)]
+struct Progress {
+    steps: Option<u32>,
+    mode: Option<Mode>,
+    expects: Expects,
+}
+
+fn is(word: &str, known: &str) -> bool
+    ensures { result ≡ same word.now known.now }
+{
+    word == known
+}
+
+// The parts in front of the first `=` and behind it.
+fn parts(word: &str) -> Option<(&str, &str)>
+    ensures { option_map (λ p. (p.0.now, p.1.now)) result ≡ parts word.now }
+{
+    word.split_once('=')
+}
+
+// The value in a word that is `--steps=` and a value.
+fn value_in(word: &str) -> Option<&str>
+    ensures { option_map (λ v. v.now) result ≡ value_in word.now }
+{
+    match parts(word) {
+        Some((name, value)) if is(name, "--steps") => Some(value),
+        _ => None,
+    }
+}
+
+fn is_dashed(word: &str) -> bool
+    ensures { result ≡ is_dashed word.now }
+{
+    let bytes = word.as_bytes();
+    !bytes.is_empty() && bytes[0] == b'-'
+}
+
+fn mode_named(word: &str) -> Option<Mode>
+    ensures { result ≡ mode_named word.now }
+{
+    if is(word, "session") {
+        Some(Mode::Session)
+    } else if is(word, "show") {
+        Some(Mode::Show)
+    } else {
+        None
+    }
+}
+
+// Takes a value of `--steps`, which stands at most once.
+fn take_value(progress: &mut Progress, word: &str) -> bool
+    ensures { TakesValue result progress.old word.now progress.new }
+{
+    if progress.steps.is_some() {
+        return false;
+    }
+    match budget_of(word.as_bytes()) {
+        Some(steps) => {
+            progress.steps = Some(steps as u32);
+            true
+        }
+        None => false,
+    }
+}
+
+// Takes a word that is left, which is the mode.
+fn take_other(progress: &mut Progress, word: &str) -> bool
+    ensures { TakesOther result progress.old word.now progress.new }
+{
+    if progress.mode.is_some() {
+        return false;
+    }
+    match mode_named(word) {
+        Some(mode) => {
+            progress.mode = Some(mode);
+            true
+        }
+        None => false,
+    }
+}
+
+// Takes a word where an option may come, or says that no words with it have a meaning.
+fn take_any(progress: &mut Progress, word: &str) -> bool
+    requires { progress.old.expects ≡ Expects.Any }
+    ensures { Takes result progress.old word.now progress.new }
+{
+    let named = is(word, "--steps");
+    if named {
+        progress.expects = Expects::Value;
+        return true;
+    }
+    let ends = is(word, "--");
+    if ends {
+        progress.expects = Expects::Other;
+        return true;
+    }
+    if let Some(value) = value_in(word) {
+        return take_value(progress, value);
+    }
+    let dashed = is_dashed(word);
+    if dashed {
+        return false;
+    }
+    take_other(progress, word)
+}
+
+// Takes the next word, or says that no words with it have a meaning.
+fn take_word(progress: &mut Progress, word: &str) -> bool
+    ensures { Takes result progress.old word.now progress.new }
+{
+    match progress.expects {
+        Expects::Any => take_any(progress, word),
+        Expects::Value => {
+            progress.expects = Expects::Any;
+            take_value(progress, word)
+        }
+        Expects::Other => take_other(progress, word),
+    }
+}
+
+// What is meant where no word comes any more.
+fn meaning(progress: &Progress) -> Option<Words>
+    ensures { result ≡ meant progress.now [] }
+{
+    let Some(mode) = progress.mode else {
+        return None;
+    };
+    match progress.expects {
+        Expects::Value => None,
+        Expects::Any | Expects::Other => Some(Words {
+            steps: progress.steps.unwrap_or(STEPS),
+            mode,
+        }),
+    }
+}
+
+/// What the words of the command line mean, if they have a meaning. It takes no memory yet.
+pub fn read_words(_alloc: Global, words: &[String]) -> Result<Option<Words>, AllocError>
+    ensures { result ≡ Ok (words_of (texts words.now)) }
+{
+    let mut progress = Progress {
+        steps: None,
+        mode: None,
+        expects: Expects::Any,
+    };
+    for word in words {
+        if !take_word(&mut progress, word.as_str()) {
+            return Ok(None);
+        }
+    }
+    Ok(meaning(&progress))
+}

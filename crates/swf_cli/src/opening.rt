@@ -1,0 +1,23 @@
+// What is said where no engine could be opened.
+ghost use Rattle.std.specs.Prelude.{◌≡◌, ℕ};
+ghost use Rattle.swf_cli.specs.Finish.{Tells, ClosesWith};
+
+use crate::turn::{NO_MEMORY, STORE_FAULT, say_damage};
+use std::alloc::Global;
+use swf_engine::EngineFault;
+use swf_host::Host;
+
+/// The status where no engine could be opened.
+pub fn not_opened<H: Host>(alloc: Global, host: &mut H, fault: EngineFault) -> u8
+    requires { (size : ℕ) → fault ≡ EngineFault.Full size → ⊥ }
+    ensures tells { Tells fault host.old host.new result (H.taken host.old) (H.taken host.new) (H.said host.old) (H.said host.new) }
+    ensures taken { H.taken host.new ≡ H.taken host.old }
+    ensures closes { ClosesWith fault result (H.host_faults host.old) (H.host_faults host.new) (H.store_faults host.old) (H.store_faults host.new) }
+{
+    match fault {
+        EngineFault::Store => STORE_FAULT,
+        EngineFault::Damaged { at } => say_damage(alloc, host, 0, at),
+        EngineFault::Full { .. } => unreachable!(),
+        EngineFault::OutOfMemory => NO_MEMORY,
+    }
+}

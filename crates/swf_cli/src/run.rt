@@ -1,0 +1,40 @@
+// The top call: the words are read, and then the program does what they mean.
+ghost use Rattle.std.specs.Prelude.{◌≡◌, ◌↔◌, Some, None};
+ghost use Rattle.swf_cli.specs.Running.{RunsIn};
+ghost use Rattle.swf_cli.specs.Statuses.{IsStatus, IsBlamed};
+ghost use Rattle.swf_cli.specs.Words.{texts, words_of};
+ghost use Rattle.swf_cli.specs.declared.words.Words.{Words as Meaning};
+
+use crate::arguments::read_words;
+use crate::session::run_session;
+use crate::show::run_show;
+use crate::turn::NO_MEMORY;
+use crate::words::Mode;
+use std::alloc::Global;
+use swf_host::Host;
+
+/// The words mean nothing.
+const NO_MEANING: u8 = 2;
+
+/// Runs the program: its words and the host with its store are handed in, and its status is answered.
+pub fn swf_run<H: Host>(alloc: Global, words: &[String], host: &mut H) -> u8
+    // 2 comes exactly by the words, and then nothing was done.
+    ensures words { (result ≡ 2) ↔ (words_of (texts words.now) ≡ None) }
+    ensures untouched { words_of (texts words.now) ≡ None → host.new ≡ host.old }
+    // Else the program does what the words mean.
+    ensures runs { (meaning : Meaning) → words_of (texts words.now) ≡ Some meaning
+        → RunsIn H.moment H.left_since H.said H.may_leave H.seen H.taken meaning.mode meaning host.old host.new result }
+    ensures statuses { (meaning : Meaning) → words_of (texts words.now) ≡ Some meaning → IsStatus meaning.mode result }
+    // 3 comes where a call of the store failed and 4 where one of the host did, at the first such call; else none did.
+    ensures blamed { IsBlamed result (H.host_faults host.old) (H.host_faults host.new) (H.store_faults host.old) (H.store_faults host.new) }
+{
+    let words = match read_words(alloc, words) {
+        Ok(Some(words)) => words,
+        Ok(None) => return NO_MEANING,
+        Err(_) => return NO_MEMORY,
+    };
+    match words.mode {
+        Mode::Session => run_session(alloc, &words, host),
+        Mode::Show => run_show(alloc, host),
+    }
+}

@@ -1,0 +1,47 @@
+use Rattle.std.proofs.Common.{◌≡◌, ◌∙◌, ◌<◌, ◌≤◌, subst, Bool, length, Ok, Err, arith}
+use Rattle.swf_store.proofs.Moments.{goes_on_only}
+use Rattle.swf_engine.specs.Retelling.{TellsFrame}
+use Rattle.swf_engine.proofs.RetellLemmas.{retold_full_as, retold_end_as, retold_failed}
+use Rattle.swf_engine.proofs.retelling.tell_frames.Goals as goal
+
+pub returns-then-len-ge-MOST_TOLD-clause-retells : goal.returns-then-len-ge-MOST_TOLD-clause-retells
+returns-then-len-ge-MOST_TOLD-clause-retells g c = λ image seen first.
+    let l = c.loop in
+    retold_full_as image.journal l.reading c.args.from l.told.pass l.told.values.items c.told_history.result (l.invariant.told image seen first) (omega arith) c.told_history.ensures
+
+pub returns-in-Ok-false-clause-retells : goal.returns-in-Ok-false-clause-retells
+returns-in-Ok-false-clause-retells g c = λ image seen first.
+    let l = c.loop in
+    let few : length l.told.values.items < 100 = omega arith in
+    let told = c.tell_frame.new.told in
+    let t = subst (λ (b : Bool). TellsFrame image.journal c.tell_frame.new.reading c.args.from told.pass told.values.items (Ok b)) c.in-Ok-false.field-0-test
+    (c.in-Ok-false.ensures.tells image (l.invariant.seen ∙ seen) c.args.from (l.invariant.told image seen first) few) in
+    retold_end_as image.journal c.tell_frame.new.reading c.args.from told.pass told.values.items c.told_history-in-Ok-false.result t c.told_history-in-Ok-false.ensures
+
+pub returns-in-Err-clause-retells : goal.returns-in-Err-clause-retells
+returns-in-Err-clause-retells g c = λ image seen first.
+    let l = c.loop in
+    let few : length l.told.values.items < 100 = omega arith in
+    let told = c.tell_frame.new.told in
+    retold_failed image.journal c.tell_frame.new.reading c.args.from told.pass told.values.items c.in-Err.fault (c.in-Err.ensures.tells image (l.invariant.seen ∙ seen) c.args.from (l.invariant.told image seen first) few)
+
+pub loop-preserved : goal.loop-preserved
+loop-preserved g c =
+    let S = g.S.Store in
+    let l = c.loop in
+    let i = l.invariant in
+    let few : length l.told.values.items < 100 = omega arith in
+    let told = c.tell_frame.new.told in
+    record {
+      place = c.tell_frame.ensures.place;
+      file = c.tell_frame.ensures.file ∙ i.file;
+      told = λ image seen first. subst (λ (b : Bool). TellsFrame image.journal c.tell_frame.new.reading c.args.from told.pass told.values.items (Ok b)) c.in-Ok-true.field-0-test
+          (c.in-Ok-true.ensures.tells image (i.seen ∙ seen) c.args.from (i.told image seen first) few);
+      seen = c.tell_frame.ensures.seen ∙ i.seen;
+      stop = λ image may. i.stop image (c.tell_frame.ensures.stop image may);
+      any_moment = goes_on_only S.moment S.left_since S.said c.args.store.now l.store c.tell_frame.new.store (S.may_leave c.args.store.now) (S.may_leave l.store) (S.may_leave c.args.store.now) i.said i.any_moment c.tell_frame.ensures.any_moment
+          (λ left may. may) (λ left may. i.stop left may);
+      said = c.tell_frame.ensures.said ∙ i.said;
+      beside = c.tell_frame.ensures.beside ∙ i.beside;
+      faults = c.in-Ok-true.ensures.cause ∙ i.faults;
+    }

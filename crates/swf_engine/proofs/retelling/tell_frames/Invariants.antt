@@ -1,0 +1,25 @@
+use Rattle.std.proofs.Common.{◌≡◌, []}
+use Rattle.std.specs.Option.{ForSome}
+use Rattle.swf_store.specs.declared.image.File.TheVariants.{Journal}
+use Rattle.swf_store.specs.Disk.{NothingNew}
+use Rattle.swf_store.specs.Stops.{LeavesOnly}
+use Rattle.swf_journal.specs.Frames.{header}
+use Rattle.swf_journal.specs.Place.{IsReadingOf, HasRead}
+use Rattle.swf_engine.specs.Retelling.{HasTold}
+use Rattle.swf_engine.proofs.retelling.tell_frames.Given as goal
+
+-- how far the frames are told, and what stays
+abbrev pub invariant-loop : goal.invariant-loop
+invariant-loop g l =
+    let S = g.S.Store in
+    record {
+      place : IsReadingOf (S.seen l.store) l.reading;
+      file : l.reading.file ≡ Journal;
+      told : ForSome (S.seen l.fn.store) (λ image. HasRead image.journal l.fn.reading header [] → HasTold image.journal l.reading l.from l.told.pass l.told.values.items);
+      seen : S.seen l.store ≡ S.seen l.fn.store;
+      stop : NothingNew (S.may_leave l.fn.store) (S.may_leave l.store);
+      any_moment : LeavesOnly S.moment S.left_since S.said l.fn.store l.store (S.may_leave l.fn.store);
+      said : S.said l.store ≡ S.said l.fn.store;
+      beside : S.beside l.store ≡ S.beside l.fn.store;
+      faults : S.store_faults l.store ≡ S.store_faults l.fn.store;
+    }
