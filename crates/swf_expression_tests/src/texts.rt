@@ -1,7 +1,8 @@
 // Texts with the trees that the grammar gives them, printed, or with their faults and places.
 use std::alloc::{AllocError, Global};
 use std::test::Fail;
-use swf_jq_parse::{ParseFault, parse, print};
+use swf_jq_parse::{ParseFault, parse};
+use swf_jq_print::print;
 
 /// Texts, each with what it is to be read as: the tree's printed text, or the fault.
 const TABLE: &str = r#". => .

@@ -5,7 +5,8 @@ use std::test::Fail;
 use std::thread;
 use swf_jq_eval::{End, First, Stream, Variable, Vars, eval, first_value};
 use swf_jq_parse::parse;
-use swf_value::{Json, Text, read_json, write_json};
+use swf_text::Text;
+use swf_value::{Json, read_json, write_json};
 
 /// An expression, its input, and its outputs with the error that ended them.
 const TABLE: &str = r#". => {"b":1,"a":[2]} => {"a":[2],"b":1}

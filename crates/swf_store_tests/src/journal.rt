@@ -6,7 +6,7 @@ use std::alloc::Global;
 use std::test::Fail;
 use swf_journal::{Journal, OpenFault, begin, build};
 use swf_store::{File, Image, MemoryStore, Store};
-use swf_value::Bytes;
+use swf_text::Bytes;
 
 const BODY: [u8; 13] = [0, 0, 0, 1, 5, 0, 0, 0, 0, 0, 0, 3, 0xE8];
 

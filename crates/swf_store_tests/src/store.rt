@@ -2,7 +2,7 @@
 use std::alloc::Global;
 use std::test::Fail;
 use swf_store::{Failed, File, Image, MemoryStore, Store};
-use swf_value::Bytes;
+use swf_text::Bytes;
 
 // Writes a piece at the start of the journal and syncs, and gives what a read of six bytes then gives.
 fn write_and_read<S: Store>(alloc: Global, store: &mut S) -> Result<Vec<u8>, Fail> {

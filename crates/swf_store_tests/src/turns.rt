@@ -5,7 +5,7 @@ use std::test::Fail;
 use swf_host::{Host, Input, MemoryHost, Turn, TurnFault, two_turns};
 use swf_journal::{AppendFault, build};
 use swf_store::{Failed, Image, MemoryStore};
-use swf_value::Bytes;
+use swf_text::Bytes;
 
 // The numbers of the calls that fail.
 #[derive(Clone, Copy)]

@@ -119,7 +119,7 @@ fn damage_that_cannot_be_said_ends_with_4(rt: HostRuntime) -> Result<(), Fail> {
     let alloc = rt.alloc();
     let mut image = Image::empty(alloc);
     let journal = b"SWFJRNL1\0\0\0\0\0\0\0\0\xA5\0\0\0\0\0\0\0\x64".as_slice();
-    image.journal = swf_value::Bytes::of(journal.to_vec(alloc)?);
+    image.journal = swf_text::Bytes::of(journal.to_vec(alloc)?);
     let failing = Failing {
         say: &[0],
         ..NOTHING

@@ -2,7 +2,7 @@
 use crate::runs::{LOAD, START, UNKNOWN, lines_of, run_new, run_over};
 use std::test::Fail;
 use swf_store::{File, Image};
-use swf_value::Bytes;
+use swf_text::Bytes;
 
 // Header and gates are 17 bytes, a frame has nine beside its body, and the bodies have 111, 35 and 12 bytes each.
 #[test]

@@ -7,7 +7,8 @@ use std::test::Fail;
 use swf_document::DocKey;
 use swf_meaning::Label;
 use swf_record::{RecordFault, decode_labels, encode_labels};
-use swf_value::{Strand, Text, depth, read_json};
+use swf_text::{Strand, Text};
+use swf_value::{depth, read_json};
 
 const DOCUMENT: &[u8] =
     b"{\"do\":[{\"s\":{\"set\":{\"x\":1}}}],\"document\":{\"dsl\":\"1.0.0\",\"name\":\"a\",\"namespace\":\"t\",\"version\":\"1.0.0\"}}";

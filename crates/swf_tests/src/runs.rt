@@ -4,7 +4,7 @@ use std::test::Fail;
 use swf_cli::swf_run;
 use swf_host::{Input, MemoryHost, Turn};
 use swf_store::{Image, MemoryStore};
-use swf_value::Bytes;
+use swf_text::Bytes;
 
 /// Loads the document `a`, whose one task sets x to 1.
 pub(crate) const LOAD: &str =

@@ -1,18 +1,13 @@
 // Sessions over a store that was never written, with their replies worked out by hand.
 use crate::runs::{
-    COMPLETED, LOAD, NOTHING, ONE_SET, ONE_SET_REPLIES, RUNNING, START, lines_of, run_new,
-    run_one_set, run_over, run_script, words,
+    LOAD, NOTHING, ONE_SET_REPLIES, lines_of, run_one_set, run_over, run_script, words,
 };
 use std::alloc::{AllocError, Global};
 use std::test::Fail;
 use swf_cli::swf_run;
 use swf_host::{Input, MemoryHost, Turn};
 use swf_store::{Image, MemoryStore};
-use swf_value::Bytes;
-
-// Loads the document `b`, whose two tasks take two steps more than one does.
-const LOAD_TWO: &str =
-    "load {\"document\":{\"dsl\":\"1.0.0\",\"namespace\":\"t\",\"name\":\"b\",\"version\":\"1.0.0\"},\"do\":[{\"r\":{\"set\":{\"x\":1}}},{\"s\":{\"set\":{\"y\":[2,\"q\"]}}}]}";
+use swf_text::Bytes;
 
 #[test]
 fn one_set(rt: HostRuntime) -> Result<(), Fail> {
@@ -27,155 +22,6 @@ fn one_set(rt: HostRuntime) -> Result<(), Fail> {
     for (place, piece) in ran.host.said().iter().enumerate() {
         assert_eq!(rt; piece.conn, place as u64);
         assert_eq!(rt; piece.inputs, (place as u64).saturating_add(1));
-    }
-    Ok(())
-}
-
-// What sessions say, each on its own store.
-const SESSIONS: [(&[&str], &[&str]); 4] = [
-    (
-        &[LOAD, START, "settle 2", "settle 1"],
-        &[
-            "{\"ok\":\"loaded\",\"place\":0}",
-            "{\"ok\":\"started\",\"place\":1}",
-            "{\"ok\":\"budget\",\"steps\":2}",
-            "{\"ok\":\"quiet\",\"steps\":1}",
-        ],
-    ),
-    (
-        &[LOAD, START, "status i", "quit", "status i"],
-        &[
-            "{\"ok\":\"loaded\",\"place\":0}",
-            "{\"ok\":\"started\",\"place\":1}",
-            RUNNING,
-            "{\"ok\":\"quit\"}",
-        ],
-    ),
-    (
-        &[
-            LOAD_TWO,
-            "start i t b 1.0.0 [1]",
-            "settle 4",
-            "settle 5",
-            "status i",
-        ],
-        &[
-            "{\"ok\":\"loaded\",\"place\":0}",
-            "{\"ok\":\"started\",\"place\":1}",
-            "{\"ok\":\"budget\",\"steps\":4}",
-            "{\"ok\":\"quiet\",\"steps\":1}",
-            "{\"context\":null,\"id\":\"i\",\"output\":{\"y\":[2,\"q\"]},\"status\":\"completed\"}",
-        ],
-    ),
-    (&[], &[]),
-];
-
-#[test]
-fn sessions_and_their_replies(rt: HostRuntime) -> Result<(), Fail> {
-    for (lines, replies) in SESSIONS.iter() {
-        let ran = run_new(rt.alloc(), lines)?;
-        let expected = lines_of(rt.alloc(), replies, 10)?;
-        assert_eq!(rt; ran.said.as_str(), expected.as_str());
-        assert_eq!(rt; ran.status, 0);
-    }
-    Ok(())
-}
-
-// Two instances of three steps and one of five take their steps in turn, in the order i, j, k.
-const TURNS: [(&str, &str); 16] = [
-    (LOAD, "{\"ok\":\"loaded\",\"place\":0}"),
-    (LOAD_TWO, "{\"ok\":\"loaded\",\"place\":1}"),
-    (START, "{\"ok\":\"started\",\"place\":2}"),
-    ("start j t b 1.0.0 {}", "{\"ok\":\"started\",\"place\":3}"),
-    ("start k t a 1.0.0 {}", "{\"ok\":\"started\",\"place\":4}"),
-    // Each has taken two steps.
-    ("settle 6", "{\"ok\":\"budget\",\"steps\":6}"),
-    ("status i", RUNNING),
-    // The first takes its third and last one.
-    ("settle 1", "{\"ok\":\"budget\",\"steps\":1}"),
-    ("status i", COMPLETED),
-    (
-        "status k",
-        "{\"context\":null,\"id\":\"k\",\"status\":\"running\"}",
-    ),
-    // The second takes one, and then the third its last.
-    ("settle 2", "{\"ok\":\"budget\",\"steps\":2}"),
-    (
-        "status k",
-        "{\"context\":null,\"id\":\"k\",\"output\":{\"x\":1},\"status\":\"completed\"}",
-    ),
-    (
-        "status j",
-        "{\"context\":null,\"id\":\"j\",\"status\":\"running\"}",
-    ),
-    // Two of five steps are left.
-    ("settle 100", "{\"ok\":\"quiet\",\"steps\":2}"),
-    (
-        "status j",
-        "{\"context\":null,\"id\":\"j\",\"output\":{\"y\":[2,\"q\"]},\"status\":\"completed\"}",
-    ),
-    (
-        "start j t a 1.0.0 {}",
-        "{\"error\":\"duplicate\",\"place\":3}",
-    ),
-];
-
-#[test]
-fn instances_take_steps_in_turn(rt: HostRuntime) -> Result<(), Fail> {
-    let alloc = rt.alloc();
-    let mut lines = Vec::new(alloc);
-    let mut replies = Vec::new(alloc);
-    for (line, reply) in TURNS.iter() {
-        lines.push(*line)?;
-        replies.push(*reply)?;
-    }
-    let ran = run_new(alloc, &lines)?;
-    let expected = lines_of(alloc, &replies, TURNS.len())?;
-    assert_eq!(rt; ran.said.as_str(), expected.as_str());
-    assert_eq!(rt; ran.status, 0);
-    Ok(())
-}
-
-// Sessions after one another on one store, whose journal keeps what each did.
-const KEPT: [(&[&str], &[&str]); 3] = [
-    (
-        &[LOAD, START, "settle 2", "quit"],
-        &[
-            "{\"ok\":\"loaded\",\"place\":0}",
-            "{\"ok\":\"started\",\"place\":1}",
-            "{\"ok\":\"budget\",\"steps\":2}",
-            "{\"ok\":\"quit\"}",
-        ],
-    ),
-    (
-        &["status i", "settle 100", "start j t a latest {}"],
-        &[
-            RUNNING,
-            "{\"ok\":\"quiet\",\"steps\":1}",
-            "{\"ok\":\"started\",\"place\":5}",
-        ],
-    ),
-    (
-        &[LOAD, "status i", "settle 100", "quit"],
-        &[
-            "{\"error\":\"duplicate\",\"place\":0}",
-            COMPLETED,
-            "{\"ok\":\"quiet\",\"steps\":3}",
-            "{\"ok\":\"quit\"}",
-        ],
-    ),
-];
-
-#[test]
-fn a_journal_is_kept(rt: HostRuntime) -> Result<(), Fail> {
-    let alloc = rt.alloc();
-    let mut image = Image::empty(alloc);
-    for (lines, replies) in KEPT.iter() {
-        let ran = run_over(alloc, &image, lines)?;
-        let expected = lines_of(alloc, replies, 10)?;
-        assert_eq!(rt; ran.said.as_str(), expected.as_str());
-        assert_eq!(rt; ran.status, 0);
-        image = ran.host.store().image().copy(alloc)?;
     }
     Ok(())
 }

@@ -2,9 +2,10 @@
 use std::alloc::{AllocError, Global};
 use std::test::Fail;
 use std::thread;
+use swf_text::Text;
 use swf_value::{
-    Json, JsonNode, Text, ValueFault, depth, may_cross, read_json, read_json_within, size,
-    size_within, write_json,
+    Json, JsonNode, ValueFault, depth, may_cross, read_json, read_json_within, size, size_within,
+    write_json,
 };
 
 /// The text of a value.
