@@ -9,17 +9,17 @@ build() {
     local name=$1 crate
     mkdir -p "$scratch/crates/$name/src"
     cat >"$scratch/crates/$name/src/main.rt"
-    for crate in swf_value swf_store swf_journal; do
+    for crate in swf_text swf_store swf_journal; do
         mkdir -p "$scratch/crates/$crate"
         cp -r "$top/crates/$crate/"{src,specs,proofs} "$scratch/crates/$crate/"
         if [ -d "$top/crates/$crate/out" ]; then cp -r "$top/crates/$crate/out" "$scratch/crates/$crate/"; fi
     done
     {
-        grep -E '^swf_(value|store|journal):' "$top/crates.txt"
+        grep -E '^swf_(text|store|journal):' "$top/crates.txt"
         echo "$name: swf_journal swf_store anyhow"
     } >"$scratch/crates.txt"
     cp "$top/HANDLES" "$scratch/HANDLES"
-    for crate in swf_value swf_store swf_journal; do
+    for crate in swf_text swf_store swf_journal; do
         (cd "$scratch/crates/$crate" && rt check) >"$scratch/log" 2>&1 || { tail -n 5 "$scratch/log"; exit 1; }
     done
     # The program is run once, with no words, which it refuses.
