@@ -5,7 +5,8 @@ use std::env;
 use std::io::{self, BufReader, ErrorKind};
 use std::process::ExitCode;
 use std::rt::Env;
-use swf_cli::{read_words, swf_run};
+use swf_check::WholeHost;
+use swf_cli::{Mode, read_words, swf_run};
 use swf_host::ConsoleHost;
 use swf_store::{FileStore, StoreFault};
 
@@ -25,14 +26,18 @@ fn main(rt: HostRuntime) -> ExitCode {
         Err(status) => return ExitCode::from(status),
     };
     // Nothing is made where the words have no meaning.
-    match read_words(alloc, &words) {
-        Ok(Some(_)) => {}
+    let meaning = match read_words(alloc, &words) {
+        Ok(Some(meaning)) => meaning,
         Ok(None) => return ExitCode::from(NO_MEANING),
         Err(_) => return ExitCode::from(NO_MEMORY),
-    }
+    };
     let Ok(reader) = BufReader::new(alloc, rt.reader()) else {
         return ExitCode::from(NO_MEMORY);
     };
+    if meaning.mode == Mode::Check {
+        let mut host = WholeHost::new(alloc, reader, io::writer(&rt));
+        return ExitCode::from(swf_run(alloc, &words, &mut host));
+    }
     let store = match FileStore::in_folder(rt, alloc, "") {
         Ok(store) => store,
         Err(StoreFault::Failed) => return ExitCode::from(STORE_FAULT),

@@ -1,4 +1,4 @@
-//! Runs the sessions of its folder over a host in memory, and prints a transcript of them.
+//! Runs the documents and the sessions of its folder over a host in memory, and prints a transcript of them.
 //!
 //! A line of documents.txt is a document, and is followed by what `check` prints. The sessions of sessions.txt have empty lines
 //! between them; each line is a command, followed by its reply, and `! reopen` ends the input and opens the store again. A line
@@ -23,15 +23,15 @@ struct Ran {
     host: MemoryHost,
 }
 
-// Runs a session over the files of an image. Each line is an input of its own.
-fn run(alloc: Global, image: Image, lines: &[&str]) -> Result<Ran, AllocError> {
+// Runs one mode of the program over the files of an image. Each line is an input of its own.
+fn run(alloc: Global, mode: &str, image: Image, lines: &[&str]) -> Result<Ran, AllocError> {
     let mut script = Vec::new(alloc);
     for line in lines {
         let line = Bytes::copy_of(alloc, line.as_bytes())?;
         script.push(Turn::In(Input::Ask(0, line)))?;
     }
     let mut words = Vec::new(alloc);
-    words.push(String::from_str(alloc, "session")?)?;
+    words.push(String::from_str(alloc, mode)?)?;
     let store = MemoryStore::new(alloc, image, Vec::new(alloc));
     let mut host = MemoryHost::new(alloc, store, script, Vec::new(alloc), Vec::new(alloc));
     let status = swf_run(alloc, &words, &mut host);
@@ -59,6 +59,22 @@ fn add_line(transcript: &mut Vec<u8>, before: &str, line: &str) -> Result<(), Al
     transcript.extend_from_slice(b"\n")
 }
 
+// Adds what is printed for a document, whose status is 0 exactly where that is the word `accepted`.
+fn add_document(alloc: Global, transcript: &mut Vec<u8>, document: &str) -> Result<(), AllocError> {
+    let ran = run(alloc, "check", Image::empty(alloc), &[document])?;
+    let mut printed = Vec::new(alloc);
+    for piece in ran.host.said() {
+        printed.extend_from_slice(piece.bytes.as_slice())?;
+    }
+    transcript.extend_from_slice(printed.as_slice())?;
+    let expected = if printed.as_slice() == b"accepted\n".as_slice() {
+        0
+    } else {
+        1
+    };
+    add_status(alloc, transcript, ran.status, expected)
+}
+
 // Adds each command behind a `>`, and under it the reply. Answers the files that the session left.
 fn add_commands(
     alloc: Global,
@@ -66,7 +82,7 @@ fn add_commands(
     image: Image,
     lines: &[&str],
 ) -> Result<Image, AllocError> {
-    let ran = run(alloc, image, lines)?;
+    let ran = run(alloc, "session", image, lines)?;
     for (place, line) in lines.iter().enumerate() {
         add_line(transcript, "> ", line)?;
         if let Some(piece) = ran.host.said().get(place) {
@@ -97,9 +113,16 @@ fn add_session(alloc: Global, transcript: &mut Vec<u8>, block: &str) -> Result<(
     Ok(())
 }
 
-// The transcript of all sessions, between which empty lines stand.
-fn transcript(alloc: Global, sessions: &str) -> Result<Vec<u8>, AllocError> {
+// The transcript of all documents, one a line, and then of all sessions, between which empty lines stand.
+fn transcript(alloc: Global, documents: &str, sessions: &str) -> Result<Vec<u8>, AllocError> {
     let mut transcript = Vec::new(alloc);
+    for line in documents.split('\n') {
+        if line.starts_with('#') {
+            add_line(&mut transcript, "", line)?;
+        } else if !line.is_empty() {
+            add_document(alloc, &mut transcript, line)?;
+        }
+    }
     for block in sessions.split("\n\n") {
         add_session(alloc, &mut transcript, block)?;
     }
@@ -108,8 +131,9 @@ fn transcript(alloc: Global, sessions: &str) -> Result<Vec<u8>, AllocError> {
 
 fn main(rt: HostRuntime) -> io::Result<()> {
     let alloc = rt.alloc();
+    let documents = fs::read_to_string(&rt, "documents.txt")?;
     let sessions = fs::read_to_string(&rt, "sessions.txt")?;
-    let bytes = transcript(alloc, sessions.as_str())?;
+    let bytes = transcript(alloc, documents.as_str(), sessions.as_str())?;
     match String::from_utf8(bytes) {
         Ok(text) => print!(rt; "{text}"),
         Err(_) => Err(io::Error::from(ErrorKind::InvalidData)),

@@ -5,3 +5,4 @@ pub mod SessionLemmas
 pub mod OpeningLemmas
 pub mod SoundLemmas
 pub mod ShowLemmas
+pub mod CheckLemmas

@@ -7,8 +7,9 @@ use Rattle.swf_meaning.specs.declared.label.Label.{Label}
 use Rattle.swf_host.specs.declared.host.Input.{Input}
 use Rattle.swf_engine.specs.Damage.{IsDamaged}
 use Rattle.swf_engine.specs.History.{IsHistory}
+use Rattle.swf_check.specs.Checking.{CheckRun}
 use Rattle.swf_cli.specs.declared.words.Mode.{Mode}
-use Rattle.swf_cli.specs.declared.words.Mode.TheVariants.{Session, Show}
+use Rattle.swf_cli.specs.declared.words.Mode.TheVariants.{Check, Session, Show}
 use Rattle.swf_cli.specs.declared.words.Words.{Words}
 use Rattle.swf_cli.specs.Finish.{Finished, IsShort, TellsFull, TellsDamage}
 use Rattle.swf_cli.specs.Moments.{IsMoment, Runs}
@@ -48,5 +49,6 @@ module _ {S : Type 0} (moment : S → ℕ) (left_since : S → ℕ → Image →
     pub damage : TellsOfDamage old new status
 
   abbrev pub RunsIn : Mode → Words → S → S → ℕ → Type 0
+  RunsIn Check words old new status = CheckRun moment left_since said may_leave taken old new status
   RunsIn Session words old new status = SessionRun words old new status
   RunsIn Show words old new status = ShowRun old new status

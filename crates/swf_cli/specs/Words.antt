@@ -5,7 +5,7 @@ use Rattle.std.specs.declared.alloc.Global.{Global}
 use Rattle.swf_text.specs.Same.{same}
 use Rattle.swf_protocol.specs.Number.{budget_of}
 use Rattle.swf_cli.specs.declared.words.Mode.{Mode}
-use Rattle.swf_cli.specs.declared.words.Mode.TheVariants.{Session, Show}
+use Rattle.swf_cli.specs.declared.words.Mode.TheVariants.{Check, Session, Show}
 use Rattle.swf_cli.specs.declared.words.Words.{Words}
 
 abbrev pub texts : List (String Global) → List (List ℕ)
@@ -66,9 +66,10 @@ steps_of (v ∷ w ∷ vs) = None
 
 abbrev pub mode_named : List ℕ → Option Mode
 mode_named w =
-    if same w (codes "session") then Some Session
+    if same w (codes "check") then Some Check
+    else (if same w (codes "session") then Some Session
     else (if same w (codes "show") then Some Show
-    else None)
+    else None))
 
 -- the mode is the one word that is left
 abbrev pub mode_of : List (List ℕ) → Option Mode

@@ -63,7 +63,9 @@ fn is_dashed(word: &str) -> bool
 fn mode_named(word: &str) -> Option<Mode>
     ensures { result ≡ mode_named word.now }
 {
-    if is(word, "session") {
+    if is(word, "check") {
+        Some(Mode::Check)
+    } else if is(word, "session") {
         Some(Mode::Session)
     } else if is(word, "show") {
         Some(Mode::Show)

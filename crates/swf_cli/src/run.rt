@@ -1,5 +1,6 @@
 // The top call: the words are read, and then the program does what they mean.
 ghost use Rattle.std.specs.Prelude.{◌≡◌, ◌↔◌, Some, None};
+ghost use Rattle.swf_check.specs.Checking.{CheckRun};
 ghost use Rattle.swf_cli.specs.Running.{RunsIn};
 ghost use Rattle.swf_cli.specs.Statuses.{IsStatus, IsBlamed};
 ghost use Rattle.swf_cli.specs.Words.{texts, words_of};
@@ -11,10 +12,22 @@ use crate::show::run_show;
 use crate::turn::NO_MEMORY;
 use crate::words::Mode;
 use std::alloc::Global;
+use swf_check::run_check;
 use swf_host::Host;
 
 /// The words mean nothing.
 const NO_MEANING: u8 = 2;
+
+// Checks a document. It has no store to blame.
+#[tactic(auto, using(crate::proofs::CheckLemmas::check_blamed))]
+fn check<H: Host>(alloc: Global, host: &mut H) -> u8
+    ensures runs { CheckRun H.moment H.left_since H.said H.may_leave H.taken host.old host.new result }
+    ensures which { IsStatus Mode.Check result }
+    ensures no_call { (H.calls host.new ≡ H.calls host.old) × (H.seen host.new ≡ H.seen host.old) }
+    ensures blamed { IsBlamed result (H.host_faults host.old) (H.host_faults host.new) (H.store_faults host.old) (H.store_faults host.new) }
+{
+    run_check(alloc, host)
+}
 
 /// Runs the program: its words and the host with its store are handed in, and its status is answered.
 pub fn swf_run<H: Host>(alloc: Global, words: &[String], host: &mut H) -> u8
@@ -25,6 +38,8 @@ pub fn swf_run<H: Host>(alloc: Global, words: &[String], host: &mut H) -> u8
     ensures runs { (meaning : Meaning) → words_of (texts words.now) ≡ Some meaning
         → RunsIn H.moment H.left_since H.said H.may_leave H.seen H.taken meaning.mode meaning host.old host.new result }
     ensures statuses { (meaning : Meaning) → words_of (texts words.now) ≡ Some meaning → IsStatus meaning.mode result }
+    // To check a document no call of the store is made.
+    ensures no_call { (meaning : Meaning) → words_of (texts words.now) ≡ Some meaning → meaning.mode ≡ Mode.Check → (H.calls host.new ≡ H.calls host.old) × (H.seen host.new ≡ H.seen host.old) }
     // 3 comes where a call of the store failed and 4 where one of the host did, at the first such call; else none did.
     ensures blamed { IsBlamed result (H.host_faults host.old) (H.host_faults host.new) (H.store_faults host.old) (H.store_faults host.new) }
 {
@@ -34,6 +49,7 @@ pub fn swf_run<H: Host>(alloc: Global, words: &[String], host: &mut H) -> u8
         Err(_) => return NO_MEMORY,
     };
     match words.mode {
+        Mode::Check => check(alloc, host),
         Mode::Session => run_session(alloc, &words, host),
         Mode::Show => run_show(alloc, host),
     }

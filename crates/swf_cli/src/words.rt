@@ -3,6 +3,8 @@
 /// What the program does.
 #[derive(Clone, Copy, PartialEq, Eq)]
 pub enum Mode {
+    /// It says what is wrong with a document.
+    Check,
     /// It reads commands line by line.
     Session,
     /// It says the status of each instance.

@@ -1,4 +1,14 @@
-pub mod Codes
-pub mod Faults
+pub mod Code
+pub mod Template
+pub mod TemplateCode
+pub mod TemplateNode
+pub mod TemplateFalls
+pub mod Task
+pub mod PartCodes
+pub mod TaskCode
+pub mod TaskNode
+pub mod TaskFalls
+pub mod DocumentCode
+pub mod FaultWord
 pub mod Forms
-pub mod Reads
+pub mod Errors

@@ -1,10 +1,13 @@
-// The types of a document (Serverless Workflow DSL 1.0.0, reference, "Workflow" and "Set").
+// A document and the key by which it is known (Serverless Workflow DSL 1.0.0, reference, "Workflow" and "Use").
 ghost use Rattle.std.specs.Prelude.{◌≡◌, IfOk};
 
+use crate::error::ErrorSpec;
+use crate::listing::Listing;
+use crate::retry::RetryPolicy;
 use crate::tasks::Tasks;
+use crate::template::Template;
 use std::alloc::AllocError;
 use swf_text::Text;
-use swf_value::Json;
 
 /// The namespace, name and version by which a document is known.
 #[derive(PartialEq, Eq, Hash, Drop)]
@@ -18,34 +21,29 @@ pub struct DocKey {
 #[derive(Drop)]
 pub struct Document {
     pub key: DocKey,
+    pub input_from: Option<Template>,
+    pub output_as: Option<Template>,
     pub tasks: Tasks,
+    /// The functions by ascending name, each a task.
+    pub functions: Tasks,
+    /// The errors by ascending name.
+    pub errors: Listing<NamedError>,
+    /// The retry policies by ascending name.
+    pub retries: Listing<NamedRetry>,
 }
 
-/// A task and the name that it has in its list.
+/// An error that has a name.
 #[derive(Drop)]
-pub struct Named {
+pub struct NamedError {
     pub name: Text,
-    pub task: Task,
+    pub error: ErrorSpec,
 }
 
-/// A task.
+/// A retry policy that has a name.
 #[derive(Drop)]
-pub struct Task {
-    pub kind: Kind,
-}
-
-/// What a task does.
-#[derive(Drop)]
-pub enum Kind {
-    /// Gives a value.
-    Set(Template),
-}
-
-/// A value that is filled in when a task runs.
-#[derive(Drop)]
-pub enum Template {
-    /// A value as it is.
-    Const(Json),
+pub struct NamedRetry {
+    pub name: Text,
+    pub policy: RetryPolicy,
 }
 
 impl DocKey {

@@ -1,10 +1,28 @@
 //! Workflow documents as plain types, and which value is which document.
 #![tactic(auto)]
 
+mod call;
+mod common;
 mod document;
+mod error;
+mod event;
 mod fault;
+mod listing;
+mod problem;
+mod retry;
+mod run;
 mod tasks;
+mod template;
 
-pub use document::{DocKey, Document, Kind, Named, Task, Template};
+pub use call::{Callee, Endpoint, HttpSpec, Method};
+pub use common::{Case, Common, Flow};
+pub use document::{DocKey, Document, NamedError, NamedRetry};
+pub use error::{ErrorFilter, ErrorKind, ErrorRef, ErrorSpec, Problem, matches_filter};
+pub use event::{Correlation, Filter, ListenMode, ListenSpec};
 pub use fault::{Fault, FaultKind, Faults};
-pub use tasks::Tasks;
+pub use listing::Listing;
+pub use problem::{problem_value, standard_error};
+pub use retry::{RetryPolicy, RetryRef};
+pub use run::RunSpec;
+pub use tasks::{ForSpec, ForkSpec, Kind, Named, Task, Tasks, TrySpec};
+pub use template::{Field, Template, TemplateNode};

@@ -7,6 +7,8 @@ use Rattle.swf_meaning.specs.After.{after}
 use Rattle.swf_meaning.specs.Runs.{is_quiet}
 use Rattle.swf_record.specs.Encodes.{labels_bytes}
 use Rattle.swf_world.specs.Refusals.{refusal}
+use Rattle.swf_world.specs.declared.refusal.PrepareFault.{PrepareFault}
+use Rattle.swf_world.specs.declared.refusal.PrepareFault.TheVariants as unready
 use Rattle.swf_world.specs.declared.refusal.Refusal.{Refusal}
 use Rattle.swf_world.specs.declared.refusal.Refusal.TheVariants.{Refused as NotRead, Duplicate, UnknownDocument, UnknownInstance, Full as TooMany, NotEnabled}
 use Rattle.swf_engine.specs.declared.engine.Settled.{Settled}
@@ -69,3 +71,8 @@ module _ {S : Type 0} (moment : S → ℕ) (left_since : S → ℕ → Image →
   Settles old new before later limit (Err (Full size)) =
       (steps : List Label) × (step : Label) × IsStep step × (refusal later.world step ≡ None) × AreSteps (steps ++ step ∷ []) limit × Adds moment left_since said may_leave seen old new before later steps × IsFull later (step ∷ []) size
   Settles old new before later limit (Err OutOfMemory) = (steps : List Label) × AreSteps steps limit × Adds moment left_since said may_leave seen old new before later steps
+
+-- what a label is answered whose change was not prepared
+abbrev pub unprepared : PrepareFault → Result Submitted EngineFault
+unprepared (unready.Refused r) = Ok (Refused r)
+unprepared unready.OutOfMemory = Err OutOfMemory

@@ -3,7 +3,7 @@ ghost use Rattle.std.specs.Prelude.{◌≡◌, ◌<◌, ◌∷◌, [], OnOk, IfO
 ghost use Rattle.swf_store.specs.declared.image.File.TheVariants.{Journal as JournalFile};
 ghost use Rattle.swf_journal.specs.Place.{IsJournalOf};
 ghost use Rattle.swf_record.specs.Encodes.{Nests, Encodes};
-ghost use Rattle.swf_engine.specs.Answers.{Submits, IsSmall};
+ghost use Rattle.swf_engine.specs.Answers.{Submits, IsSmall, unprepared};
 ghost use Rattle.swf_engine.specs.Causes.{EngineCause, WhereUsable};
 ghost use Rattle.swf_engine.specs.Core.{most_bytes};
 
@@ -13,7 +13,7 @@ use swf_journal::{FrameBytes, Journal, build};
 use swf_meaning::Label;
 use swf_record::encode_labels;
 use swf_store::Store;
-use swf_world::{PrepareFault, World};
+use swf_world::{Change, PrepareFault, World};
 
 // The frame of one label.
 fn frame_of(alloc: Global, label: &Label) -> Result<FrameBytes, AllocError>
@@ -24,6 +24,60 @@ fn frame_of(alloc: Global, label: &Label) -> Result<FrameBytes, AllocError>
     match build(alloc, &body) {
         Ok(frame) => Ok(frame),
         Err(_) => Err(AllocError),
+    }
+}
+
+// What a label is answered whose change was not prepared.
+fn not_prepared(fault: PrepareFault) -> Result<Submitted, EngineFault>
+    ensures { result ≡ unprepared fault }
+{
+    match fault {
+        PrepareFault::Refused(refusal) => Ok(Submitted::Refused(refusal)),
+        PrepareFault::OutOfMemory => Err(EngineFault::OutOfMemory),
+    }
+}
+
+// A change that is not made is let go, beside a fault.
+fn let_go(_change: Change, fault: EngineFault) -> EngineFault
+    ensures { result ≡ fault }
+{
+    fault
+}
+
+// Adds a label that the caller keeps.
+fn append_label<S: Store>(
+    alloc: Global,
+    world: &mut World,
+    journal: &mut Journal,
+    store: &mut S,
+    label: &Label,
+) -> Result<Submitted, EngineFault>
+    requires place { IsJournalOf (S.seen store.old) journal.old }
+    requires file { journal.old.file ≡ JournalFile }
+    requires limit { journal.old.limit ≡ most_bytes }
+    requires nests { Nests label.now }
+    ensures place { WhereUsable result (IsJournalOf (S.seen store.new) journal.new) }
+    ensures file { journal.new.file ≡ JournalFile }
+    ensures limit { journal.new.limit ≡ most_bytes }
+    ensures submits { Submits S.moment S.left_since S.said S.may_leave S.seen store.old store.new
+        (record { world = world.old.world; gate = journal.old.at }) (record { world = world.new.world; gate = journal.new.at }) label.now result }
+    ensures small { IfOk result IsSmall }
+    ensures said { S.said store.new ≡ S.said store.old }
+    ensures beside { S.beside store.new ≡ S.beside store.old }
+    ensures honest { is_some (S.seen store.new) ≡ is_some (S.seen store.old) }
+    ensures cause { EngineCause (S.store_faults store.old) (S.store_faults store.new) result }
+{
+    let change = match world.prepare(label) {
+        Ok(change) => change,
+        Err(fault) => return not_prepared(fault),
+    };
+    let frame = match frame_of(alloc, label) {
+        Ok(frame) => frame,
+        Err(_) => return Err(let_go(change, EngineFault::OutOfMemory)),
+    };
+    match journal.append(store, &frame) {
+        Ok(()) => Ok(Submitted::Accepted(world.install(change))),
+        Err(fault) => Err(let_go(change, EngineFault::from(fault))),
     }
 }
 
@@ -50,14 +104,5 @@ pub fn add_label<S: Store>(
     ensures honest { is_some (S.seen store.new) ≡ is_some (S.seen store.old) }
     ensures cause { EngineCause (S.store_faults store.old) (S.store_faults store.new) result }
 {
-    let change = match world.prepare(&label) {
-        Ok(change) => change,
-        Err(PrepareFault::Refused(refusal)) => return Ok(Submitted::Refused(refusal)),
-        Err(PrepareFault::OutOfMemory) => return Err(EngineFault::OutOfMemory),
-    };
-    let frame = frame_of(alloc, &label)?;
-    match journal.append(store, &frame) {
-        Ok(()) => Ok(Submitted::Accepted(world.install(change))),
-        Err(fault) => Err(EngineFault::from(fault)),
-    }
+    append_label(alloc, world, journal, store, &label)
 }

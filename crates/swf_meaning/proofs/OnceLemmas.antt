@@ -5,20 +5,17 @@ use Rattle.std.proofs.lemmas.Bool.{and_parts, or_parts, or_left, or_right, or_fr
 use Rattle.std.proofs.lemmas.Option.{cond_some, option_and_then_some, same_Some}
 use Rattle.std.proofs.lemmas.List.Folds.{list_any-append}
 use Rattle.swf_value.specs.Value.{Value}
-use Rattle.swf_value.specs.Members.{member_at}
 use Rattle.swf_text.specs.Same.{same}
 use Rattle.swf_text.proofs.SameLemmas.{same_true, same_refl}
-use Rattle.swf_document.specs.Forms.{is_dsl, is_label, is_version}
-use Rattle.swf_document.specs.Reads.{document_of, key_of as key_in, list_of, text_of, text_at, has_names}
+use Rattle.swf_reader.specs.Reads.{document_of}
 use Rattle.swf_document.specs.declared.document.DocKey.{DocKey}
 use Rattle.swf_document.specs.declared.document.Document.{Document}
-use Rattle.swf_document.specs.declared.document.Named.{Named}
-use Rattle.std.specs.Str.{encode_utf8_all}
+use Rattle.swf_document.specs.declared.fault.Fault.{Fault}
 use Rattle.swf_meaning.specs.declared.label.Label.{Label}
 use Rattle.swf_meaning.specs.declared.label.Label.TheVariants.{Load, Start, Step}
 use Rattle.swf_meaning.specs.Keys.{Key, Document as OfDocument, Instance as OfInstance, same_key, doc_key, key_of, are_distinct, Once}
-use Rattle.swf_meaning.specs.World.{World, empty}
-use Rattle.swf_meaning.specs.After.{is_used, with_document, loaded, most_documents, document_at, begun, with_instance, most_instances, stepped, is_root, with_instances, after}
+use Rattle.swf_meaning.specs.World.{World, empty, new_instance, is_root}
+use Rattle.swf_meaning.specs.After.{is_used, with_document, loaded, load_faults, if_none, accepted, most_documents, document_at, with_instance, most_instances, stepped, with_instances, after}
 use Rattle.swf_meaning.specs.Runs.{run_from, Legal}
 
 -- what is mapped to a value is a value
@@ -57,71 +54,17 @@ same_key_refl (OfDocument d) =
     (same_refl d.version)
 same_key_refl (OfInstance id) = same_refl id
 
--- a text that has its form is the text of the member
-text_read : (k : List ℕ) (form : List ℕ → Bool) (head : Value) (t : List ℕ) → text_at k form head ≡ Some t → unwrap_or (option_and_then text_of (member_at k head)) [] ≡ t
-text_read k form head t e = option_and_then_some (λ t. if form (encode_utf8_all t) then Some t else None) (option_and_then text_of (member_at k head)) t e
-    (λ x p q. ap (λ o. unwrap_or o []) p ∙ (cond_some (form (encode_utf8_all x)) x t q).1)
+-- a value that can be loaded is its document
+pub if_none_some : (e : Document) (fs : List Fault) (d : Document) → if_none e fs ≡ Some d → e ≡ d
+if_none_some e [] d h = same_Some e d h
+if_none_some e (f ∷ fs) d h = cc
 
--- a key that is put together has these parts
-key_parts : (a b c d : Option (List ℕ)) (k : DocKey) →
-    option_and_then (λ dsl. option_and_then (λ name. option_and_then (λ namespace. option_map (λ version. record { namespace = namespace; name = name; version = version }) d) c) b) a ≡ Some k
-    → (b ≡ Some k.name) × (c ≡ Some k.namespace) × (d ≡ Some k.version)
-key_parts None b c d k e = cc
-key_parts (Some x) None c d k e = cc
-key_parts (Some x) (Some y) None d k e = cc
-key_parts (Some x) (Some y) (Some z) None k e = cc
-key_parts (Some x) (Some y) (Some z) (Some t) k e =
-    let h : record { namespace = z; name = y; version = t } ≡ k = same_Some (record { namespace = z; name = y; version = t }) k e in
-    (ap (λ k. Some k.name) h, ap (λ k. Some k.namespace) h, ap (λ k. Some k.version) h)
-
--- the key that is read is the texts of three members
-key_read : (head : Value) (k : DocKey) → key_in head ≡ Some k →
-    (unwrap_or (option_and_then text_of (member_at (codes "namespace") head)) [] ≡ k.namespace)
-    × (unwrap_or (option_and_then text_of (member_at (codes "name") head)) [] ≡ k.name)
-    × (unwrap_or (option_and_then text_of (member_at (codes "version") head)) [] ≡ k.version)
-key_read head k e =
-    let a : Option (List ℕ) = text_at (codes "dsl") is_dsl head in
-    let b : Option (List ℕ) = text_at (codes "name") is_label head in
-    let c : Option (List ℕ) = text_at (codes "namespace") is_label head in
-    let d : Option (List ℕ) = text_at (codes "version") is_version head in
-    let made : Option DocKey = option_and_then (λ dsl. option_and_then (λ name. option_and_then (λ namespace. option_map (λ version. record { namespace = namespace; name = name; version = version }) d) c) b) a in
-    let p = key_parts a b c d k (chosen_some (has_names head (codes "dsl" ∷ codes "name" ∷ codes "namespace" ∷ codes "version" ∷ [])) made k e) in
-    (text_read (codes "namespace") is_label head k.namespace p.1, text_read (codes "name") is_label head k.name p.0, text_read (codes "version") is_version head k.version p.2)
-
--- the document of a head and a list
-abbrev document_from : Option Value → Option Value → Option Document
-document_from h l = option_and_then (λ head. option_and_then (λ ds. option_and_then (λ key. option_map (λ tasks. record { key = key; tasks = tasks }) (list_of ds)) (key_in head)) l) h
-
--- a document that is put together has this key
-made_key : (k : Option DocKey) (ts : Option (List Named)) (d : Document) → option_and_then (λ key. option_map (λ tasks. record { key = key; tasks = tasks }) ts) k ≡ Some d → k ≡ Some d.key
-made_key None ts d e = cc
-made_key (Some k) None d e = cc
-made_key (Some k) (Some ts) d e =
-    let h : record { key = k; tasks = ts } ≡ d = same_Some (record { key = k; tasks = ts }) d e in
-    ap (λ d. Some d.key) h
-
--- a document's key is read from its head
-document_parts : (h l : Option Value) (d : Document) → document_from h l ≡ Some d → (head : Value) × (h ≡ Some head) × (key_in head ≡ Some d.key)
-document_parts None l d e = cc
-document_parts (Some head) None d e = cc
-document_parts (Some head) (Some ds) d e = (head, refl, made_key (key_in head) (list_of ds) d e)
-
--- the key that the value of `document` gives
-abbrev key_from : Option Value → DocKey
-key_from h = record {
-  namespace = unwrap_or (option_and_then text_of (option_and_then (member_at (codes "namespace")) h)) [];
-  name = unwrap_or (option_and_then text_of (option_and_then (member_at (codes "name")) h)) [];
-  version = unwrap_or (option_and_then text_of (option_and_then (member_at (codes "version")) h)) [];
-}
+pub accepted_is : (v : Value) (d : Document) → accepted v ≡ Some d → document_of v ≡ d
+accepted_is v d e = if_none_some (document_of v) (load_faults v) d e
 
 -- the key of a document is the key that its value gives
-pub doc_key_read : (v : Value) (d : Document) → document_of v ≡ Some d → doc_key v ≡ d.key
-doc_key_read v d e =
-    let h : Option Value = member_at (codes "document") v in
-    let l : Option Value = member_at (codes "do") v in
-    let p = document_parts h l d (chosen_some (has_names v (codes "do" ∷ codes "document" ∷ [])) (document_from h l) d e) in
-    let t = key_read p.0 d.key p.2 in
-    ap key_from p.1 ∙ (λ i. record { namespace = t.0 i; name = t.1 i; version = t.2 i })
+pub doc_key_read : (v : Value) (d : Document) → accepted v ≡ Some d → doc_key v ≡ d.key
+doc_key_read v d e = ap (λ d. d.key) (accepted_is v d e)
 
 -- what a label's key does in the world after it: it was not used, and it is now
 abbrev Grown : Option Key → World → World → Type 0
@@ -136,11 +79,11 @@ loaded_grown w m v d e =
 
 -- a label that has a key asks for a new one, which it uses
 after_grown : (w m : World) (l : Label) → after w l ≡ Some m → Grown (key_of l) w m
-after_grown w m (Load v) e = option_and_then_some (loaded w v) (document_of v) m e
+after_grown w m (Load v) e = option_and_then_some (loaded w v) (accepted v) m e
     (λ d p q. subst (λ k. Grown (Some (OfDocument k)) w m) (sym (doc_key_read v d p)) (loaded_grown w m v d q))
 after_grown w m (Start id key input) e =
-    let h = refused_some (is_used (OfInstance id) w || nat_le most_instances (length w.instances)) (option_map (λ d. with_instance w (begun id input w.now d)) (document_at key w.documents)) m e in
-    ((or_parts (is_used (OfInstance id) w) (nat_le most_instances (length w.instances)) h.0).0, mapped_some (λ d. with_instance w (begun id input w.now d)) (document_at key w.documents) m h.1 (λ d p q. ap (λ u. u.keys) (sym q)))
+    let h = refused_some (is_used (OfInstance id) w || nat_le most_instances (length w.instances)) (option_map (λ d. with_instance w (new_instance id input w.now d)) (document_at key w.documents)) m e in
+    ((or_parts (is_used (OfInstance id) w) (nat_le most_instances (length w.instances)) h.0).0, mapped_some (λ d. with_instance w (new_instance id input w.now d)) (document_at key w.documents) m h.1 (λ d p q. ap (λ u. u.keys) (sym q)))
 after_grown w m (Step id strand) e =
     let h = chosen_some (is_root strand) (option_map (with_instances w) (stepped id w.instances)) m e in
     mapped_some (with_instances w) (stepped id w.instances) m h (λ is p q. ap (λ u. u.keys) (sym q))

@@ -3,15 +3,17 @@ use Rattle.std.specs.Prelude.{◌+◌, ◌||◌, ℕ, List, [], ◌∷◌, ◌++
 use Rattle.std.specs.List.{list_any}
 use Rattle.swf_value.specs.Value.{Value, null}
 use Rattle.swf_text.specs.Same.{same}
-use Rattle.swf_document.specs.Reads.{document_of}
+use Rattle.swf_reader.specs.Reads.{document_of}
+use Rattle.swf_validate.specs.Accepts.{faults}
 use Rattle.swf_document.specs.declared.document.DocKey.{DocKey}
 use Rattle.swf_document.specs.declared.document.Document.{Document}
 use Rattle.swf_meaning.specs.declared.label.Label.{Label}
 use Rattle.swf_meaning.specs.declared.label.Label.TheVariants.{Load, Start, Step}
-use Rattle.swf_meaning.specs.Node.{Workflow, Node, Fresh}
+use Rattle.swf_document.specs.declared.fault.Fault.{Fault}
+use Rattle.swf_meaning.specs.Built.{not_built}
 use Rattle.swf_meaning.specs.Local.{local}
 use Rattle.swf_meaning.specs.Keys.{Key, Document as OfDocument, Instance as OfInstance, same_doc, same_key}
-use Rattle.swf_meaning.specs.World.{Instance, Loaded, World}
+use Rattle.swf_meaning.specs.World.{Instance, Loaded, World, sight, new_instance, with_step, is_root}
 
 abbrev pub most_documents : ℕ
 most_documents = 1000
@@ -38,34 +40,40 @@ abbrev pub document_at : DocKey → List Loaded → Option Document
 document_at k [] = None
 document_at k (d ∷ ds) = if same_doc k d.document.key then Some d.document else document_at k ds
 
--- an instance that has just begun
-abbrev pub begun : List ℕ → Value → ℕ → Document → Instance
-begun id input now d = record { id = id; key = d.key; input = input; started = now; context = null; node = Fresh (Workflow d.tasks) input; number = 0 }
+-- the faults for which a value cannot be loaded: those of its document, and else the first task of a kind that is not built
+abbrev pub or_not_built : Document → List Fault → List Fault
+or_not_built d [] = not_built d
+or_not_built d (f ∷ fs) = f ∷ fs
+
+abbrev pub load_faults : Value → List Fault
+load_faults v = or_not_built (document_of v) (faults v)
+
+abbrev pub if_none : Document → List Fault → Option Document
+if_none d [] = Some d
+if_none d (f ∷ fs) = None
+
+-- the document of a value that can be loaded
+abbrev pub accepted : Value → Option Document
+accepted v = if_none (document_of v) (load_faults v)
 
 abbrev pub with_instance : World → Instance → World
 with_instance w i = record (counted (OfInstance i.id) w) { instances = w.instances ++ i ∷ [] }
 
 -- an instance is added whose id is new and whose document is loaded, while there is room
 abbrev pub started : World → List ℕ → DocKey → Value → Option World
-started w id key input = if is_used (OfInstance id) w || nat_le most_instances (length w.instances) then None else option_map (λ d. with_instance w (begun id input w.now d)) (document_at key w.documents)
-
-abbrev pub with_node : Instance → Node → Instance
-with_node i n = record i { node = n }
+started w id key input = if is_used (OfInstance id) w || nat_le most_instances (length w.instances) then None else option_map (λ d. with_instance w (new_instance id input w.now d)) (document_at key w.documents)
 
 -- the instances after the one of that id took a step; none where there is none or it cannot
 abbrev pub stepped : List ℕ → List Instance → Option (List Instance)
 stepped id [] = None
-stepped id (i ∷ is) = if same id i.id then option_map (λ n. with_node i n ∷ is) (local i.node) else option_map (λ js. i ∷ js) (stepped id is)
-
-abbrev pub is_root : List ℕ → Bool
-is_root [] = true
-is_root (b ∷ bs) = false
+stepped id (i ∷ is) =
+    if same id i.id then option_map (λ m. with_step i m ∷ is) (local (sight i) i.node) else option_map (λ js. i ∷ js) (stepped id is)
 
 abbrev pub with_instances : World → List Instance → World
 with_instances w is = record w { instances = is; count = w.count + 1 }
 
 -- the world after a label; none where the label's condition does not hold
 abbrev pub after : World → Label → Option World
-after w (Load v) = option_and_then (loaded w v) (document_of v)
+after w (Load v) = option_and_then (loaded w v) (accepted v)
 after w (Start id key input) = started w id key input
 after w (Step id strand) = if is_root strand then option_map (with_instances w) (stepped id w.instances) else None

@@ -1,10 +1,9 @@
 -- By what an outcome is known, so that none acts twice.
-use Rattle.std.specs.Prelude.{◌≡◌, ◌&&◌, ℕ, List, [], ◌∷◌, Bool, true, false, not, codes, Option, Some, None, option_and_then, unwrap_or}
+use Rattle.std.specs.Prelude.{◌≡◌, ◌&&◌, ℕ, List, [], ◌∷◌, Bool, true, false, not, Option, Some, None}
 use Rattle.std.specs.List.{list_any, filter_map}
 use Rattle.swf_value.specs.Value.{Value}
-use Rattle.swf_value.specs.Members.{member_at}
 use Rattle.swf_text.specs.Same.{same}
-use Rattle.swf_document.specs.Reads.{text_of}
+use Rattle.swf_reader.specs.Reads.{document_of}
 use Rattle.swf_document.specs.declared.document.DocKey.{DocKey}
 use Rattle.swf_meaning.specs.declared.label.Label.{Label}
 use Rattle.swf_meaning.specs.declared.label.Label.TheVariants.{Load, Start, Step}
@@ -22,13 +21,9 @@ same_key (Instance a) (Instance b) = same a b
 same_key (Document a) (Instance b) = false
 same_key (Instance a) (Document b) = false
 
--- a text in the value of `document`, or the empty text
-abbrev head_text : List ℕ → Value → List ℕ
-head_text k v = unwrap_or (option_and_then text_of (option_and_then (member_at k) (member_at (codes "document") v))) []
-
 -- the namespace, name and version that a value gives
 abbrev pub doc_key : Value → DocKey
-doc_key v = record { namespace = head_text (codes "namespace") v; name = head_text (codes "name") v; version = head_text (codes "version") v }
+doc_key v = (document_of v).key
 
 -- a load's key is its document's, and a start's its id; a step has none
 abbrev pub key_of : Label → Option Key

@@ -1,53 +1,46 @@
--- The rules by which a strand takes one step (DSL, "Set" and "Flow directives").
-use Rattle.std.specs.Prelude.{◌+◌, ℕ, List, [], Bool, is_some, Option, Some, None, option_map, slice_get}
+-- The rules by which a strand takes one step (DSL, "Concepts", "Flow directives", "Fault tolerance").
+use Rattle.std.specs.Prelude.{ℕ, Bool, true, false, Option, Some, None, option_map}
 use Rattle.swf_value.specs.Value.{Value}
-use Rattle.swf_document.specs.declared.document.Named.{Named}
-use Rattle.swf_document.specs.declared.document.Kind.TheVariants.{Set}
-use Rattle.swf_document.specs.declared.document.Template.{Template}
-use Rattle.swf_document.specs.declared.document.Template.TheVariants.{Const}
-use Rattle.swf_meaning.specs.Node.{Work, Workflow, Task, Flow, Continue, Node, Fresh, Live, Done, Inside, Seq}
+use Rattle.swf_document.specs.Task.{Task, Tasks, no_tasks, Kind, do_all}
+use Rattle.swf_document.specs.declared.common.Flow.{Flow}
+use Rattle.swf_meaning.specs.Node.{Node, Fresh, Live, Done, Fault, Inside, Seq}
+use Rattle.swf_meaning.specs.Parts.{kind_of}
+use Rattle.swf_meaning.specs.Sight.{Sight}
+use Rattle.swf_meaning.specs.Complete.{Stepped, becomes}
+use Rattle.swf_meaning.specs.Next.{next}
+use Rattle.swf_meaning.specs.Lists.{goes_to}
+use Rattle.swf_meaning.specs.Enter.{enter}
 
--- what a template gives
-abbrev pub filled : Template → Value
-filled (Const v) = v
+-- the list of tasks that a task of this kind runs
+abbrev pub list_in : Kind → Tasks
+list_in (do_all ts) = ts
+list_in k = no_tasks
 
--- Complete: the node is done with its raw output, and goes on
-abbrev pub complete : Value → Node
-complete raw = Done raw Continue
+-- Next: a task of the list is done
+abbrev pub moved_on : Sight → Task → Value → Value → ℕ → Value → Flow → Stepped
+moved_on s t v u i w f = goes_to s t v u (list_in (kind_of t)) w (next (list_in (kind_of t)) i f)
 
--- the list of tasks of which a node is a run
-abbrev pub tasks_in : Work → List Named
-tasks_in (Workflow ns) = ns
-tasks_in (Task k) = []
+-- the step of what runs inside, put back in its place
+abbrev pub put_back : Task → Value → Value → ℕ → Option Stepped → Option Stepped
+put_back t v u i r = option_map (λ m. record { node = Live t v u (Seq i m.node); context = m.context }) r
 
--- the task of that place is fresh with w; past the last the list ends
-abbrev pub place_at : Work → Value → Value → ℕ → Value → Option Named → Node
-place_at t v u i w None = complete w
-place_at t v u i w (Some n) = Live t v u (Seq i (Fresh (Task n.task.kind) w))
-
-abbrev pub at_place : Work → Value → Value → ℕ → Value → Node
-at_place t v u i w = place_at t v u i w (slice_get (tasks_in t) i)
-
--- Enter: a workflow comes to its first task; a `set` is done with its value
-abbrev pub enter : Work → Value → Node
-enter (Workflow ns) v = at_place (Workflow ns) v v 0 v
-enter (Task (Set t)) v = complete (filled t)
-
--- Next: the task of a place was done, and control goes to the next place
-abbrev pub next : Work → Value → Value → ℕ → Value → Flow → Node
-next t v u i w Continue = at_place t v u (i + 1) w
-
--- the node after the one rule that applies to its innermost node; none where none does
+-- the rule that applies to the innermost node of a tree; none where none does
 abbrev mutual
-  pub local : Node → Option Node
-  local (Fresh t v) = Some (enter t v)
-  local (Live t v u k) = local_inside t v u k
-  local (Done w f) = None
+  pub local : Sight → Node → Option Stepped
+  local s (Fresh t v) = Some (enter s t v)
+  local s (Live t v u k) = local_inside s t v u k
+  local s (Done w f) = None
+  local s (Fault p) = None
 
-  pub local_inside : Work → Value → Value → Inside → Option Node
-  local_inside t v u (Seq i (Done w f)) = Some (next t v u i w f)
-  local_inside t v u (Seq i n) = option_map (λ m. Live t v u (Seq i m)) (local n)
+  -- Next, and Pass up of an error
+  pub local_inside : Sight → Task → Value → Value → Inside → Option Stepped
+  local_inside s t v u (Seq i (Done w f)) = Some (moved_on s t v u i w f)
+  local_inside s t v u (Seq i (Fault p)) = Some (becomes s (Fault p))
+  local_inside s t v u (Seq i n) = put_back t v u i (local s n)
 
--- the strand outside every branch can take a step
+-- the strand can take a step: its innermost node has not begun, or has ended with something around it
 abbrev pub is_enabled : Node → Bool
-is_enabled n = is_some (local n)
+is_enabled (Fresh t v) = true
+is_enabled (Live t v u k) = true
+is_enabled (Done w f) = false
+is_enabled (Fault p) = false

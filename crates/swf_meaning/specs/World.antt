@@ -1,15 +1,17 @@
 -- The world at a moment: what was loaded, started, used and sent (DSL, "Runtime").
-use Rattle.std.specs.Prelude.{ℕ, List, []}
-use Rattle.swf_value.specs.Value.{Value}
-use Rattle.swf_document.specs.declared.document.DocKey.{DocKey}
+use Rattle.std.specs.Prelude.{ℕ, List, [], ◌∷◌, Bool, true, false}
+use Rattle.swf_value.specs.Value.{Value, null}
 use Rattle.swf_document.specs.declared.document.Document.{Document}
-use Rattle.swf_meaning.specs.Node.{Node}
+use Rattle.swf_meaning.specs.Node.{Node, Fresh}
 use Rattle.swf_meaning.specs.Keys.{Key}
+use Rattle.swf_meaning.specs.Sight.{Sight}
+use Rattle.swf_meaning.specs.Complete.{Stepped}
+use Rattle.swf_meaning.specs.Parts.{workflow}
 
--- an instance: its raw input, when it started, its context, its tree, and the number of its next activity
+-- an instance: its document, its raw input, when it started, its context, its tree, and the number of its next activity
 pub record Instance : Type 0 where
   pub id : List ℕ
-  pub key : DocKey
+  pub document : Document
   pub input : Value
   pub started : ℕ
   pub context : Value
@@ -33,3 +35,19 @@ pub record World : Type 0 where
 
 abbrev pub empty : World
 empty = record { documents = []; instances = []; keys = []; now = 0; outbox = []; count = 0 }
+
+-- what a step of an instance goes by
+abbrev pub sight : Instance → Sight
+sight i = record { document = i.document; id = i.id; started = i.started; input = i.input; context = i.context }
+
+-- an instance that has just begun
+abbrev pub new_instance : List ℕ → Value → ℕ → Document → Instance
+new_instance id input now d = record { id = id; document = d; input = input; started = now; context = null; node = Fresh (workflow d) input; number = 0 }
+
+abbrev pub with_step : Instance → Stepped → Instance
+with_step i m = record i { node = m.node; context = m.context }
+
+-- the strand outside every branch
+abbrev pub is_root : List ℕ → Bool
+is_root [] = true
+is_root (b ∷ bs) = false

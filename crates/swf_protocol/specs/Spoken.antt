@@ -5,8 +5,7 @@ use Rattle.swf_value.specs.Node.{items_of}
 use Rattle.swf_text.specs.Pointer.{pointer}
 use Rattle.swf_value.specs.Written.{written}
 use Rattle.swf_document.specs.declared.fault.Fault.{Fault}
-use Rattle.swf_document.specs.declared.fault.FaultKind.{FaultKind}
-use Rattle.swf_document.specs.declared.fault.FaultKind.TheVariants.{NotInProfile}
+use Rattle.swf_document.specs.FaultWord.{fault_word}
 use Rattle.swf_protocol.specs.declared.command.LineFault.{LineFault}
 use Rattle.swf_protocol.specs.declared.command.LineFault.TheVariants.{Command, Word, Number, NotJson, TooDeep, NotWhole}
 use Rattle.swf_protocol.specs.declared.reply.Reply.{Reply}
@@ -30,12 +29,9 @@ fault_text NotJson = codes "not-json"
 fault_text TooDeep = codes "too-deep"
 fault_text NotWhole = codes "not-whole"
 
-abbrev pub kind_text : FaultKind → List ℕ
-kind_text NotInProfile = codes "not-in-profile"
-
 -- a fault by its kind, and by its place as a JSON Pointer
 abbrev pub fault_value : Fault → Value
-fault_value f = two (codes "kind") (kind_text f.kind) (codes "place") (text (pointer f.place))
+fault_value f = two (codes "kind") (fault_word f.kind) (codes "place") (text (pointer f.place))
 
 abbrev pub faults_value : List Fault → Value
 faults_value fs = list (items_of (map fault_value fs))

@@ -2,13 +2,13 @@
 ghost use Rattle.std.specs.Prelude.{◌≡◌, ◌≤◌, ◌^◌, IsTrue, IfOk, codes};
 ghost use Rattle.swf_text.specs.Same.{is_ascii};
 ghost use Rattle.swf_value.specs.Value.{IsBefore};
-ghost use Rattle.swf_protocol.specs.Spoken.{one, two, ok_with, fault_text, kind_text, fault_value, faults_value, reply_value, spoken};
+ghost use Rattle.swf_protocol.specs.Spoken.{one, two, ok_with, fault_text, fault_value, faults_value, reply_value, spoken};
 ghost use Rattle.swf_protocol.specs.Sayable.{IsSayable};
 
 use crate::command::LineFault;
 use crate::reply::Reply;
 use std::alloc::{AllocError, Global};
-use swf_document::{Fault, FaultKind, Faults};
+use swf_document::{Fault, Faults};
 use swf_text::{pointer_text, word};
 use swf_value::{Json, member, write_json};
 
@@ -62,21 +62,12 @@ fn fault_text(fault: LineFault) -> &'static str
     }
 }
 
-fn kind_text(kind: FaultKind) -> &'static str
-    ensures text { result.now ≡ kind_text kind }
-    ensures ascii { IsTrue (is_ascii result.now) }
-{
-    match kind {
-        FaultKind::NotInProfile => "not-in-profile",
-    }
-}
-
 // The value of a fault: its kind, and its place as a JSON Pointer.
 fn fault_json(alloc: Global, fault: &Fault) -> Result<Json, AllocError>
     ensures { IfOk result (λ v. v ≡ fault_value fault.now) }
 {
     let place = Json::text(pointer_text(alloc, &fault.place)?);
-    two(alloc, "kind", kind_text(fault.kind), "place", place)
+    two(alloc, "kind", fault.kind.word(), "place", place)
 }
 
 fn faults_json(alloc: Global, faults: &[Fault]) -> Result<Json, AllocError>

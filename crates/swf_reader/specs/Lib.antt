@@ -1,1 +1,3 @@
-pub mod ReadSmall
+pub mod Parts
+pub mod Reads
+pub mod Answer

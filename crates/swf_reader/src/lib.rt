@@ -1,7 +1,12 @@
 //! Reading a value as a document.
 #![tactic(auto)]
 
-mod forms;
-mod reader;
+mod call;
+mod document;
+mod error;
+mod event;
+mod parts;
+mod task;
+mod template;
 
-pub use reader::{ReadFault, read_small};
+pub use document::{ReadFault, read_document};

@@ -1,7 +1,7 @@
 -- What is looked up in the maps tells why a label is refused, and what a change has to be.
-use Rattle.std.proofs.Common.{◌≡◌, ◌∙◌, ap, sym, refl, subst, cond, ℕ, ◌<◌, ◌≤◌, ◌==◌, ◌||◌, ◌&&◌, ◌⊎◌, inl, inr, List, [], ◌∷◌, length, nat_le, Bool, true, false, is_some, Option, Some, None, option_map, option_and_then, Result, Ok, Err, IfOk, nat_lt, slice_get, position, arith}
+use Rattle.std.proofs.Common.{◌≡◌, ◌∙◌, ap, sym, refl, subst, cond, ℕ, ◌<◌, ◌≤◌, ◌||◌, ◌&&◌, List, length, nat_le, Bool, true, false, is_some, Option, Some, None, option_map, option_and_then, Result, Ok, Err, IfOk, nat_lt, slice_get, position, arith}
 use Rattle.std.proofs.lemmas.List.{length-map}
-use Rattle.std.proofs.lemmas.Bool.{le-leb, lt-leb, false_from_ne_true, eqb-true, and_parts}
+use Rattle.std.proofs.lemmas.Bool.{le-leb, lt-leb, and_parts}
 use Rattle.std.specs.List.{AllByRecursion}
 use Rattle.std.specs.List.{position_or_len}
 use Rattle.std.specs.Map.{lookup, keys_of, values_of}
@@ -11,37 +11,31 @@ use Rattle.swf_text.specs.Same.{same}
 use Rattle.swf_document.specs.declared.document.DocKey.{DocKey}
 use Rattle.swf_document.specs.declared.document.Document.{Document}
 use Rattle.swf_document.specs.declared.fault.Fault.{Fault}
-use Rattle.swf_document.specs.Faults.{not_in_profile}
-use Rattle.swf_document.specs.Reads.{document_of}
-use Rattle.swf_reader.specs.declared.reader.ReadFault.{ReadFault}
-use Rattle.swf_reader.specs.declared.reader.ReadFault.TheVariants.{Faults, OutOfMemory as NoMemory}
-use Rattle.swf_reader.specs.ReadSmall.{document_or_fault}
 use Rattle.swf_meaning.specs.declared.label.Label.{Label}
-use Rattle.swf_meaning.specs.declared.label.Label.TheVariants.{Load, Start}
+use Rattle.swf_meaning.specs.declared.label.Label.TheVariants.{Load, Start, Step}
 use Rattle.swf_meaning.specs.Keys.{Document as OfDocument, Instance as OfInstance}
-use Rattle.swf_meaning.specs.World.{World}
+use Rattle.swf_meaning.specs.World.{World, Instance, new_instance, is_root}
 use Rattle.swf_meaning.specs.Answer.{instance_at}
-use Rattle.swf_meaning.specs.After.{after, loaded, is_used, document_at, most_documents, most_instances, with_document, with_instance, begun, is_root, stepped}
+use Rattle.swf_meaning.specs.Local.{is_enabled}
+use Rattle.swf_meaning.specs.After.{after, loaded, load_faults, accepted, is_used, document_at, most_documents, most_instances, with_document, with_instance, with_instances, stepped}
 use Rattle.swf_world.specs.declared.change.Change.{Change}
 use Rattle.swf_world.specs.declared.key.Key.{Key}
-use Rattle.swf_world.specs.declared.machine.Instance.{Instance}
+use Rattle.swf_world.specs.declared.change.ChangeKind.TheVariants.{Step as StepKind}
 use Rattle.swf_world.specs.declared.world.Loaded.{Loaded}
 use Rattle.swf_world.specs.declared.refusal.Refusal.{Refusal}
-use Rattle.swf_world.specs.declared.refusal.Refusal.TheVariants.{Refused as NotRead, Full, NotEnabled}
+use Rattle.swf_world.specs.declared.refusal.Refusal.TheVariants.{Refused as ForFaults, Full, NotEnabled}
 use Rattle.swf_world.specs.declared.refusal.PrepareFault.{PrepareFault}
 use Rattle.swf_world.specs.declared.refusal.PrepareFault.TheVariants.{Refused, OutOfMemory}
-use Rattle.swf_world.specs.Progress.{next_of}
-use Rattle.swf_world.specs.Machine.{instance_of}
 use Rattle.swf_world.specs.UsedKey.{used_at, doc_eq}
 use Rattle.swf_world.specs.Held.{Held}
 use Rattle.swf_world.specs.Fields.{instances_in, keys_in, world_of}
-use Rattle.swf_world.specs.Kept.{IsNamed}
+use Rattle.swf_world.specs.Kept.{IsNamed, IsPlaced}
 use Rattle.swf_world.specs.Refusals.{refusal, refusal_of_load, refusal_of_start, refusal_of_step, duplicate, cause}
-use Rattle.swf_world.specs.Changes.{Suits, changed, step_at}
+use Rattle.swf_world.specs.Changes.{Suits, SuitsStep, changed, put_at, stepped_one}
 use Rattle.swf_world.specs.Prepares.{Prepares, load_of, start_of, or_memory}
 use Rattle.swf_world.specs.Queued.{enabled_at}
-use Rattle.swf_world.proofs.Lookups.{used_some, document_lookup, instance_lookup, enabled_is, enabled_there, stepped_there}
-use Rattle.swf_world.proofs.Steps.{enabled_within}
+use Rattle.swf_world.proofs.Lookups.{used_some, document_lookup, instance_lookup, instance_there, enabled_there, stepped_there}
+use Rattle.swf_world.proofs.Steps.{entry_within}
 use Rattle.swf_world.proofs.RefusalLaws.{refused_nowhere}
 
 module _ (ds : List (DocKey × Loaded)) (is : List (List ℕ × Instance)) (ks : List (Key × ℕ)) (n r : ℕ) (h : Held) (view : record { world = world_of ds is ks n; room = r } ≡ h) where
@@ -59,48 +53,39 @@ module _ (ds : List (DocKey × Loaded)) (is : List (List ℕ × Instance)) (ks :
       ∙ ap (λ h. refusal_of_start h.world (option_map (λ l. l.document) o)) (sym view)
 
   pub too_many : (d : Document) → most_instances ≤ length is → refusal_of_start (world_of ds is ks n) (Some d) ≡ Some Full
-  too_many d e = ap (λ b. cause b Full None) (le-leb most_instances (length (instances_in is)) (omega (arith, length-map is (λ e. instance_of e.0 e.1))))
+  too_many d e = ap (λ b. cause b Full None) (le-leb most_instances (length (instances_in is)) (omega (arith, length-map is (λ e. e.1))))
 
   pub not_too_many : (d : Document) → length is < most_instances → refusal_of_start (world_of ds is ks n) (Some d) ≡ None
-  not_too_many d e = ap (λ b. cause b Full None) (lt-leb most_instances (length (instances_in is)) (omega (arith, length-map is (λ e. instance_of e.0 e.1))))
+  not_too_many d e = ap (λ b. cause b Full None) (lt-leb most_instances (length (instances_in is)) (omega (arith, length-map is (λ e. e.1))))
 
   -- the instance that is found
-  pub instance_found : (id : List ℕ) (o : Option Instance) → lookup (same id) is ≡ o → instance_at id h.world.instances ≡ option_map (instance_of id) o
-  instance_found id o e = sym (ap (λ h. instance_at id h.world.instances) view) ∙ instance_lookup id is ∙ ap (option_map (instance_of id)) e
+  pub instance_found : (id : List ℕ) (o : Option Instance) → AllByRecursion IsPlaced is → lookup (same id) is ≡ o → instance_at id h.world.instances ≡ o
+  instance_found id o placed e = sym (ap (λ h. instance_at id h.world.instances) view) ∙ instance_lookup id is placed ∙ e
 
   -- why a step of an instance is refused
-  pub step_refusal : (id strand : List ℕ) (v : Instance) (b : Bool) → lookup (same id) is ≡ Some v → b ≡ (is_root strand && is_some (next_of (length v.document.tasks) v.progress)) →
+  pub step_refusal : (id strand : List ℕ) (v : Instance) (b : Bool) → AllByRecursion IsPlaced is → lookup (same id) is ≡ Some v → b ≡ (is_root strand && is_enabled v.node) →
       refusal_of_step strand (instance_at id h.world.instances) ≡ (cond b None (Some NotEnabled))
-  step_refusal id strand v b e t =
-      ap (refusal_of_step strand) (instance_found id (Some v) e)
-      ∙ ap (λ c. cond (is_root strand && c) None (Some NotEnabled)) (enabled_is v)
-      ∙ ap (λ c. cond c None (Some NotEnabled)) (sym t)
+  step_refusal id strand v b placed e t =
+      ap (refusal_of_step strand) (instance_found id (Some v) placed e) ∙ ap (λ c. cond c None (Some NotEnabled)) (sym t)
 
   -- an instance that can take a step takes the first one's
-  pub step_found : (id strand : List ℕ) (v : Instance) (number : ℕ) → Some number ≡ position (same id) (keys_of is) → slice_get (values_of is) number ≡ Some v →
-      true ≡ (is_root strand && is_some (next_of (length v.document.tasks) v.progress)) →
-      (enabled_at h.world.instances number ≡ true) × (stepped id h.world.instances ≡ Some (step_at number h.world.instances))
-  step_found id strand v number e at t =
+  pub step_found : (id strand : List ℕ) (v : Instance) (number : ℕ) → AllByRecursion IsPlaced is → Some number ≡ position (same id) (keys_of is) → slice_get (values_of is) number ≡ Some v →
+      true ≡ (is_root strand && is_enabled v.node) →
+      (enabled_at h.world.instances number ≡ true) × (is_root strand ≡ true) × ((j : Instance) → SuitsStep h.world number j → stepped id h.world.instances ≡ Some (put_at number j h.world.instances))
+  step_found id strand v number placed e at t =
       let first = cond_some (nat_lt (position_or_len (same id) (keys_of is)) (length (keys_of is))) (position_or_len (same id) (keys_of is)) number (sym e) in
-      let enabled : enabled_at (instances_in is) number ≡ true = enabled_there is number v at ∙ (and_parts (is_root strand) (is_some (next_of (length v.document.tasks) v.progress)) (sym t)).1 in
-      subst (λ h. (enabled_at h.world.instances number ≡ true) × (stepped id h.world.instances ≡ Some (step_at number h.world.instances))) view
-      (enabled, stepped_there id is number first.1 (enabled_within is number enabled) enabled)
+      let can = and_parts (is_root strand) (is_enabled v.node) (sym t) in
+      let enabled : enabled_at (instances_in is) number ≡ true = enabled_there is number v at ∙ can.1 in
+      subst (λ h. (enabled_at h.world.instances number ≡ true) × (is_root strand ≡ true) × ((j : Instance) → SuitsStep h.world number j → stepped id h.world.instances ≡ Some (put_at number j h.world.instances))) view
+      (enabled, can.0, λ j suits. stepped_there id is number j placed first.1 (entry_within is number enabled) suits)
+
+  -- the instance of a number that was read
+  pub number_found : (number : ℕ) (v : Instance) → slice_get (values_of is) number ≡ Some v → slice_get h.world.instances number ≡ Some v
+  number_found number v e = sym (ap (λ h. slice_get h.world.instances number) view) ∙ instance_there is number v e
 
 pub none_found : {A : Type 0} (o : Option A) (p : Option ℕ) → p ≡ None → is_some p ≡ is_some o → o ≡ None
 none_found None p e f = refl
 none_found (Some x) p e f = let t : false ≡ true = ap is_some (sym e) ∙ f in cc
-
--- what was read is the document
-pub read_is : (o : Option Document) (d : Document) → (Ok d ≡ Err NoMemory) ⊎ (Ok d ≡ document_or_fault o) → o ≡ Some d
-read_is o d (inl p) = cc
-read_is (Some x) d (inr p) = cc
-read_is None d (inr p) = cc
-
--- a value that was not read is refused for its faults
-pub not_read : (w : World) (o : Option Document) (r : Result Document ReadFault) (f : List Fault) → r ≡ Err (Faults f) → (r ≡ Err NoMemory) ⊎ (r ≡ document_or_fault o) → refusal_of_load w o ≡ Some (NotRead f)
-not_read w o r f e (inl p) = cc
-not_read w (Some x) r f e (inr p) = cc
-not_read w None r f e (inr p) = let h : not_in_profile ≡ f = cc in ap (λ f. Some (NotRead f)) h
 
 -- a change was made, or memory was missing
 made_or_not : {E : Type 0} (w : World) (l : Label) (c : Change) (made : Result Change E) → IfOk made (λ x. x ≡ c) → Suits w c × (after w l ≡ Some (changed w c)) × (refusal w l ≡ None) → Prepares w l (or_memory made)
@@ -115,8 +100,12 @@ no_cause : (b : Bool) (r : Refusal) → cause b r None ≡ None → b ≡ false
 no_cause true r e = cc
 no_cause false r e = refl
 
+-- a value that cannot be loaded is refused for its faults
+pub not_loaded : (w : World) (v : Value) (fs : List Fault) → (accepted v ≡ None) × (load_faults v ≡ fs) → refusal w (Load v) ≡ Some (ForFaults fs)
+not_loaded w v fs h = ap (refusal_of_load w (load_faults v)) h.0 ∙ ap (λ fs. Some (ForFaults fs)) h.1
+
 -- the change of a load that is not refused
-pub load_prepares : {E : Type 0} (w : World) (v : Value) (d : Document) (made : Result Change E) → document_of v ≡ Some d → refusal_of_load w (Some d) ≡ None → IfOk made (λ c. c ≡ record { kind = load_of v d }) → Prepares w (Load v) (or_memory made)
+pub load_prepares : {E : Type 0} (w : World) (v : Value) (d : Document) (made : Result Change E) → accepted v ≡ Some d → refusal_of_load w (load_faults v) (Some d) ≡ None → IfOk made (λ c. c ≡ record { kind = load_of v d }) → Prepares w (Load v) (or_memory made)
 load_prepares w v d made e t m =
     let p = no_duplicate (used_at (OfDocument d.key) w.keys) (cause (nat_le most_documents (length w.documents)) Full None) t in
     let new : is_used (OfDocument d.key) w ≡ false = sym (used_some (OfDocument d.key) w.keys) ∙ ap is_some p.0 in
@@ -124,7 +113,7 @@ load_prepares w v d made e t m =
     made_or_not w (Load v) (record { kind = load_of v d }) made m (
       record { named = refl; used_is = refl; new = new },
       ap (option_and_then (loaded w v)) e ∙ (λ i. cond (new i || few i) None (Some (with_document w v d))),
-      ap (refusal_of_load w) e ∙ t,
+      ap (refusal_of_load w (load_faults v)) e ∙ t,
     )
 
 no_start : (w : World) (d : Document) → refusal_of_start w (Some d) ≡ None → nat_le most_instances (length w.instances) ≡ false
@@ -139,10 +128,21 @@ start_prepares w id key input d made now e t m =
     let new : is_used (OfInstance id) w ≡ false = sym (used_some (OfInstance id) w.keys) ∙ ap is_some p.0 in
     let few : nat_le most_instances (length w.instances) ≡ false = no_start w d (ap (refusal_of_start w) (sym e) ∙ p.1) in
     made_or_not w (Start id key input) (record { kind = start_of id d input }) made m (
-      record { placed = tt; used_is = refl; new = new },
-      (λ i. cond (new i || few i) None (option_map (λ d. with_instance w (begun id input (now i) d)) (e i))),
+      record { placed = refl; used_is = refl; new = new },
+      (λ i. cond (new i || few i) None (option_map (λ d. with_instance w (new_instance id input (now i) d)) (e i))),
       t,
     )
+
+-- the change of a step that is not refused
+pub step_prepares : {E : Type 0} (w : World) (id strand : List ℕ) (number : ℕ) (i : Instance) (made : Result Change E) → slice_get w.instances number ≡ Some i → is_root strand ≡ true →
+    ((j : Instance) → SuitsStep w number j → stepped id w.instances ≡ Some (put_at number j w.instances)) → refusal_of_step strand (instance_at id w.instances) ≡ None →
+    IfOk made (λ c. (j : Instance) × (c ≡ record { kind = StepKind number j }) × (stepped_one i ≡ Some j)) → Prepares w (Step id strand) (or_memory made)
+step_prepares w id strand number i (Ok c) at root found t m =
+    let suits : SuitsStep w number m.0 = ap (option_and_then stepped_one) at ∙ m.2 in
+    let step = found m.0 suits in
+    subst (λ c. Suits w c × (after w (Step id strand) ≡ Some (changed w c)) × (refusal w (Step id strand) ≡ None)) (sym m.1)
+    (suits, (λ k. cond (root k) (option_map (with_instances w) (step k)) None), t)
+step_prepares w id strand number i (Err x) at root found t m = tt
 
 -- a label that was refused has that cause, and leads nowhere
 prepared_refused : (w : World) (l : Label) (result : Result Change PrepareFault) (r : Refusal) → Prepares w l result → result ≡ Err (Refused r) → (refusal w l ≡ Some r) × (after w l ≡ None)
@@ -154,7 +154,3 @@ prepared_refused w l (Err (Refused s)) r p e = let h : s ≡ r = cc in let q : r
 pub refused_from : (u w : World) (k l : Label) (result : Result Change PrepareFault) → u ≡ w → l ≡ k → Prepares u k result → (r : Refusal) → result ≡ Err (Refused r) → (refusal w l ≡ Some r) × (after w l ≡ None)
 refused_from u w k l result e f p r q =
     subst (λ w. (refusal w l ≡ Some r) × (after w l ≡ None)) e (subst (λ l. (refusal u l ≡ Some r) × (after u l ≡ None)) (sym f) (prepared_refused u k result r p q))
-
-pub root_is : (s : List ℕ) → is_root s ≡ (length s == 0)
-root_is [] = refl
-root_is (x ∷ xs) = sym (false_from_ne_true (length (x ∷ xs) == 0) (λ e. let h : length (x ∷ xs) ≡ 0 = eqb-true (length (x ∷ xs)) 0 e in omega arith))

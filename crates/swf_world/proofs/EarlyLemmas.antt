@@ -1,11 +1,11 @@
 -- The place of a refusal is that of a used key.
-use Rattle.std.proofs.Common.{◌≡◌, sym, subst, cond, ℕ, ◌≤◌, List, [], ◌∷◌, Bool, true, false, Option, Some, None, refl}
+use Rattle.std.proofs.Common.{◌≡◌, subst, cond, ℕ, ◌≤◌, List, [], ◌∷◌, Bool, true, false, Option, Some, None, refl}
 use Rattle.std.specs.List.{AllByRecursion}
 use Rattle.swf_meaning.specs.declared.label.Label.{Label}
 use Rattle.swf_meaning.specs.declared.label.Label.TheVariants.{Load, Start, Step}
 use Rattle.swf_document.specs.declared.document.Document.{Document}
-use Rattle.swf_document.specs.Reads.{document_of}
-use Rattle.swf_meaning.specs.After.{document_at, most_documents, most_instances}
+use Rattle.swf_document.specs.declared.fault.Fault.{Fault}
+use Rattle.swf_meaning.specs.After.{accepted, load_faults, document_at}
 use Rattle.swf_meaning.specs.Answer.{instance_at}
 use Rattle.swf_meaning.specs.Keys.{Key, Document as OfDocument, Instance as OfInstance, same_key}
 use Rattle.swf_meaning.specs.World.{World, Instance}
@@ -49,9 +49,9 @@ duplicate_early k ps next a f = by (used_at k ps) (λ n e. used_early k ps n a e
     by None g r e = f r e
     by (Some n) g r e = let is : Duplicate n ≡ r = cc in subst IsEarlyRefusal is (g n refl)
 
-load_early : (w : World) (o : Option Document) → AllByRecursion IsEarly w.keys → Early (refusal_of_load w o)
-load_early w None a = one_early (Refused _) tt
-load_early w (Some d) a = duplicate_early (OfDocument d.key) w.keys _ a (cause_early _ Full None tt none_early)
+load_early : (w : World) (fs : List Fault) (o : Option Document) → AllByRecursion IsEarly w.keys → Early (refusal_of_load w fs o)
+load_early w fs None a = one_early (Refused fs) tt
+load_early w fs (Some d) a = duplicate_early (OfDocument d.key) w.keys _ a (cause_early _ Full None tt none_early)
 
 start_early : (w : World) (o : Option Document) → Early (refusal_of_start w o)
 start_early w None = one_early UnknownDocument tt
@@ -68,6 +68,6 @@ step_early strand (Some i) = by _
 -- a refusal of a world whose keys were used early is early
 pub refusal_early : (w : World) (l : Label) (r : Refusal) → AllByRecursion IsEarly w.keys → refusal w l ≡ Some r → IsEarlyRefusal r
 unfolding Early
-refusal_early w (Load v) r a e = load_early w (document_of v) a r e
+refusal_early w (Load v) r a e = load_early w (load_faults v) (accepted v) a r e
 refusal_early w (Start id key input) r a e = duplicate_early (OfInstance id) w.keys _ a (start_early w (document_at key w.documents)) r e
 refusal_early w (Step id strand) r a e = step_early strand (instance_at id w.instances) r e

@@ -1,5 +1,5 @@
 -- The maps stand for the world that a change makes, and go on to agree with each other.
-use Rattle.std.proofs.Common.{◌≡◌, ◌∙◌, ap, sym, refl, subst, cond, ℕ, zero, suc, ◌+◌, ◌<◌, ◌==◌, ◌||◌, ◌⊎◌, inl, inr, List, [], ◌∷◌, ◌++◌, length, Bool, true, false, is_some, Option, Some, None, arith, length-append}
+use Rattle.std.proofs.Common.{◌≡◌, ◌∙◌, ap, sym, refl, subst, cond, ℕ, zero, suc, ◌+◌, ◌<◌, ◌==◌, ◌||◌, ◌⊎◌, inl, inr, List, [], ◌∷◌, ◌++◌, length, Bool, true, false, is_some, Option, Some, None, option_and_then, slice_get, arith, length-append}
 use Rattle.std.proofs.lemmas.List.{map-append, length-map}
 use Rattle.std.proofs.lemmas.List.Folds.{list_any-append}
 use Rattle.std.proofs.lemmas.Bool.{or_parts, eqb-true}
@@ -9,21 +9,20 @@ use Rattle.std.specs.Map.{lookup, keys_of}
 use Rattle.swf_text.specs.Same.{same}
 use Rattle.swf_document.specs.declared.document.DocKey.{DocKey}
 use Rattle.swf_meaning.specs.Keys.{Key as WorldKey, Document as OfDocument, Instance as OfInstance, same_doc, same_key}
-use Rattle.swf_meaning.specs.World.{Instance as WorldInstance}
-use Rattle.swf_meaning.specs.After.{is_used, with_document, with_instance, with_instances}
+use Rattle.swf_meaning.specs.World.{Instance}
+use Rattle.swf_meaning.specs.After.{is_used}
 use Rattle.swf_world.specs.declared.key.Key.{Key}
 use Rattle.swf_world.specs.declared.key.Key.TheVariants.{Document, Instance as InstanceKey}
-use Rattle.swf_world.specs.declared.machine.Instance.{Instance}
 use Rattle.swf_world.specs.declared.world.Loaded.{Loaded}
-use Rattle.swf_world.specs.Machine.{instance_of}
 use Rattle.swf_world.specs.Held.{Held}
 use Rattle.swf_world.specs.contracts.key.KeyPartialEq.TheImpl.{ghosts}
 use Rattle.swf_world.specs.UsedKey.{key_of, docs_alike, doc_eq, keys_alike}
-use Rattle.swf_world.specs.Fields.{loaded_of, loaded_in, instances_in, keys_in, world_of, most_labels}
+use Rattle.swf_world.specs.Fields.{instances_in, keys_in, world_of, most_labels}
 use Rattle.swf_world.specs.Early.{IsEarly}
 use Rattle.swf_world.specs.Kept.{Kept, IsNamed, IsPlaced}
 use Rattle.swf_world.specs.Queued.{Queued, is_among, enabled_at}
-use Rattle.swf_world.specs.Changes.{step_at}
+use Rattle.swf_world.specs.Changes.{stepped_one, put_at}
+use Rattle.swf_world.proofs.MachineLemmas.{step_enabled, enabled_put, length_put}
 
 -- what holds of each also holds with one more of which it holds
 all_pushed : {A : Type 0} (P : A → Type 0) (xs : List A) (x : A) → AllByRecursion P xs → P x → AllByRecursion P (xs ++ x ∷ [])
@@ -87,7 +86,7 @@ kept_loaded ds is ks queue n key used l kept named e few = record {
   few = omega arith;
 }
 
-enabled_pushed : (xs : List WorldInstance) (x : WorldInstance) (m : ℕ) → enabled_at (xs ++ x ∷ []) m ≡ true → (enabled_at xs m ≡ true) ⊎ (m ≡ length xs)
+enabled_pushed : (xs : List Instance) (x : Instance) (m : ℕ) → enabled_at (xs ++ x ∷ []) m ≡ true → (enabled_at xs m ≡ true) ⊎ (m ≡ length xs)
 enabled_pushed [] x zero e = inr refl
 enabled_pushed [] x (suc m) e = cc
 enabled_pushed (y ∷ ys) x zero e = inl e
@@ -109,7 +108,7 @@ or_second true b e = refl
 or_second false b e = e
 
 -- a new instance waits behind all others
-queued_pushed : (xs : List WorldInstance) (x : WorldInstance) (queue : List ℕ) (n : ℕ) → n ≡ length xs → Queued xs queue → Queued (xs ++ x ∷ []) (queue ++ n ∷ [])
+queued_pushed : (xs : List Instance) (x : Instance) (queue : List ℕ) (n : ℕ) → n ≡ length xs → Queued xs queue → Queued (xs ++ x ∷ []) (queue ++ n ∷ [])
 queued_pushed xs x queue n e q = record {
   all = λ m h. among_pushed m n queue
       ∙ elim (enabled_pushed xs x m h) [
@@ -135,62 +134,30 @@ kept_started ds is ks queue n id used i number kept placed e few at = record {
   new_instance = λ k h.
       let p = not_among (OfInstance k) ks used n h in
       none_pushed (same k) is id i (kept.new_instance k p.0) (ap (λ x. same_key (OfInstance k) (key_of x)) (sym e) ∙ p.1);
-  turns = subst (λ xs. Queued xs (queue ++ number ∷ [])) (sym (map-append (λ e. instance_of e.0 e.1) is ((id, i) ∷ [])))
-      (queued_pushed (instances_in is) (instance_of id i) queue number (at ∙ sym (length-map is (λ e. instance_of e.0 e.1))) kept.turns);
+  turns = subst (λ xs. Queued xs (queue ++ number ∷ [])) (sym (map-append (λ e. e.1) is ((id, i) ∷ [])))
+      (queued_pushed (instances_in is) i queue number (at ∙ sym (length-map is (λ e. e.1))) kept.turns);
   early = early_pushed ks used n kept.early few;
   few = omega arith;
 }
 
--- a step makes no other instance enabled
-enabled_stepped : (xs : List WorldInstance) (n m : ℕ) → enabled_at xs n ≡ true → enabled_at (step_at n xs) m ≡ true → enabled_at xs m ≡ true
-enabled_stepped [] n m e h = e
-enabled_stepped (x ∷ xs) zero zero e h = e
-enabled_stepped (x ∷ xs) zero (suc m) e h = h
-enabled_stepped (x ∷ xs) (suc n) zero e h = h
-enabled_stepped (x ∷ xs) (suc n) (suc m) e h = enabled_stepped xs n m e h
-
-length_stepped : (xs : List WorldInstance) (n : ℕ) → length (step_at n xs) ≡ length xs
-length_stepped [] n = refl
-length_stepped (x ∷ xs) zero = refl
-length_stepped (x ∷ xs) (suc n) = ap suc (length_stepped xs n)
-
-pub kept_stepped : (ds : List (DocKey × Loaded)) (is js : List (List ℕ × Instance)) (ks : List (Key × ℕ)) (queue : List ℕ) (n number : ℕ) →
-    Kept ds is ks queue n → enabled_at (instances_in is) number ≡ true → n < most_labels →
-    instances_in js ≡ step_at number (instances_in is) → AllByRecursion IsPlaced js → keys_of js ≡ keys_of is →
+pub kept_stepped : (ds : List (DocKey × Loaded)) (is js : List (List ℕ × Instance)) (ks : List (Key × ℕ)) (queue : List ℕ) (n number : ℕ) (j : Instance) →
+    Kept ds is ks queue n → option_and_then stepped_one (slice_get (instances_in is) number) ≡ Some j → n < most_labels →
+    instances_in js ≡ put_at number j (instances_in is) → AllByRecursion IsPlaced js → keys_of js ≡ keys_of is →
     Kept ds js ks queue (n + 1)
-kept_stepped ds is js ks queue n number kept can few stepped placed ids = record {
-  named = kept.named;
-  placed = placed;
-  new_document = kept.new_document;
-  new_instance = λ id h. none_again (same id) is js ids (kept.new_instance id h);
-  turns = record {
-    all = λ m h. kept.turns.all m (enabled_stepped (instances_in is) number m can (subst (λ xs. enabled_at xs m ≡ true) stepped h));
-    numbers = λ m h. omega (arith, kept.turns.numbers m h, ap length stepped, length_stepped (instances_in is) number);
-  };
-  early = kept.early;
-  few = omega arith;
-}
-
--- the world with one more document
-pub world_loaded : (ds : List (DocKey × Loaded)) (is : List (List ℕ × Instance)) (ks : List (Key × ℕ)) (n : ℕ) (key : DocKey) (used : Key) (l : Loaded) → used ≡ Document l.document.key →
-    world_of (ds ++ (key, l) ∷ []) is (ks ++ (used, n) ∷ []) (n + 1) ≡ with_document (world_of ds is ks n) l.value l.document
-world_loaded ds is ks n key used l e =
-    let documents = map-append (λ e. loaded_of e.1) ds ((key, l) ∷ []) in
-    let keys = keys_pushed ks used n ∙ ap (λ k. keys_in ks ++ (key_of k, n) ∷ []) e in
-    λ i. record { documents = documents i; instances = instances_in is; keys = keys i; now = 0; outbox = []; count = n + 1 }
-
--- the world with one more instance
-pub world_started : (ds : List (DocKey × Loaded)) (is : List (List ℕ × Instance)) (ks : List (Key × ℕ)) (n : ℕ) (id : List ℕ) (used : Key) (i : Instance) → used ≡ InstanceKey id →
-    world_of ds (is ++ (id, i) ∷ []) (ks ++ (used, n) ∷ []) (n + 1) ≡ with_instance (world_of ds is ks n) (instance_of id i)
-world_started ds is ks n id used x e =
-    let instances = map-append (λ e. instance_of e.0 e.1) is ((id, x) ∷ []) in
-    let keys = keys_pushed ks used n ∙ ap (λ k. keys_in ks ++ (key_of k, n) ∷ []) e in
-    λ i. record { documents = loaded_in ds; instances = instances i; keys = keys i; now = 0; outbox = []; count = n + 1 }
-
--- the world after a step
-pub world_stepped : (ds : List (DocKey × Loaded)) (is js : List (List ℕ × Instance)) (ks : List (Key × ℕ)) (n number : ℕ) → instances_in js ≡ step_at number (instances_in is) →
-    world_of ds js ks (n + 1) ≡ with_instances (world_of ds is ks n) (step_at number (instances_in is))
-world_stepped ds is js ks n number e = λ i. record { documents = loaded_in ds; instances = e i; keys = keys_in ks; now = 0; outbox = []; count = n + 1 }
+kept_stepped ds is js ks queue n number j kept suits few stepped placed ids =
+    let can : enabled_at (instances_in is) number ≡ true = step_enabled (instances_in is) number j suits in
+    record {
+      named = kept.named;
+      placed = placed;
+      new_document = kept.new_document;
+      new_instance = λ id h. none_again (same id) is js ids (kept.new_instance id h);
+      turns = record {
+        all = λ m h. kept.turns.all m (enabled_put (instances_in is) number m j can (subst (λ xs. enabled_at xs m ≡ true) stepped h));
+        numbers = λ m h. omega (arith, kept.turns.numbers m h, ap length stepped, length_put (instances_in is) number j);
+      };
+      early = kept.early;
+      few = omega arith;
+    }
 
 -- the test of the type of keys
 abbrev pub key_eq : Key → Key → Bool

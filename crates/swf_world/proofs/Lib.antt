@@ -1,4 +1,5 @@
 pub mod MachineLemmas
+pub mod BuiltLemmas
 pub mod ReportLemmas
 pub mod Lookups
 pub mod Steps

@@ -3,23 +3,20 @@ use Rattle.std.proofs.Common.{◌≡◌, ◌∙◌, ap, sym, refl, cond, ℕ, �
 use Rattle.swf_value.specs.Value.{Value}
 use Rattle.swf_text.specs.Same.{same}
 use Rattle.swf_document.specs.declared.document.Document.{Document}
-use Rattle.swf_document.specs.Reads.{document_of}
+use Rattle.swf_document.specs.declared.fault.Fault.{Fault}
 use Rattle.swf_meaning.specs.declared.label.Label.{Label}
 use Rattle.swf_meaning.specs.declared.label.Label.TheVariants.{Load, Start, Step}
 use Rattle.swf_meaning.specs.Local.{local, is_enabled}
 use Rattle.swf_meaning.specs.Keys.{Document as OfDocument, Instance as OfInstance}
-use Rattle.swf_meaning.specs.World.{World, Instance}
+use Rattle.swf_meaning.specs.World.{World, Instance, sight, with_step, new_instance, is_root}
 use Rattle.swf_meaning.specs.Answer.{instance_at}
-use Rattle.swf_meaning.specs.After.{after, loaded, document_at, most_documents, most_instances, with_document, with_instance, begun, stepped, is_root, with_node, with_instances}
+use Rattle.swf_meaning.specs.After.{after, loaded, load_faults, accepted, document_at, most_documents, most_instances, with_document, with_instance, stepped, with_instances}
 use Rattle.swf_world.specs.declared.refusal.Refusal.{Refusal}
 use Rattle.swf_world.specs.declared.refusal.Refusal.TheVariants.{Full, NotEnabled}
 use Rattle.swf_world.specs.UsedKey.{used_at}
 use Rattle.swf_world.specs.Refusals.{refusal, refusal_of_load, refusal_of_start, refusal_of_step, duplicate, cause}
 use Rattle.swf_world.proofs.Lookups.{used_some}
-
-some_mapped : {A B : Type 0} (f : A → B) (o : Option A) → is_some (option_map f o) ≡ is_some o
-some_mapped f None = refl
-some_mapped f (Some x) = refl
+use Rattle.swf_world.proofs.MachineLemmas.{some_mapped, local_enabled}
 
 -- a label that has no refusal has a world after it, and the other way round
 abbrev Agree : {A : Type 0} → Option A → Option Refusal → Type 0
@@ -43,17 +40,22 @@ start_agrees w f None (Some d) = by (nat_le most_instances (length w.instances))
     by true = refl
     by false = refl
 
+-- the instance can take a step
+abbrev can_go : Option Instance → Bool
+can_go None = false
+can_go (Some i) = is_enabled i.node
+
 -- the instance of an id takes a step where it can
-stepped_some : (id : List ℕ) (is : List Instance) → is_some (stepped id is) ≡ is_some (option_and_then (λ i. local i.node) (instance_at id is))
+stepped_some : (id : List ℕ) (is : List Instance) → is_some (stepped id is) ≡ can_go (instance_at id is)
 stepped_some id [] = refl
 stepped_some id (i ∷ is) = by (same id i.id) (stepped_some id is)
   where
-    by : (b : Bool) → is_some (stepped id is) ≡ is_some (option_and_then (λ i. local i.node) (instance_at id is)) →
-        is_some (cond b (option_map (λ n. with_node i n ∷ is) (local i.node)) (option_map (λ js. i ∷ js) (stepped id is))) ≡ is_some (option_and_then (λ i. local i.node) (cond b (Some i) (instance_at id is)))
-    by true h = some_mapped (λ n. with_node i n ∷ is) (local i.node)
+    by : (b : Bool) → is_some (stepped id is) ≡ can_go (instance_at id is) →
+        is_some (cond b (option_map (λ m. with_step i m ∷ is) (local (sight i) i.node)) (option_map (λ js. i ∷ js) (stepped id is))) ≡ can_go (cond b (Some i) (instance_at id is))
+    by true h = some_mapped (λ m. with_step i m ∷ is) (local (sight i) i.node) ∙ local_enabled (sight i) i.node
     by false h = some_mapped (λ js. i ∷ js) (stepped id is) ∙ h
 
-step_agrees : {A : Type 0} (strand : List ℕ) (s : Option A) (o : Option Instance) → is_some s ≡ is_some (option_and_then (λ i. local i.node) o) → Agree (cond (is_root strand) s None) (refusal_of_step strand o)
+step_agrees : {A : Type 0} (strand : List ℕ) (s : Option A) (o : Option Instance) → is_some s ≡ can_go o → Agree (cond (is_root strand) s None) (refusal_of_step strand o)
 step_agrees strand s None e = by (is_root strand)
   where
     by : (b : Bool) → is_some (cond b s None) ≡ false
@@ -67,16 +69,16 @@ step_agrees strand s (Some i) e = by (is_root strand) (is_enabled i.node) e
     by false t e = refl
 
 pub agree : (w : World) (l : Label) → Agree (after w l) (refusal w l)
-agree w (Load v) = by (document_of v)
+agree w (Load v) = by (load_faults v) (accepted v)
   where
-    by : (o : Option Document) → Agree (option_and_then (loaded w v) o) (refusal_of_load w o)
-    by None = refl
-    by (Some d) =
+    by : (fs : List Fault) (o : Option Document) → Agree (option_and_then (loaded w v) o) (refusal_of_load w fs o)
+    by fs None = refl
+    by fs (Some d) =
         ap (λ b. is_some (cond (b || nat_le most_documents (length w.documents)) None (Some (with_document w v d)))) (sym (used_some (OfDocument d.key) w.keys))
         ∙ load_agrees w d v (used_at (OfDocument d.key) w.keys) (nat_le most_documents (length w.documents))
 agree w (Start id key input) =
-    ap (λ b. is_some (cond (b || nat_le most_instances (length w.instances)) None (option_map (λ d. with_instance w (begun id input w.now d)) (document_at key w.documents)))) (sym (used_some (OfInstance id) w.keys))
-    ∙ start_agrees w (λ d. with_instance w (begun id input w.now d)) (used_at (OfInstance id) w.keys) (document_at key w.documents)
+    ap (λ b. is_some (cond (b || nat_le most_instances (length w.instances)) None (option_map (λ d. with_instance w (new_instance id input w.now d)) (document_at key w.documents)))) (sym (used_some (OfInstance id) w.keys))
+    ∙ start_agrees w (λ d. with_instance w (new_instance id input w.now d)) (used_at (OfInstance id) w.keys) (document_at key w.documents)
 agree w (Step id strand) =
     step_agrees strand (option_map (with_instances w) (stepped id w.instances)) (instance_at id w.instances)
     (some_mapped (with_instances w) (stepped id w.instances) ∙ stepped_some id w.instances)

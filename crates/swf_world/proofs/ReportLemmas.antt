@@ -1,37 +1,58 @@
--- What is reported of an instance, by how far it has come.
-use Rattle.std.proofs.Common.{◌≡◌, ◌∙◌, ap, sym, refl, cond, ℕ, length, List, Bool, true, false, Option, Some, None, is_some, slice_get, nat_le, codes, arith}
-use Rattle.std.proofs.lemmas.Option.{slice_get_past}
-use Rattle.std.proofs.lemmas.Bool.{leb-true, leb-false, ltb-false}
-use Rattle.swf_world.proofs.MachineLemmas.{in_list}
-use Rattle.swf_value.specs.Value.{Value, text, null, object, Members, no_members, member}
-use Rattle.swf_document.specs.declared.document.Named.{Named}
-use Rattle.swf_meaning.specs.Node.{Workflow}
-use Rattle.swf_meaning.specs.Local.{place_at}
-use Rattle.swf_meaning.specs.World.{Instance as WorldInstance}
-use Rattle.swf_meaning.specs.Answer.{status_members, report}
-use Rattle.swf_world.specs.declared.machine.Progress.{Progress}
-use Rattle.swf_world.specs.declared.machine.Progress.TheVariants.{Fresh, Before, After}
-use Rattle.swf_world.specs.declared.machine.Instance.{Instance}
-use Rattle.swf_world.specs.Machine.{node_of, instance_of, raw_at}
-use Rattle.swf_world.specs.Reports.{output_at, output_of}
+-- The members of a report, and in which order they stand.
+use Rattle.std.proofs.Common.{◌≡◌, ap, refl, codes, true, false, is_some, Some, None}
+use Rattle.std.proofs.lemmas.Option.{same_Some}
+use Rattle.swf_value.specs.Value.{Value, Members, member, no_members, Ascending}
+use Rattle.swf_document.specs.Errors.{problem_value}
+use Rattle.swf_document.specs.declared.error.Problem.{Problem}
+use Rattle.swf_meaning.specs.Node.{Node, Fresh, Live, Done, Fault}
+use Rattle.swf_meaning.specs.Answer.{status_of, with_error, with_output}
+use Rattle.swf_tasks.specs.Installed.{output_in, problem_in}
 
--- the members from the output on
-abbrev pub last_members : Option Value → Members
-last_members None = member (codes "status") (text (codes "running")) no_members
-last_members (Some v) = member (codes "output") v (member (codes "status") (text (codes "completed")) no_members)
+pub output_there : (n : Node) (v : Value) (ms : Members) → Some v ≡ output_in n → member (codes "output") v ms ≡ with_output n ms
+output_there (Fresh t r) v ms e = cc
+output_there (Live t r u k) v ms e = cc
+output_there (Done w f) v ms e = ap (λ v. member (codes "output") v ms) (same_Some v w e)
+output_there (Fault p) v ms e = cc
 
-at_end : (i : WorldInstance) (ns : List Named) (v w : Value) (k : ℕ) (o : Option Named) → slice_get ns k ≡ o → (b : Bool) → nat_le (length ns) k ≡ b →
-    status_members i (place_at (Workflow ns) v v k w o) ≡ last_members (cond b (Some w) None)
-at_end i ns v w k None e true t = refl
-at_end i ns v w k (Some n) e false t = refl
-at_end i ns v w k None e false t = absurd (omega (arith, leb-false (length ns) k t, ltb-false k (length ns) (sym (in_list ns k) ∙ ap is_some e)))
-at_end i ns v w k (Some n) e true t = let past : slice_get ns k ≡ None = slice_get_past ns k (leb-true (length ns) k t) in cc
+pub output_absent : (n : Node) (ms : Members) → None ≡ output_in n → ms ≡ with_output n ms
+output_absent (Fresh t r) ms e = refl
+output_absent (Live t r u k) ms e = refl
+output_absent (Done w f) ms e = cc
+output_absent (Fault p) ms e = refl
 
-members_at : (i : WorldInstance) (ns : List Named) (v : Value) (p : Progress) → status_members i (node_of ns v p) ≡ last_members (output_at ns v p)
-members_at i ns v Fresh = refl
-members_at i ns v (Before k) = at_end i ns v (raw_at ns v k) k (slice_get ns k) refl (nat_le (length ns) k) refl
-members_at i ns v (After k) = refl
+pub error_there : (n : Node) (p : Problem) (ms : Members) → Some p ≡ problem_in n → member (codes "error") (problem_value p) ms ≡ with_error n ms
+error_there (Fresh t r) p ms e = cc
+error_there (Live t r u k) p ms e = cc
+error_there (Done w f) p ms e = cc
+error_there (Fault q) p ms e = ap (λ p. member (codes "error") (problem_value p) ms) (same_Some p q e)
 
--- the report, by the output
-pub report_is : (id : List ℕ) (i : Instance) (o : Option Value) → o ≡ output_of i → report (instance_of id i) ≡ object (member (codes "context") null (member (codes "id") (text id) (last_members o)))
-report_is id i o e = ap (λ ms. object (member (codes "context") null (member (codes "id") (text id) ms))) (members_at (instance_of id i) i.document.tasks i.input i.progress ∙ ap last_members (sym e))
+pub error_absent : (n : Node) (ms : Members) → None ≡ problem_in n → ms ≡ with_error n ms
+error_absent (Fresh t r) ms e = refl
+error_absent (Live t r u k) ms e = refl
+error_absent (Done w f) ms e = refl
+error_absent (Fault q) ms e = cc
+
+pub is_completed : (n : Node) → is_some (output_in n) ≡ true → codes "completed" ≡ status_of n
+is_completed (Fresh t r) e = cc
+is_completed (Live t r u k) e = cc
+is_completed (Done w f) e = refl
+is_completed (Fault p) e = cc
+
+pub is_faulted : (n : Node) → is_some (problem_in n) ≡ true → codes "faulted" ≡ status_of n
+is_faulted (Fresh t r) e = cc
+is_faulted (Live t r u k) e = cc
+is_faulted (Done w f) e = cc
+is_faulted (Fault p) e = refl
+
+pub is_running : (n : Node) → is_some (output_in n) ≡ false → is_some (problem_in n) ≡ false → codes "running" ≡ status_of n
+is_running (Fresh t r) e h = refl
+is_running (Live t r u k) e h = refl
+is_running (Done w f) e h = cc
+is_running (Fault p) e h = cc
+
+-- the names stand in order
+pub report_ascends : (n : Node) (context id status : Value) → Ascending (member (codes "context") context (with_error n (member (codes "id") id (with_output n (member (codes "status") status no_members)))))
+report_ascends (Fresh t r) context id status = (refl, (refl, (tt, tt)))
+report_ascends (Live t r u k) context id status = (refl, (refl, (tt, tt)))
+report_ascends (Done w f) context id status = (refl, (refl, (refl, (tt, tt))))
+report_ascends (Fault p) context id status = (refl, (refl, (refl, (tt, tt))))

@@ -1,6 +1,6 @@
 -- Which instances can take a step, by what is read at their numbers.
 use Rattle.std.proofs.Common.{◌≡◌, ◌∙◌, ap, sym, refl, subst, cond, ℕ, zero, suc, ◌+◌, ◌<◌, ◌||◌, ◌==◌, List, [], ◌∷◌, ◌++◌, length, take, drop, Bool, true, false, not, is_some, Option, Some, None, option_map, slice_get, IfSome, arith, add-one}
-use Rattle.std.proofs.lemmas.Option.{slice_get-map}
+use Rattle.std.proofs.lemmas.Option.{slice_get-map, same_Some}
 use Rattle.std.proofs.lemmas.Bool.{eqb-true}
 use Rattle.std.proofs.lemmas.List.Folds.{list_any-append}
 use Rattle.std.specs.List.{AllByRecursion, list_any}
@@ -9,13 +9,10 @@ use Rattle.std.specs.Map.{lookup, values_of}
 use Rattle.swf_text.specs.Same.{same}
 use Rattle.swf_meaning.specs.declared.label.Label.TheVariants.{Step}
 use Rattle.swf_meaning.specs.Local.{is_enabled}
-use Rattle.swf_meaning.specs.World.{World, Instance as WorldInstance}
+use Rattle.swf_meaning.specs.World.{World, Instance}
 use Rattle.swf_meaning.specs.Answer.{instance_at}
 use Rattle.swf_meaning.specs.After.{after}
-use Rattle.swf_world.specs.declared.machine.Instance.{Instance}
 use Rattle.swf_world.specs.declared.refusal.Refusal.TheVariants.{NotEnabled}
-use Rattle.swf_world.specs.Progress.{InList, next_of}
-use Rattle.swf_world.specs.Machine.{instance_of}
 use Rattle.swf_world.specs.Fields.{instances_in}
 use Rattle.swf_world.specs.Kept.{Kept, IsPlaced}
 use Rattle.swf_document.specs.declared.document.DocKey.{DocKey}
@@ -24,17 +21,14 @@ use Rattle.swf_world.specs.declared.world.Loaded.{Loaded}
 use Rattle.swf_world.specs.Queued.{Queued, is_among, enabled_at}
 use Rattle.swf_world.specs.Refusals.{refusal, refusal_of_step}
 use Rattle.swf_world.specs.Enabled.{CanGo, strand_at, strands_of}
-use Rattle.swf_world.proofs.Lookups.{enabled_there, enabled_is, instance_lookup, placed_at}
+use Rattle.swf_world.proofs.Lookups.{enabled_there, instance_lookup}
 use Rattle.swf_world.proofs.RefusalLaws.{taken_somewhere}
 
 -- the value of an entry
 entry_value : (is : List (List ℕ × Instance)) (n : ℕ) (id : List ℕ) (v : Instance) → Some (id, v) ≡ slice_get is n → slice_get (values_of is) n ≡ Some v
 entry_value is n id v e = slice_get-map (λ e. e.1) is n ∙ ap (option_map (λ e. e.1)) (sym e)
 
-pub entry_placed : (is : List (List ℕ × Instance)) (n : ℕ) (id : List ℕ) (v : Instance) → AllByRecursion IsPlaced is → Some (id, v) ≡ slice_get is n → InList v.progress (length v.document.tasks)
-entry_placed is n id v placed e = placed_at is n v placed (entry_value is n id v e)
-
-pub entry_enabled : (is : List (List ℕ × Instance)) (n : ℕ) (id : List ℕ) (v : Instance) → Some (id, v) ≡ slice_get is n → is_some (next_of (length v.document.tasks) v.progress) ≡ enabled_at (instances_in is) n
+pub entry_enabled : (is : List (List ℕ × Instance)) (n : ℕ) (id : List ℕ) (v : Instance) → Some (id, v) ≡ slice_get is n → is_enabled v.node ≡ enabled_at (instances_in is) n
 entry_enabled is n id v e = sym (enabled_there is n v (entry_value is n id v e))
 
 pub past_enabled : (is : List (List ℕ × Instance)) (n : ℕ) → None ≡ slice_get is n → false ≡ enabled_at (instances_in is) n
@@ -43,14 +37,15 @@ past_enabled (x ∷ xs) zero e = cc
 past_enabled (x ∷ xs) (suc n) e = past_enabled xs n e
 
 -- the strand of an entry
-pub entry_strand : (is : List (List ℕ × Instance)) (n : ℕ) (id : List ℕ) (v : Instance) (b : Bool) → Some (id, v) ≡ slice_get is n → b ≡ is_some (next_of (length v.document.tasks) v.progress) →
+pub entry_strand : (is : List (List ℕ × Instance)) (n : ℕ) (id : List ℕ) (v : Instance) (b : Bool) → AllByRecursion IsPlaced is → Some (id, v) ≡ slice_get is n → b ≡ is_enabled v.node →
     strand_at (instances_in is) n ≡ cond b ((id, []) ∷ []) []
-entry_strand [] n id v b e t = cc
-entry_strand (x ∷ xs) zero id v b e t =
-    let same : x ≡ (id, v) = cc in
-    (λ i. cond (is_enabled (instance_of (same i).0 (same i).1).node) (((same i).0, []) ∷ []) [])
-    ∙ ap (λ b. cond b ((id, []) ∷ []) []) (enabled_is v ∙ sym t)
-entry_strand (x ∷ xs) (suc n) id v b e t = entry_strand xs n id v b e t
+entry_strand [] n id v b placed e t = cc
+entry_strand (x ∷ xs) zero id v b placed e t =
+    let there : x ≡ (id, v) = same_Some x (id, v) (sym e) in
+    ap (λ y. cond (is_enabled x.1.node) ((y, []) ∷ []) []) (sym placed.0)
+    ∙ (λ i. cond (is_enabled (there i).1.node) (((there i).0, []) ∷ []) [])
+    ∙ ap (λ b. cond b ((id, []) ∷ []) []) (sym t)
+entry_strand (x ∷ xs) (suc n) id v b placed e t = entry_strand xs n id v b placed.1 e t
 
 pub past_strand : (is : List (List ℕ × Instance)) (n : ℕ) → None ≡ slice_get is n → strand_at (instances_in is) n ≡ []
 past_strand [] n e = refl
@@ -58,7 +53,7 @@ past_strand (x ∷ xs) zero e = cc
 past_strand (x ∷ xs) (suc n) e = past_strand xs n e
 
 -- the strands of one instance more
-one_more : (is : List WorldInstance) (n : ℕ) → strands_of (take (suc n) is) ≡ strands_of (take n is) ++ strand_at is n
+one_more : (is : List Instance) (n : ℕ) → strands_of (take (suc n) is) ≡ strands_of (take n is) ++ strand_at is n
 one_more [] zero = refl
 one_more [] (suc n) = refl
 one_more (i ∷ is) zero = refl
@@ -69,7 +64,7 @@ one_more (i ∷ is) (suc n) = by (is_enabled i.node) (one_more is n)
     by true h = ap (λ xs. (i.id, []) ∷ xs) h
     by false h = h
 
-pub more_strands : (is : List WorldInstance) (n : ℕ) → strands_of (take (n + 1) is) ≡ strands_of (take n is) ++ strand_at is n
+pub more_strands : (is : List Instance) (n : ℕ) → strands_of (take (n + 1) is) ≡ strands_of (take n is) ++ strand_at is n
 more_strands is n = ap (λ k. strands_of (take k is)) (add-one n) ∙ one_more is n
 
 -- a step that leads somewhere can go
@@ -78,19 +73,19 @@ goes w id None e h = cc
 goes w id (Some m) e h = record { id = id; step = refl; next = m; after = e }
 
 -- the instance of a number that is enabled takes the step of its id
-pub entry_goes : (is : List (List ℕ × Instance)) (n : ℕ) (id : List ℕ) (v : Instance) (w : World) → Some (id, v) ≡ slice_get is n → lookup (same id) is ≡ Some v → enabled_at (instances_in is) n ≡ true → w.instances ≡ instances_in is →
+pub entry_goes : (is : List (List ℕ × Instance)) (n : ℕ) (id : List ℕ) (v : Instance) (w : World) → AllByRecursion IsPlaced is → Some (id, v) ≡ slice_get is n → lookup (same id) is ≡ Some v → enabled_at (instances_in is) n ≡ true → w.instances ≡ instances_in is →
     CanGo w (Step id [])
-entry_goes is n id v w e found enabled there =
-    let can : is_enabled (instance_of id v).node ≡ true = enabled_is v ∙ entry_enabled is n id v e ∙ enabled in
-    let at : instance_at id w.instances ≡ Some (instance_of id v) = ap (instance_at id) there ∙ instance_lookup id is ∙ ap (option_map (instance_of id)) found in
+entry_goes is n id v w placed e found enabled there =
+    let can : is_enabled v.node ≡ true = entry_enabled is n id v e ∙ enabled in
+    let at : instance_at id w.instances ≡ Some v = ap (instance_at id) there ∙ instance_lookup id is placed ∙ found in
     let taken : refusal w (Step id []) ≡ None = ap (refusal_of_step []) at ∙ ap (λ b. cond b None (Some NotEnabled)) can in
     goes w id (after w (Step id [])) refl (taken_somewhere w (Step id []) taken)
 
 -- nothing is enabled where the queue is empty
-pub quiet_without : (is : List WorldInstance) → Queued is [] → list_any (λ i. is_enabled i.node) is ≡ false
+pub quiet_without : (is : List Instance) → Queued is [] → list_any (λ i. is_enabled i.node) is ≡ false
 quiet_without is q = none is (λ n e. let h = q.all n e in cc)
   where
-    none : (is : List WorldInstance) → ((n : ℕ) → enabled_at is n ≡ true → ⊥) → list_any (λ i. is_enabled i.node) is ≡ false
+    none : (is : List Instance) → ((n : ℕ) → enabled_at is n ≡ true → ⊥) → list_any (λ i. is_enabled i.node) is ≡ false
     none [] h = refl
     none (i ∷ is) h = by (is_enabled i.node) (h 0) (none is (λ n. h (suc n)))
       where
@@ -98,7 +93,7 @@ quiet_without is q = none is (λ n e. let h = q.all n e in cc)
         by true h rest = absurd (h refl)
         by false h rest = rest
 
-pub loud_with : (is : List WorldInstance) (n : ℕ) → enabled_at is n ≡ true → list_any (λ i. is_enabled i.node) is ≡ true
+pub loud_with : (is : List Instance) (n : ℕ) → enabled_at is n ≡ true → list_any (λ i. is_enabled i.node) is ≡ true
 loud_with [] n e = cc
 loud_with (i ∷ is) zero e = ap (λ b. b || list_any (λ i. is_enabled i.node) is) e
 loud_with (i ∷ is) (suc n) e = by (is_enabled i.node) (loud_with is n e)
@@ -108,7 +103,7 @@ loud_with (i ∷ is) (suc n) e = by (is_enabled i.node) (loud_with is n e)
     by false h = h
 
 -- an instance that cannot take a step leaves the queue
-pub queued_popped : (is : List WorldInstance) (n : ℕ) (queue : List ℕ) → Queued is (n ∷ queue) → enabled_at is n ≡ false → Queued is queue
+pub queued_popped : (is : List Instance) (n : ℕ) (queue : List ℕ) → Queued is (n ∷ queue) → enabled_at is n ≡ false → Queued is queue
 queued_popped is n queue q gone = record {
   all = λ m e. by m (m == n) refl (q.all m e) e;
   numbers = λ m h. q.numbers m (or_second (m == n) (is_among m queue) h);
@@ -123,7 +118,7 @@ queued_popped is n queue q gone = record {
     by m false t h e = h
 
 -- the first in the queue goes behind all others
-pub queued_turned : (is : List WorldInstance) (queue : List ℕ) → 0 < length queue → Queued is queue → Queued is (drop 1 queue ++ take 1 queue)
+pub queued_turned : (is : List Instance) (queue : List ℕ) → 0 < length queue → Queued is queue → Queued is (drop 1 queue ++ take 1 queue)
 queued_turned is [] w q = absurd (omega arith)
 queued_turned is (n ∷ queue) w q = record {
   all = λ m e. turned m ∙ or_swap (m == n) (is_among m queue) (q.all m e);
@@ -144,7 +139,7 @@ queued_turned is (n ∷ queue) w q = record {
     turned m = list_any-append (λ k. m == k) queue (n ∷ []) ∙ ap (λ b. is_among m queue || b) (or_false (m == n))
 
 -- the answer of a look through the queue is whether all is quiet
-pub quiet_is : (is : List WorldInstance) (queue : List ℕ) (o : Option ℕ) (b : Bool) → Queued is queue → IfNone o (queue ≡ []) → IfSome o (λ n. (enabled_at is n ≡ true) × (0 < length queue)) → is_some o ≡ not b → b ≡ not (list_any (λ i. is_enabled i.node) is)
+pub quiet_is : (is : List Instance) (queue : List ℕ) (o : Option ℕ) (b : Bool) → Queued is queue → IfNone o (queue ≡ []) → IfSome o (λ n. (enabled_at is n ≡ true) × (0 < length queue)) → is_some o ≡ not b → b ≡ not (list_any (λ i. is_enabled i.node) is)
 quiet_is is queue None false q none some e = cc
 quiet_is is queue None true q none some e = sym (ap not (quiet_without is (subst (Queued is) none q)))
 quiet_is is queue (Some n) true q none some e = cc

@@ -1,14 +1,13 @@
 -- What holds of the maps of every world in memory.
-use Rattle.std.specs.Prelude.{◌≡◌, ◌≤◌, ℕ, List, length, false, None}
+use Rattle.std.specs.Prelude.{◌≡◌, ◌≤◌, ℕ, List, false, None}
 use Rattle.std.specs.List.{AllByRecursion, list_any}
 use Rattle.std.specs.Map.{lookup}
 use Rattle.swf_text.specs.Same.{same}
 use Rattle.swf_document.specs.declared.document.DocKey.{DocKey}
 use Rattle.swf_meaning.specs.Keys.{Document as OfDocument, Instance as OfInstance, same_key}
 use Rattle.swf_world.specs.declared.key.Key.{Key}
-use Rattle.swf_world.specs.declared.machine.Instance.{Instance}
+use Rattle.swf_meaning.specs.World.{Instance}
 use Rattle.swf_world.specs.declared.world.Loaded.{Loaded}
-use Rattle.swf_world.specs.Progress.{InList}
 use Rattle.swf_world.specs.UsedKey.{doc_eq}
 use Rattle.swf_world.specs.Queued.{Queued}
 use Rattle.swf_world.specs.Early.{IsEarly}
@@ -18,9 +17,9 @@ use Rattle.swf_world.specs.Fields.{keys_in, instances_in, most_labels}
 abbrev pub IsNamed : DocKey × Loaded → Type 0
 IsNamed e = e.0 ≡ e.1.document.key
 
--- an instance stands in its list of tasks
+-- an instance is kept under its own id
 abbrev pub IsPlaced : List ℕ × Instance → Type 0
-IsPlaced e = InList e.1.progress (length e.1.document.tasks)
+IsPlaced e = e.0 ≡ e.1.id
 
 -- the maps agree with each other, and with the queue
 pub record Kept (ds : List (DocKey × Loaded)) (is : List (List ℕ × Instance)) (ks : List (Key × ℕ)) (queue : List ℕ) (n : ℕ) : Type 0 where

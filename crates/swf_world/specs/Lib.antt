@@ -1,6 +1,3 @@
-pub mod Progress
-pub mod Machine
-pub mod Reports
 pub mod UsedKey
 pub mod Held
 pub mod Fields

@@ -3,13 +3,12 @@ use Rattle.std.specs.Prelude.{◌≡◌, List, ℕ, Some, None, Result, Ok, Err}
 use Rattle.swf_value.specs.Value.{Value}
 use Rattle.swf_document.specs.declared.document.Document.{Document}
 use Rattle.swf_meaning.specs.declared.label.Label.{Label}
-use Rattle.swf_meaning.specs.World.{World}
+use Rattle.swf_meaning.specs.World.{World, new_instance}
 use Rattle.swf_meaning.specs.After.{after}
 use Rattle.swf_world.specs.declared.change.Change.{Change}
 use Rattle.swf_world.specs.declared.change.ChangeKind.{ChangeKind}
 use Rattle.swf_world.specs.declared.change.ChangeKind.TheVariants.{Load, Start}
 use Rattle.swf_world.specs.declared.key.Key.TheVariants.{Document as DocumentKey, Instance as InstanceKey}
-use Rattle.swf_world.specs.declared.machine.Progress.TheVariants.{Fresh}
 use Rattle.swf_world.specs.declared.refusal.PrepareFault.{PrepareFault}
 use Rattle.swf_world.specs.declared.refusal.PrepareFault.TheVariants.{Refused, OutOfMemory}
 use Rattle.swf_world.specs.Changes.{Suits, changed}
@@ -21,7 +20,7 @@ load_of v d = Load d.key (DocumentKey d.key) (record { value = v; document = d }
 
 -- the change that adds an instance which has not begun
 abbrev pub start_of : List ℕ → Document → Value → ChangeKind
-start_of id d input = Start id (InstanceKey id) (record { document = d; input = input; progress = Fresh })
+start_of id d input = Start id (InstanceKey id) (new_instance id input 0 d)
 
 -- what was made, or want of memory
 abbrev pub or_memory : {E : Type 0} → Result Change E → Result Change PrepareFault

@@ -1,15 +1,14 @@
 -- Why a label is not taken: the first cause in order.
 use Rattle.std.specs.Prelude.{◌&&◌, ℕ, List, Bool, nat_le, length, Option, Some, None, Result, Ok, Err, unwrap_or, if◌then◌else◌}
-use Rattle.swf_document.specs.Faults.{not_in_profile}
-use Rattle.swf_document.specs.Reads.{document_of}
+use Rattle.swf_document.specs.declared.fault.Fault.{Fault}
 use Rattle.swf_document.specs.declared.document.Document.{Document}
 use Rattle.swf_meaning.specs.declared.label.Label.{Label}
 use Rattle.swf_meaning.specs.declared.label.Label.TheVariants.{Load, Start, Step}
 use Rattle.swf_meaning.specs.Keys.{Key, Document as OfDocument, Instance as OfInstance}
-use Rattle.swf_meaning.specs.World.{World, Instance}
+use Rattle.swf_meaning.specs.World.{World, Instance, is_root}
 use Rattle.swf_meaning.specs.Local.{is_enabled}
 use Rattle.swf_meaning.specs.Answer.{instance_at}
-use Rattle.swf_meaning.specs.After.{document_at, most_documents, most_instances, is_root}
+use Rattle.swf_meaning.specs.After.{document_at, most_documents, most_instances, load_faults, accepted}
 use Rattle.swf_world.specs.UsedKey.{used_at}
 use Rattle.swf_world.specs.declared.refusal.Refusal.{Refusal}
 use Rattle.swf_world.specs.declared.refusal.Refusal.TheVariants.{Refused, Duplicate, UnknownDocument, UnknownInstance, Full, NotEnabled}
@@ -27,10 +26,10 @@ duplicate (Some place) next = Some (Duplicate place)
 abbrev pub cause : Bool → Refusal → Option Refusal → Option Refusal
 cause b r next = if b then Some r else next
 
--- a document is refused where its key was used, or there are too many
-abbrev pub refusal_of_load : World → Option Document → Option Refusal
-refusal_of_load w None = Some (Refused not_in_profile)
-refusal_of_load w (Some d) = duplicate (used_at (OfDocument d.key) w.keys) (cause (nat_le most_documents (length w.documents)) Full None)
+-- a document is refused for its faults, and where its key was used or there are too many
+abbrev pub refusal_of_load : World → List Fault → Option Document → Option Refusal
+refusal_of_load w fs None = Some (Refused fs)
+refusal_of_load w fs (Some d) = duplicate (used_at (OfDocument d.key) w.keys) (cause (nat_le most_documents (length w.documents)) Full None)
 
 -- a start is refused where its document is not loaded, or there are too many instances
 abbrev pub refusal_of_start : World → Option Document → Option Refusal
@@ -43,7 +42,7 @@ refusal_of_step strand None = Some UnknownInstance
 refusal_of_step strand (Some i) = if is_root strand && is_enabled i.node then None else Some NotEnabled
 
 abbrev pub refusal : World → Label → Option Refusal
-refusal w (Load v) = refusal_of_load w (document_of v)
+refusal w (Load v) = refusal_of_load w (load_faults v) (accepted v)
 refusal w (Start id key input) = duplicate (used_at (OfInstance id) w.keys) (refusal_of_start w (document_at key w.documents))
 refusal w (Step id strand) = refusal_of_step strand (instance_at id w.instances)
 

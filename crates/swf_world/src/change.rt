@@ -1,20 +1,18 @@
 // Changes of the world, and how they are made.
-ghost use Rattle.std.specs.Prelude.{◌≡◌, ◌≤◌, ◌<◌, ◌^◌, ◌++◌, ◌∷◌, [], None, true};
+ghost use Rattle.std.specs.Prelude.{◌≡◌, ◌≤◌, ◌<◌, ◌^◌, ◌++◌, ◌∷◌, [], None, Some, option_and_then, slice_get};
 ghost use Rattle.std.specs.List.{AllByRecursion};
 ghost use Rattle.indexmap.specs.IndexMap.{get, keys, spare};
 ghost use Rattle.swf_meaning.specs.After.{with_document, with_instance, with_instances};
 ghost use Rattle.swf_world.specs.Fields.{instances_in};
-ghost use Rattle.swf_world.specs.Machine.{instance_of};
 ghost use Rattle.swf_world.specs.Kept.{IsPlaced};
-ghost use Rattle.swf_world.specs.Queued.{enabled_at};
-ghost use Rattle.swf_world.specs.Changes.{Suits, SuitsLoad, SuitsStart, step_at, changed};
+ghost use Rattle.swf_world.specs.Changes.{Suits, SuitsLoad, SuitsStart, SuitsStep, stepped_one, put_at, changed};
 
 use crate::key::Key;
-use crate::machine::{Instance, next_of_instance};
 use crate::world::{Loaded, World};
 use indexmap::IndexMap;
 use std::hash::Hash;
 use swf_document::DocKey;
+use swf_tasks::Machine;
 use swf_text::Text;
 
 /// What was installed.
@@ -26,7 +24,7 @@ pub struct Installed {
     pub taken: u32,
 }
 
-/// What a change adds with the key that it uses, or which instance takes a step.
+/// What a change adds with the key that it uses, or what an instance is after its step.
 #[derive(Drop)]
 pub enum ChangeKind {
     Load {
@@ -37,10 +35,12 @@ pub enum ChangeKind {
     Start {
         id: Text,
         used: Key,
-        instance: Instance,
+        instance: Machine,
     },
+    /// The instance of that number after its step.
     Step {
         number: usize,
+        instance: Machine,
     },
 }
 
@@ -64,7 +64,7 @@ impl World {
         match change.kind {
             ChangeKind::Load { key, used, loaded } => self.install_load(key, used, loaded),
             ChangeKind::Start { id, used, instance } => self.install_start(id, used, instance),
-            ChangeKind::Step { number } => self.install_step(number),
+            ChangeKind::Step { number, instance } => self.install_step(number, instance),
         }
         Installed { place, taken: 0 }
     }
@@ -79,10 +79,10 @@ impl World {
         self.count += 1;
     }
 
-    fn install_start(&mut self, id: Text, used: Key, instance: Instance)
+    fn install_start(&mut self, id: Text, used: Key, instance: Machine)
         requires suits { SuitsStart self.old.world id used instance }
         requires room { 0 < self.old.room }
-        ensures { self.new.world ≡ with_instance self.old.world (instance_of id instance) }
+        ensures { self.new.world ≡ with_instance self.old.world instance }
     {
         let number = self.instances.len();
         let place = self.count;
@@ -92,27 +92,25 @@ impl World {
         self.count += 1;
     }
 
-    fn install_step(&mut self, number: usize)
-        requires suits { enabled_at self.old.world.instances number ≡ true }
+    fn install_step(&mut self, number: usize, instance: Machine)
+        requires suits { SuitsStep self.old.world number instance }
         requires room { 0 < self.old.room }
-        ensures { self.new.world ≡ with_instances self.old.world (step_at number self.old.world.instances) }
+        ensures { self.new.world ≡ with_instances self.old.world (put_at number instance self.old.world.instances) }
     {
-        go_on(&mut self.instances, number);
+        go_on(&mut self.instances, number, instance);
         self.count += 1;
     }
 }
 
-// The instance of a number takes a step.
-fn go_on(instances: &mut IndexMap<Text, Instance>, number: usize)
+// The instance of a number is now this one.
+fn go_on(instances: &mut IndexMap<Text, Machine>, number: usize, instance: Machine)
     requires placed { AllByRecursion IsPlaced instances.old.entries }
-    requires can { enabled_at (instances_in instances.old.entries) number ≡ true }
-    ensures stepped { instances_in instances.new.entries ≡ step_at number (instances_in instances.old.entries) }
+    requires suits { option_and_then stepped_one (slice_get (instances_in instances.old.entries) number) ≡ Some instance }
+    ensures stepped { instances_in instances.new.entries ≡ put_at number instance (instances_in instances.old.entries) }
     ensures placed { AllByRecursion IsPlaced instances.new.entries }
     ensures ids { keys instances.new ≡ keys instances.old }
 {
-    if let Some(progress) = next_of_instance(&instances[number]) {
-        instances[number].progress = progress;
-    }
+    instances[number] = instance;
 }
 
 // Adds a pair whose key is new, where there is room.

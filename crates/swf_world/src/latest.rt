@@ -45,7 +45,7 @@ impl World {
         let mut version = &key.version;
         for number in 0..self.documents.len() {
             let loaded = &self.documents[number];
-            let document = loaded.document.get();
+            let document = loaded.document.document();
             if same_name(key, &document.key) {
                 version = &document.key.version;
             }

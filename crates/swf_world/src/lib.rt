@@ -1,16 +1,15 @@
 //! The world: all instances, the keys that were used, and why a label is refused, as maps that equal the lists of the definitions.
 #![tactic(auto)]
 
+mod built;
 mod change;
 mod key;
 mod latest;
 mod laws;
-mod machine;
 mod prepare;
 mod query;
 mod refusal;
 mod reports;
-mod shared;
 mod turns;
 mod world;
 

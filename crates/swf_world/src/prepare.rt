@@ -1,29 +1,31 @@
 // Whether a label is taken, and the change that it makes.
-ghost use Rattle.std.specs.Prelude.{◌≡◌, ◌<◌, ◌&&◌, Err, IfOk, OnOk, None, Some, true, is_some, length};
+ghost use Rattle.std.specs.Prelude.{◌≡◌, ◌<◌, List, Err, IfOk, OnOk, None, Some, true};
 ghost use Rattle.swf_document.specs.declared.document.Document.{Document as Read};
+ghost use Rattle.swf_document.specs.declared.fault.Fault.{Fault};
 ghost use Rattle.swf_meaning.specs.Keys.{Instance as OfInstance};
+ghost use Rattle.swf_meaning.specs.World.{Instance as WorldInstance, is_root};
 ghost use Rattle.swf_meaning.specs.Answer.{instance_at};
-ghost use Rattle.swf_meaning.specs.After.{after, document_at, stepped, is_root};
+ghost use Rattle.swf_meaning.specs.After.{after, accepted, document_at, load_faults, stepped};
 ghost use Rattle.std.specs.List.{AllByRecursion};
 ghost use Rattle.swf_world.specs.Early.{IsEarly, IsEarlyRefusal};
-ghost use Rattle.swf_world.specs.Changes.{Suits, step_at, changed};
+ghost use Rattle.swf_world.specs.Changes.{Suits, SuitsStep, stepped_one, put_at, changed};
 ghost use Rattle.swf_world.specs.Refusals.{refusal, refusal_of_load, refusal_of_start, refusal_of_step, duplicate, refused_by, IsLoad};
-ghost use Rattle.swf_world.specs.Progress.{InList, next_of};
 ghost use Rattle.swf_world.specs.Queued.{enabled_at};
 ghost use Rattle.swf_world.specs.UsedKey.{used_at};
 ghost use Rattle.swf_world.specs.Prepares.{Prepares, load_of, start_of, or_memory};
 
+use crate::built::not_built;
 use crate::change::{Change, ChangeKind};
 use crate::key::{Key, Sought, used_place};
-use crate::machine::{Instance, Progress, next_of_instance};
 use crate::refusal::{PrepareFault, Refusal};
-use crate::shared::Shared;
 use crate::world::{Loaded, World};
 use std::alloc::{AllocError, Global};
-use swf_document::{DocKey, Document};
+use swf_document::DocKey;
 use swf_meaning::Label;
-use swf_reader::{ReadFault, read_small};
+use swf_reader::ReadFault;
+use swf_tasks::Machine;
 use swf_text::{Strand, Text};
+use swf_validate::{Accepted, accept};
 use swf_value::Json;
 
 /// How many documents may be loaded.
@@ -90,26 +92,25 @@ impl World {
     fn prepare_load(&self, value: &Json) -> Result<Change, PrepareFault>
         ensures { Prepares self.now.world (Label.Load value.now) result }
     {
-        let document = match read_small(self.alloc, value) {
+        let accepted = match loadable_document(self.alloc, value) {
             Ok(document) => document,
             Err(ReadFault::Faults(faults)) => {
                 return Err(PrepareFault::Refused(Refusal::Refused(faults)));
             }
             Err(ReadFault::OutOfMemory) => return Err(PrepareFault::OutOfMemory),
         };
-        match self.loadable(&document.key) {
+        match self.loadable(&accepted.document().key) {
             Err(refusal) => Err(PrepareFault::Refused(refusal)),
-            Ok(()) => ready(load_change(self.alloc, value, document)),
+            Ok(()) => ready(load_change(value, accepted)),
         }
     }
 
     fn prepare_start(&self, id: &Text, key: &DocKey, input: &Json) -> Result<Change, PrepareFault>
         ensures { Prepares self.now.world (Label.Start id.now key.now input.now) result }
     {
-        let _ = &self.alloc;
         match self.startable(id, key) {
             Err(refusal) => Err(PrepareFault::Refused(refusal)),
-            Ok(loaded) => ready(start_change(id, &loaded.document, input)),
+            Ok(loaded) => ready(start_change(self.alloc, id, &loaded.document, input)),
         }
     }
 
@@ -118,15 +119,13 @@ impl World {
     {
         match self.steppable(id, strand) {
             Err(refusal) => Err(PrepareFault::Refused(refusal)),
-            Ok(number) => Ok(Change {
-                kind: ChangeKind::Step { number },
-            }),
+            Ok(number) => ready(step_change(self.alloc, number, &self.instances[number], strand)),
         }
     }
 
     // Whether a document of this key can be added, or why not.
     fn loadable(&self, key: &DocKey) -> Result<(), Refusal>
-        ensures { (d : Read) → d.key ≡ key.now → refused_by result ≡ refusal_of_load self.now.world (Some d) }
+        ensures { (fs : List Fault) (d : Read) → d.key ≡ key.now → refused_by result ≡ refusal_of_load self.now.world fs (Some d) }
     {
         if let Some(place) = used_place(&self.keys, Sought::Document(key)) {
             return Err(Refusal::Duplicate { place });
@@ -157,25 +156,17 @@ impl World {
     // The number of the instance that can take a step, or why it cannot.
     fn steppable(&self, id: &Text, strand: &Strand) -> Result<usize, Refusal>
         ensures refused { refused_by result ≡ refusal_of_step strand.now (instance_at id.now self.now.world.instances) }
-        ensures found { IfOk result (λ n. (enabled_at self.now.world.instances n ≡ true) × (stepped id.now self.now.world.instances ≡ Some (step_at n self.now.world.instances))) }
+        ensures found { IfOk result (λ n. (enabled_at self.now.world.instances n ≡ true) × (is_root strand.now ≡ true) × ((m : WorldInstance) → SuitsStep self.now.world n m → stepped id.now self.now.world.instances ≡ Some (put_at n m self.now.world.instances))) }
     {
         let Some(number) = self.instances.get_index_of(id) else {
             return Err(Refusal::UnknownInstance);
         };
-        if can_step(&self.instances[number], strand) {
+        if self.instances[number].enabled(strand) {
             Ok(number)
         } else {
             Err(Refusal::NotEnabled)
         }
     }
-}
-
-// Whether a strand of an instance can take a step: the one outside every branch, where the instance is not done.
-fn can_step(instance: &Instance, strand: &Strand) -> bool
-    requires { InList instance.now.progress (length instance.now.document.tasks) }
-    ensures { result ≡ (is_root strand.now && is_some (next_of (length instance.now.document.tasks) instance.now.progress)) }
-{
-    strand.as_slice().is_empty() && next_of_instance(instance).is_some()
 }
 
 // A change that was made, where memory was found.
@@ -188,14 +179,26 @@ fn ready(made: Result<Change, AllocError>) -> Result<Change, PrepareFault>
     }
 }
 
+// The document of a value that can be loaded, or its faults.
+fn loadable_document(alloc: Global, value: &Json) -> Result<Accepted, ReadFault>
+    ensures ok { IfOk result (λ d. accepted value.now ≡ Some d) }
+    ensures faults { (fs : List Fault) → result ≡ Err (ReadFault.Faults fs) → (accepted value.now ≡ None) × (load_faults value.now ≡ fs) }
+{
+    let accepted = accept(alloc, value)?;
+    match not_built(alloc, accepted.document()) {
+        Ok(faults) if faults.is_empty() => Ok(accepted),
+        Ok(faults) => Err(ReadFault::Faults(faults)),
+        Err(_) => Err(ReadFault::OutOfMemory),
+    }
+}
+
 // The change that adds a document.
-fn load_change(alloc: Global, value: &Json, document: Document) -> Result<Change, AllocError>
+fn load_change(value: &Json, document: Accepted) -> Result<Change, AllocError>
     ensures { IfOk result (λ c. c ≡ record { kind = load_of value.now document }) }
 {
-    let key = document.key.copy()?;
-    let used = Key::Document(document.key.copy()?);
+    let key = document.document().key.copy()?;
+    let used = Key::Document(document.document().key.copy()?);
     let value = value.copy()?;
-    let document = Shared::of(alloc, document)?;
     Ok(Change {
         kind: ChangeKind::Load {
             key,
@@ -206,22 +209,39 @@ fn load_change(alloc: Global, value: &Json, document: Document) -> Result<Change
 }
 
 // The change that adds an instance which has not begun.
-fn start_change(id: &Text, document: &Shared, input: &Json) -> Result<Change, AllocError>
+fn start_change(
+    alloc: Global,
+    id: &Text,
+    document: &Accepted,
+    input: &Json,
+) -> Result<Change, AllocError>
     ensures { IfOk result (λ c. c ≡ record { kind = start_of id.now document.now input.now }) }
 {
     let used = Key::Instance(id.copy()?);
-    let id = id.copy()?;
-    let document = document.copy()?;
-    let input = input.copy()?;
+    let instance = Machine::begin(alloc, id.copy()?, document.copy()?, input.copy()?, 0)?;
     Ok(Change {
         kind: ChangeKind::Start {
-            id,
+            id: id.copy()?,
             used,
-            instance: Instance {
-                document,
-                input,
-                progress: Progress::Fresh,
-            },
+            instance,
         },
     })
+}
+
+// The change that puts an instance after its step in its place.
+fn step_change(
+    alloc: Global,
+    number: usize,
+    instance: &Machine,
+    strand: &Strand,
+) -> Result<Change, AllocError>
+    ensures { IfOk result (λ c. (i : WorldInstance) × (c ≡ record { kind = ChangeKind.Step number i }) × (stepped_one instance.now ≡ Some i)) }
+{
+    let mut instance = instance.copy(alloc)?;
+    match instance.step(alloc, strand) {
+        Ok(()) => Ok(Change {
+            kind: ChangeKind::Step { number, instance },
+        }),
+        Err(_) => Err(AllocError),
+    }
 }

@@ -8,12 +8,12 @@ ghost use Rattle.swf_world.specs.Fields.{instances_in};
 ghost use Rattle.swf_world.specs.Kept.{IsPlaced};
 ghost use Rattle.std.specs.List.{AllByRecursion};
 
-use crate::machine::{Instance, next_of_instance};
 use crate::reports::report;
 use crate::world::World;
 use indexmap::IndexMap;
 use std::alloc::{AllocError, Global};
 use swf_meaning::{Answer, Query};
+use swf_tasks::Machine;
 use swf_text::{Strand, Text};
 use thiserror::Error;
 
@@ -45,7 +45,7 @@ impl World {
         let Some(instance) = self.instances.get(id) else {
             return Err(QueryFault::UnknownInstance);
         };
-        match report(self.alloc, id, instance) {
+        match report(self.alloc, instance) {
             Ok(value) => Ok(Answer::Status(value)),
             Err(_) => Err(QueryFault::OutOfMemory),
         }
@@ -67,14 +67,14 @@ impl World {
 fn push_enabled(
     alloc: Global,
     strands: &mut Vec<(Text, Strand)>,
-    instances: &IndexMap<Text, Instance>,
+    instances: &IndexMap<Text, Machine>,
     number: usize,
 ) -> Result<(), AllocError>
     requires { AllByRecursion IsPlaced instances.now.entries }
     ensures { OnOk result (strands.new.items ≡ strands.old.items ++ strand_at (instances_in instances.now.entries) number) }
 {
     if let Some((id, instance)) = instances.get_index(number) {
-        if next_of_instance(instance).is_some() {
+        if instance.is_enabled() {
             strands.push((id.copy()?, Strand::root(alloc)))?;
         }
     }

@@ -8,12 +8,12 @@ ghost use Rattle.swf_world.specs.Fields.{instances_in};
 ghost use Rattle.swf_world.specs.Kept.{IsPlaced};
 ghost use Rattle.swf_world.specs.Queued.{enabled_at, Queued};
 
-use crate::machine::{Instance, next_of_instance};
 use crate::world::World;
 use indexmap::IndexMap;
 use std::alloc::{AllocError, Global};
 use std::collections::VecDeque;
 use swf_meaning::Label;
+use swf_tasks::Machine;
 use swf_text::{Strand, Text};
 
 impl World {
@@ -41,9 +41,8 @@ impl World {
 }
 
 // The number of the first instance in the queue that can take a step. Those before it leave the queue.
-fn first_enabled(queue: &mut VecDeque<usize>, instances: &IndexMap<Text, Instance>) -> Option<usize>
-    requires placed { AllByRecursion IsPlaced instances.now.entries }
-    requires turns { Queued (instances_in instances.now.entries) queue.old.items }
+fn first_enabled(queue: &mut VecDeque<usize>, instances: &IndexMap<Text, Machine>) -> Option<usize>
+    requires { Queued (instances_in instances.now.entries) queue.old.items }
     ensures turns { Queued (instances_in instances.now.entries) queue.new.items }
     ensures none { IfNone result (queue.new.items ≡ []) }
     ensures some { IfSome result (λ n. (enabled_at (instances_in instances.now.entries) n ≡ true) × (0 < length queue.new.items)) }
@@ -59,12 +58,11 @@ fn first_enabled(queue: &mut VecDeque<usize>, instances: &IndexMap<Text, Instanc
 }
 
 // Whether the instance of a number can take a step.
-fn is_enabled(instances: &IndexMap<Text, Instance>, number: usize) -> bool
-    requires placed { AllByRecursion IsPlaced instances.now.entries }
+fn is_enabled(instances: &IndexMap<Text, Machine>, number: usize) -> bool
     ensures { result ≡ enabled_at (instances_in instances.now.entries) number }
 {
     match instances.get_index(number) {
-        Some((_, instance)) => next_of_instance(instance).is_some(),
+        Some((_, instance)) => instance.is_enabled(),
         None => false,
     }
 }
@@ -72,10 +70,11 @@ fn is_enabled(instances: &IndexMap<Text, Instance>, number: usize) -> bool
 // The step of the instance of a number.
 fn step_label(
     alloc: Global,
-    instances: &IndexMap<Text, Instance>,
+    instances: &IndexMap<Text, Machine>,
     number: usize,
 ) -> Result<Label, AllocError>
-    requires { enabled_at (instances_in instances.now.entries) number ≡ true }
+    requires placed { AllByRecursion IsPlaced instances.now.entries }
+    requires enabled { enabled_at (instances_in instances.now.entries) number ≡ true }
     ensures { IfOk result (λ l. (w : TheWorld) → w.instances ≡ instances_in instances.now.entries → CanGo w l) }
 {
     let (id, _) = instances.get_index(number).unwrap();

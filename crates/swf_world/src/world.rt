@@ -3,21 +3,21 @@ ghost use Rattle.std.specs.Prelude.{◌≡◌, slice_get, option_map};
 ghost use Rattle.swf_meaning.specs.World.{empty};
 
 use crate::key::Key;
-use crate::machine::Instance;
-use crate::shared::Shared;
 use indexmap::IndexMap;
 use std::alloc::Global;
 use std::collections::VecDeque;
 use std::marker::Model;
 use swf_document::DocKey;
+use swf_tasks::Machine;
 use swf_text::Text;
+use swf_validate::Accepted;
 use swf_value::Json;
 
 /// A document, and the value that it was read from.
 #[derive(Drop)]
 pub struct Loaded {
     pub value: Json,
-    pub document: Shared,
+    pub document: Accepted,
 }
 
 /// The world. Contracts see it as the world of the definitions, and how many more changes fit without memory.
@@ -26,7 +26,7 @@ pub struct World {
     pub(crate) alloc: Global,
     pub(crate) documents: IndexMap<DocKey, Loaded>,
     /// In start order.
-    pub(crate) instances: IndexMap<Text, Instance>,
+    pub(crate) instances: IndexMap<Text, Machine>,
     /// Every used key with its place.
     pub(crate) keys: IndexMap<Key, u64>,
     /// The numbers of the instances that may be enabled, in the order of their turns.

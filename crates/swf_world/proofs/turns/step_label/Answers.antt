@@ -3,16 +3,16 @@ use Rattle.std.proofs.lemmas.Option.{MatchOption-at_some}
 use Rattle.std.specs.Map.Iter.{deref_pair}
 use Rattle.swf_meaning.specs.declared.label.Label.TheVariants.{Step}
 use Rattle.swf_world.specs.Enabled.{CanGo}
-use Rattle.swf_world.proofs.Steps.{enabled_within}
+use Rattle.swf_world.proofs.Steps.{entry_within}
 use Rattle.swf_world.proofs.Waiting.{entry_goes}
 use Rattle.swf_world.proofs.turns.step_label.Goals as goal
 
 pub unwrap-requires : goal.unwrap-requires
-unwrap-requires c = c.get_index.ensures.found.1 (enabled_within c.args.instances.now.entries c.args.number c.requires)
+unwrap-requires c = c.get_index.ensures.found.1 (entry_within c.args.instances.now.entries c.args.number c.requires.enabled)
 
 pub returns : goal.returns
 returns c w there =
     let made : Step c.in_ok-id.id c.root-strand.result ≡ Step c.unwrap.result.0.now [] = λ i. Step (c.in_ok-id.ensures i) (c.root-strand.ensures i) in
     subst (CanGo w) (sym made)
-    (entry_goes c.args.instances.now.entries c.args.number c.unwrap.result.0.now c.unwrap.result.1.now w (sym (ap (option_map deref_pair) c.unwrap.ensures) ∙ c.get_index.ensures.entry)
-    (MatchOption-at_some _ _ c.unwrap.result c.unwrap.ensures c.get_index.ensures.value) c.requires there)
+    (entry_goes c.args.instances.now.entries c.args.number c.unwrap.result.0.now c.unwrap.result.1.now w c.requires.placed (sym (ap (option_map deref_pair) c.unwrap.ensures) ∙ c.get_index.ensures.entry)
+    (MatchOption-at_some _ _ c.unwrap.result c.unwrap.ensures c.get_index.ensures.value) c.requires.enabled there)

@@ -1,0 +1,46 @@
+// What a `call` calls (DSL 1.0.0, reference, "Call" and "HTTP Call").
+use crate::listing::Listing;
+use crate::template::{Field, Template};
+use swf_expr::Expr;
+use swf_text::Text;
+
+/// What a `call` calls.
+#[derive(Drop)]
+pub enum Callee {
+    Http(HttpSpec),
+    /// A function of the document.
+    Function { name: Text, with: Option<Template> },
+}
+
+/// A request that is filled in when it is sent.
+#[derive(Drop)]
+pub struct HttpSpec {
+    pub method: Method,
+    pub endpoint: Endpoint,
+    pub headers: Listing<Field>,
+    pub query: Listing<Field>,
+    pub body: Option<Template>,
+    /// Whether the output is the whole response, and not its content alone.
+    pub response: bool,
+    pub redirect: bool,
+}
+
+/// A method of HTTP (RFC 9110, section 9; RFC 5789).
+#[derive(Clone, Copy, Debug, PartialEq, Eq)]
+pub enum Method {
+    Get,
+    Head,
+    Post,
+    Put,
+    Delete,
+    Patch,
+    Options,
+}
+
+/// Where a request goes.
+#[derive(Drop)]
+pub enum Endpoint {
+    /// A text in which `{name}` stands for a value.
+    Pattern(Text),
+    Run(Expr),
+}

@@ -1,0 +1,38 @@
+-- Which kinds of task are built, and so which documents can be loaded.
+use Rattle.std.specs.Prelude.{ℕ, List, [], ◌∷◌, Bool, true, false, Option, Some, None, if◌then◌else◌}
+use Rattle.swf_document.specs.Task.{Tasks, no_tasks, named, Task, task, Kind, do_all, raise, set, switch}
+use Rattle.swf_document.specs.declared.document.Document.{Document}
+use Rattle.swf_document.specs.declared.fault.Fault.{Fault}
+use Rattle.swf_document.specs.declared.fault.FaultKind.TheVariants.{NotInProfile}
+
+abbrev pub is_built : Kind → Bool
+is_built (do_all ts) = true
+is_built (raise e) = true
+is_built (set e) = true
+is_built (switch cs) = true
+is_built k = false
+
+abbrev pub or_else : {A : Type 0} → Option A → Option A → Option A
+or_else (Some a) b = Some a
+or_else None b = b
+
+-- the place of the first task of a kind that is not built, a task before those in it
+abbrev mutual
+  pub unbuilt : Tasks → Option (List (List ℕ))
+  unbuilt no_tasks = None
+  unbuilt (named n t ts) = or_else (unbuilt_task t) (unbuilt ts)
+
+  pub unbuilt_task : Task → Option (List (List ℕ))
+  unbuilt_task (task c k) = if is_built k then unbuilt_kind k else Some c.place
+
+  unbuilt_kind : Kind → Option (List (List ℕ))
+  unbuilt_kind (do_all ts) = unbuilt ts
+  unbuilt_kind k = None
+
+abbrev pub fault_at : Option (List (List ℕ)) → List Fault
+fault_at None = []
+fault_at (Some p) = (record { place = p; kind = NotInProfile }) ∷ []
+
+-- the fault of a document with a task of a kind that is not built
+abbrev pub not_built : Document → List Fault
+not_built d = fault_at (or_else (unbuilt d.tasks) (unbuilt d.functions))

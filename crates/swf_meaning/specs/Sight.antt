@@ -1,0 +1,66 @@
+-- What the expressions of a task see besides their input (DSL, "Runtime expressions", "Runtime expression arguments").
+use Rattle.std.specs.Prelude.{ℕ, pos, List, [], ◌∷◌, ◌++◌, Bool, true, false, codes, if◌then◌else◌}
+use Rattle.swf_text.specs.Pointer.{pointer}
+use Rattle.swf_value.specs.Value.{Value, int, text, object, member, no_members}
+use Rattle.swf_jq_eval.specs.declared.vars.Variable.{Variable}
+use Rattle.swf_document.specs.Task.{Task}
+use Rattle.swf_document.specs.declared.document.Document.{Document}
+use Rattle.swf_meaning.specs.Parts.{place_of}
+
+-- what a step on an instance goes by besides its tree: the document, whose errors have names; the id, when it started,
+-- the raw input of its workflow, and the context
+pub record Sight : Type 0 where
+  pub document : Document
+  pub id : List ℕ
+  pub started : ℕ
+  pub input : Value
+  pub context : Value
+
+abbrev pub variable : List ℕ → Value → Variable
+variable x v = record { name = x; value = v }
+
+-- a workflow stands at the empty place
+abbrev pub is_nowhere : List (List ℕ) → Bool
+is_nowhere [] = true
+is_nowhere (p ∷ ps) = false
+
+abbrev pub is_workflow : Task → Bool
+is_workflow t = is_nowhere (place_of t)
+
+abbrev pub epoch : ℕ → Value
+epoch n = object (member (codes "epoch") (object (member (codes "milliseconds") (int (pos n)) no_members)) no_members)
+
+-- `$workflow`
+abbrev pub workflow_value : Sight → Value
+workflow_value s = object (member (codes "id") (text s.id) (member (codes "input") s.input (member (codes "startedAt") (epoch s.started) no_members)))
+
+-- the name of a task is the last part of its place
+abbrev pub last_part : List (List ℕ) → List ℕ
+last_part [] = []
+last_part (p ∷ []) = p
+last_part (p ∷ ps) = last_part ps
+
+-- `$task`, of a task with that raw input
+abbrev pub task_value : Task → Value → Value
+task_value t v = object (member (codes "input") v (member (codes "name") (text (last_part (place_of t))) (member (codes "reference") (text (pointer (place_of t))) no_members)))
+
+abbrev pub of_workflow : Sight → List Variable
+of_workflow s = variable (codes "workflow") (workflow_value s) ∷ []
+
+abbrev pub with_context : Sight → List Variable
+with_context s = of_workflow s ++ variable (codes "context") s.context ∷ []
+
+abbrev pub of_task : Sight → Task → Value → List Variable
+of_task s t v = with_context s ++ variable (codes "task") (task_value t v) ∷ []
+
+-- what `input.from` sees: of a workflow `$workflow` alone
+abbrev pub before : Sight → Task → Value → List Variable
+before s t v = if is_workflow t then of_workflow s else of_task s t v
+
+-- what `if`, a task's own definition and `output.as` see, on the transformed input u
+abbrev pub within : Sight → Task → Value → Value → List Variable
+within s t v u = (if is_workflow t then with_context s else of_task s t v) ++ variable (codes "input") u ∷ []
+
+-- what `export.as` sees, on the transformed output w
+abbrev pub behind : Sight → Task → Value → Value → Value → List Variable
+behind s t v u w = within s t v u ++ variable (codes "output") w ∷ []

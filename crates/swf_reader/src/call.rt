@@ -1,0 +1,119 @@
+// What tasks call and run.
+ghost use Rattle.std.specs.Prelude.{◌≡◌, IfOk, codes};
+ghost use Rattle.swf_reader.specs.Parts.{endpoint_text, endpoint_in, method_in, http_in, callee_in, key_in, version_in, run_in};
+
+use crate::parts::{flag_at, part, text_in, tree_of};
+use crate::template::{named_templates_of, template_at};
+use std::alloc::{AllocError, Global};
+use swf_document::{Callee, DocKey, Endpoint, HttpSpec, Method, RunSpec};
+use swf_forms::{characters, inner, is_enclosed, method_of, trimmed};
+use swf_shapes::field;
+use swf_text::{Text, is_word, word};
+use swf_value::{Json, JsonNode};
+
+fn endpoint_text(alloc: Global, text: Text) -> Result<Endpoint, AllocError>
+    ensures { IfOk result (λ e. e ≡ endpoint_text text) }
+{
+    let characters = characters(alloc, &text)?;
+    let trimmed = trimmed(&characters);
+    if is_enclosed(trimmed) {
+        let expression = tree_of(alloc, inner(trimmed))?;
+        Ok(Endpoint::Run(expression))
+    } else {
+        Ok(Endpoint::Pattern(text))
+    }
+}
+
+fn endpoint_in(alloc: Global, value: &Json) -> Result<Endpoint, AllocError>
+    ensures { IfOk result (λ e. e ≡ endpoint_in value.now) }
+{
+    match value.node() {
+        JsonNode::Text(text) => endpoint_text(alloc, text.copy()?),
+        _ => {
+            let nothing = Json::null();
+            let text = text_in(alloc, part(value, "uri", &nothing))?;
+            endpoint_text(alloc, text)
+        }
+    }
+}
+
+fn method_in(alloc: Global, value: &Json) -> Result<Method, AllocError>
+    ensures { IfOk result (λ m. m ≡ method_in value.now) }
+{
+    let text = text_in(alloc, value)?;
+    match method_of(&text) {
+        Some(method) => Ok(method),
+        None => Ok(Method::Get),
+    }
+}
+
+fn http_in(alloc: Global, value: &Json) -> Result<HttpSpec, AllocError>
+    ensures { IfOk result (λ h. h ≡ http_in value.now) }
+{
+    let nothing = Json::null();
+    let method = method_in(alloc, part(value, "method", &nothing))?;
+    let endpoint = endpoint_in(alloc, part(value, "endpoint", &nothing))?;
+    let headers = named_templates_of(alloc, part(value, "headers", &nothing))?;
+    let query = named_templates_of(alloc, part(value, "query", &nothing))?;
+    let body = template_at(alloc, value, "body")?;
+    let output = text_in(alloc, part(value, "output", &nothing))?;
+    let response = is_word(&output, "response");
+    let redirect = flag_at(value, "redirect");
+    Ok(HttpSpec {
+        method,
+        endpoint,
+        headers,
+        query,
+        body,
+        response,
+        redirect,
+    })
+}
+
+/// What a task calls.
+pub fn callee_in(alloc: Global, value: &Json) -> Result<Callee, AllocError>
+    ensures { IfOk result (λ c. c ≡ callee_in value.now) }
+{
+    let nothing = Json::null();
+    let name = text_in(alloc, part(value, "call", &nothing))?;
+    if is_word(&name, "http") {
+        let http = http_in(alloc, part(value, "with", &nothing))?;
+        Ok(Callee::Http(http))
+    } else {
+        let with = template_at(alloc, value, "with")?;
+        Ok(Callee::Function { name, with })
+    }
+}
+
+/// The key of a document of this version.
+pub fn key_in(alloc: Global, version: Text, value: &Json) -> Result<DocKey, AllocError>
+    ensures { IfOk result (λ k. k ≡ key_in version value.now) }
+{
+    let nothing = Json::null();
+    let namespace = text_in(alloc, part(value, "namespace", &nothing))?;
+    let name = text_in(alloc, part(value, "name", &nothing))?;
+    Ok(DocKey {
+        namespace,
+        name,
+        version,
+    })
+}
+
+fn version_in(alloc: Global, value: &Json) -> Result<Text, AllocError>
+    ensures { IfOk result (λ t. t ≡ version_in value.now) }
+{
+    match field(value, "version") {
+        Some(version) => text_in(alloc, version),
+        None => word(alloc, "latest"),
+    }
+}
+
+/// The workflow that a task runs.
+pub fn run_in(alloc: Global, value: &Json) -> Result<RunSpec, AllocError>
+    ensures { IfOk result (λ r. r ≡ run_in value.now) }
+{
+    let version = version_in(alloc, value)?;
+    let key = key_in(alloc, version, value)?;
+    let input = template_at(alloc, value, "input")?;
+    Ok(RunSpec { key, input })
+}

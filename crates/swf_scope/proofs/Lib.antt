@@ -1,0 +1,2 @@
+pub mod Lighter
+pub mod NamesLemmas

@@ -1,0 +1,4 @@
+pub mod Shapes
+pub mod Row
+pub mod Layout
+pub mod Faults

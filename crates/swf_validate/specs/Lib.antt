@@ -1,0 +1,5 @@
+pub mod Calls
+pub mod Count
+pub mod DocumentFaults
+pub mod Accepts
+pub mod TaskFaults

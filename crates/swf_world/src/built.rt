@@ -1,0 +1,76 @@
+// Whether the tasks of a document are of kinds that are built.
+ghost use Rattle.std.specs.Prelude.{◌≡◌, IfOk, option_map};
+ghost use Rattle.swf_document.specs.TaskNode.{kind_of, task_of, tasks_of};
+ghost use Rattle.swf_meaning.specs.Built.{is_built, not_built, or_else, unbuilt, unbuilt_task};
+
+use std::alloc::{AllocError, Global};
+use swf_document::{Document, FaultKind, Faults, Kind, Named, Task};
+use swf_text::Place;
+
+fn is_built(kind: &Kind) -> bool
+    ensures { result ≡ is_built (kind_of kind.now) }
+{
+    match kind {
+        Kind::Do(_) | Kind::Raise(_) | Kind::Set(_) | Kind::Switch(_) => true,
+        Kind::Call(_)
+        | Kind::Emit(_)
+        | Kind::For(_)
+        | Kind::Fork(_)
+        | Kind::Listen(_)
+        | Kind::Run(_)
+        | Kind::Try(_)
+        | Kind::Wait(_) => false,
+    }
+}
+
+// The place of the first task of a kind that is not built, a task before those in it.
+#[cycle(unbuilt)]
+fn unbuilt(tasks: &[Named]) -> Option<&Place>
+    ensures { option_map (λ p. p.now) result ≡ unbuilt (tasks_of tasks.now) }
+{
+    for named in tasks {
+        let place = unbuilt_task(&named.task);
+        if place.is_some() {
+            return place;
+        }
+    }
+    None
+}
+
+#[cycle(unbuilt)]
+fn unbuilt_task(task: &Task) -> Option<&Place>
+    ensures { option_map (λ p. p.now) result ≡ unbuilt_task (task_of task.now) }
+{
+    if !is_built(&task.kind) {
+        return Some(&task.common.place);
+    }
+    match &task.kind {
+        Kind::Do(tasks) => unbuilt(tasks.as_slice()),
+        _ => None,
+    }
+}
+
+// The same of a document: its tasks, and then its functions.
+fn first_unbuilt(document: &Document) -> Option<&Place>
+    ensures { option_map (λ p. p.now) result ≡ or_else (unbuilt document.now.tasks) (unbuilt document.now.functions) }
+{
+    let place = unbuilt(document.tasks.as_slice());
+    if place.is_some() {
+        return place;
+    }
+    unbuilt(document.functions.as_slice())
+}
+
+/// The fault of a document with a task of a kind that is not built; none where all are.
+pub fn not_built(alloc: Global, document: &Document) -> Result<Faults, AllocError>
+    ensures { IfOk result (λ faults. faults ≡ not_built document.now) }
+{
+    let mut faults = Faults::new(alloc);
+    match first_unbuilt(document) {
+        Some(place) => {
+            faults.push(place.copy(alloc)?, FaultKind::NotInProfile)?;
+            Ok(faults)
+        }
+        None => Ok(faults),
+    }
+}
