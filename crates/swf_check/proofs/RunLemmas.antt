@@ -37,7 +37,7 @@ module _ {S : Type 0} (moment : S → ℕ) (left_since : S → ℕ → Image →
   -- no input was taken
   pub none_came : taken one ≡ taken old → CheckRun moment left_since said may_leave taken old one 4
   none_came same = record {
-    moments = λ inputs took pieces is. ([], same ∙ took ∙ ap Some (sym (append-nil inputs)), silent_moments inputs [] pieces is);
+    moments = λ inputs took pieces is. ([], omega arith, same ∙ took ∙ ap Some (sym (append-nil inputs)), silent_moments inputs [] pieces is);
     finish = λ inputs took pieces is either. absurd (⊎_elim (λ e. omega (arith, e)) (λ e. omega (arith, e)) either);
     short = λ six. silent;
   }
@@ -49,7 +49,7 @@ module _ {S : Type 0} (moment : S → ℕ) (left_since : S → ℕ → Image →
     -- nothing was said of it
     pub nothing_said : CheckRun moment left_since said may_leave taken old one 6
     nothing_said = record {
-      moments = λ inputs took pieces is. (input ∷ [], all_taken inputs took, silent_moments inputs (input ∷ []) pieces is);
+      moments = λ inputs took pieces is. (input ∷ [], omega arith, all_taken inputs took, silent_moments inputs (input ∷ []) pieces is);
       finish = λ inputs took pieces is either. absurd (⊎_elim (λ e. omega (arith, e)) (λ e. omega (arith, e)) either);
       short = λ six. silent;
     }
@@ -84,7 +84,7 @@ module _ {S : Type 0} (moment : S → ℕ) (left_since : S → ℕ → Image →
       -- it was said, or the host failed
       pub all_said : CheckRun moment left_since said may_leave taken old new status
       all_said = record {
-        moments = λ inputs took pieces is. (input ∷ [], spoken.taken_same ∙ all_taken inputs took, moments_said inputs took pieces is);
+        moments = λ inputs took pieces is. (input ∷ [], omega arith, spoken.taken_same ∙ all_taken inputs took, moments_said inputs took pieces is);
         finish = λ inputs took pieces is either. ⊎_elim
             (λ done. checked inputs took pieces is done)
             (λ four. absurd (⊎_elim (λ e. omega (arith, e, four)) (λ e. omega (arith, e, four)) either))

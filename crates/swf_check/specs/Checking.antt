@@ -1,5 +1,5 @@
 -- What checking a document does: one input is taken, and what is said of it goes to connection 0.
-use Rattle.std.specs.Prelude.{◌≡◌, ◌≢◌, ◌⊎◌, ℕ, ◌+◌, List, [], ◌∷◌, ◌++◌, length, Option, Some}
+use Rattle.std.specs.Prelude.{◌≡◌, ◌≢◌, ◌⊎◌, ℕ, ◌+◌, List, [], ◌∷◌, ◌++◌, ◌≤◌, length, Option, Some}
 use Rattle.std.specs.Option.{ForSome}
 use Rattle.swf_store.specs.declared.image.Image.{Image}
 use Rattle.swf_store.specs.declared.said.Piece.{Piece}
@@ -36,7 +36,7 @@ module _ {S : Type 0} (moment : S → ℕ) (left_since : S → ℕ → Image →
   pub record CheckRun (old new : S) (status : ℕ) : Type 0 where
     -- A stop at any moment leaves what a stop at entry may have left; nothing was said, or a part of what is said of the input.
     pub moments : ForSome (taken old) (λ inputs. ForSome (said old) (λ pieces.
-        (more : List Input) × (taken new ≡ Some (inputs ++ more)) × Leaves moment left_since old new (λ image now. may_leave old image × IsSaying inputs pieces more now)))
+        (more : List Input) × (length more ≤ 1) × (taken new ≡ Some (inputs ++ more)) × Leaves moment left_since old new (λ image now. may_leave old image × IsSaying inputs pieces more now)))
     -- At 0 and 1 all of it was said.
     pub finish : ForSome (taken old) (λ inputs. ForSome (said old) (λ pieces. (status ≡ 0) ⊎ (status ≡ 1) → IsChecked inputs pieces status (taken new) (said new)))
     -- For want of memory nothing is said.

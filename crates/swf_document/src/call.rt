@@ -42,5 +42,8 @@ pub enum Method {
 pub enum Endpoint {
     /// A text in which `{name}` stands for a value.
     Pattern(Text),
+    /// An expression, which stands in place of the text.
     Run(Expr),
+    /// An expression in the member `uri` of an object.
+    Uri(Expr),
 }

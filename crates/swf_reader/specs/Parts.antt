@@ -1,6 +1,6 @@
 -- The parts of a document that hold no tasks, as a value gives them (DSL 1.0.0, reference). What a value without faults
 -- cannot lack is something plain where it is lacking.
-use Rattle.std.specs.Prelude.{◌&&◌, ℕ, pos, List, [], ◌∷◌, Bool, true, false, not, codes, nat_le, Option, Some, None, option_map, option_and_then, unwrap_or, if◌then◌else◌}
+use Rattle.std.specs.Prelude.{◌&&◌, ℕ, pos, List, [], ◌∷◌, Bool, true, false, not, codes, nat_le, Option, Some, None, option_map, option_and_then, unwrap_or, is_some, if◌then◌else◌}
 use Rattle.std.specs.Option.{option_map_or}
 use Rattle.std.specs.Result.{result_unwrap_or}
 use Rattle.swf_text.specs.Same.{same}
@@ -27,6 +27,7 @@ use Rattle.swf_document.specs.declared.error.ErrorRef.TheVariants as error
 use Rattle.swf_document.specs.declared.error.ErrorSpec.{ErrorSpec}
 use Rattle.swf_document.specs.declared.event.Correlation.{Correlation}
 use Rattle.swf_document.specs.declared.event.Filter.{Filter}
+use Rattle.swf_document.specs.declared.event.ListenMode.{ListenMode}
 use Rattle.swf_document.specs.declared.event.ListenMode.TheVariants as mode
 use Rattle.swf_document.specs.declared.event.ListenSpec.{ListenSpec}
 use Rattle.swf_document.specs.declared.retry.RetryPolicy.{RetryPolicy}
@@ -152,15 +153,22 @@ common_in p v = record {
   place = p;
 }
 
-abbrev pub endpoint_text : List ℕ → Endpoint
-endpoint_text t = if is_enclosed (trimmed t) then endpoint.Run (tree_of (inner (trimmed t))) else endpoint.Pattern t
+-- an expression that gives an endpoint, in an object or in its place
+abbrev pub endpoint_run : Bool → Tree → Endpoint
+endpoint_run in_object e = if in_object then endpoint.Uri e else endpoint.Run e
+
+abbrev pub endpoint_text : Bool → List ℕ → Endpoint
+endpoint_text in_object t = if is_enclosed (trimmed t) then endpoint_run in_object (tree_of (inner (trimmed t))) else endpoint.Pattern t
 
 abbrev pub endpoint_in : Value → Endpoint
-endpoint_in (text t) = endpoint_text t
-endpoint_in v = endpoint_text (text_in (part (codes "uri") v))
+endpoint_in (text t) = endpoint_text false t
+endpoint_in v = endpoint_text true (text_in (part (codes "uri") v))
 
 abbrev pub method_in : Value → Method
 method_in v = unwrap_or (method_of (text_in v)) method.Get
+
+abbrev pub response_in : Value → Bool
+response_in v = same (text_in (part (codes "output") v)) (codes "response")
 
 abbrev pub http_in : Value → HttpSpec
 http_in v = record {
@@ -169,7 +177,7 @@ http_in v = record {
   headers = named_templates_of (part (codes "headers") v);
   query = named_templates_of (part (codes "query") v);
   body = template_at (codes "body") v;
-  response = same (text_in (part (codes "output") v)) (codes "response");
+  response = response_in v;
   redirect = flag_at (codes "redirect") v;
 }
 

@@ -1,24 +1,36 @@
 // What tasks call and run.
 ghost use Rattle.std.specs.Prelude.{◌≡◌, IfOk, codes};
-ghost use Rattle.swf_reader.specs.Parts.{endpoint_text, endpoint_in, method_in, http_in, callee_in, key_in, version_in, run_in};
+ghost use Rattle.swf_reader.specs.Parts.{endpoint_run, endpoint_text, endpoint_in, method_in, response_in, http_in, callee_in, key_in, version_in, run_in};
 
 use crate::parts::{flag_at, part, text_in, tree_of};
 use crate::template::{named_templates_of, template_at};
 use std::alloc::{AllocError, Global};
 use swf_document::{Callee, DocKey, Endpoint, HttpSpec, Method, RunSpec};
+use swf_expr::Expr;
 use swf_forms::{characters, inner, is_enclosed, method_of, trimmed};
 use swf_shapes::field;
 use swf_text::{Text, is_word, word};
 use swf_value::{Json, JsonNode};
 
-fn endpoint_text(alloc: Global, text: Text) -> Result<Endpoint, AllocError>
-    ensures { IfOk result (λ e. e ≡ endpoint_text text) }
+// The endpoint that an expression gives, which stands in an object or not.
+fn endpoint_run(in_object: bool, expression: Expr) -> Endpoint
+    ensures { result ≡ endpoint_run in_object expression }
+{
+    if in_object {
+        Endpoint::Uri(expression)
+    } else {
+        Endpoint::Run(expression)
+    }
+}
+
+fn endpoint_text(alloc: Global, in_object: bool, text: Text) -> Result<Endpoint, AllocError>
+    ensures { IfOk result (λ e. e ≡ endpoint_text in_object text) }
 {
     let characters = characters(alloc, &text)?;
     let trimmed = trimmed(&characters);
     if is_enclosed(trimmed) {
         let expression = tree_of(alloc, inner(trimmed))?;
-        Ok(Endpoint::Run(expression))
+        Ok(endpoint_run(in_object, expression))
     } else {
         Ok(Endpoint::Pattern(text))
     }
@@ -28,11 +40,11 @@ fn endpoint_in(alloc: Global, value: &Json) -> Result<Endpoint, AllocError>
     ensures { IfOk result (λ e. e ≡ endpoint_in value.now) }
 {
     match value.node() {
-        JsonNode::Text(text) => endpoint_text(alloc, text.copy()?),
+        JsonNode::Text(text) => endpoint_text(alloc, false, text.copy()?),
         _ => {
             let nothing = Json::null();
             let text = text_in(alloc, part(value, "uri", &nothing))?;
-            endpoint_text(alloc, text)
+            endpoint_text(alloc, true, text)
         }
     }
 }
@@ -47,17 +59,25 @@ fn method_in(alloc: Global, value: &Json) -> Result<Method, AllocError>
     }
 }
 
+// Whether the output of a call is the whole response.
+fn response_in(alloc: Global, value: &Json) -> Result<bool, AllocError>
+    ensures { IfOk result (λ b. b ≡ response_in value.now) }
+{
+    let nothing = Json::null();
+    let output = text_in(alloc, part(value, "output", &nothing))?;
+    Ok(is_word(&output, "response"))
+}
+
 fn http_in(alloc: Global, value: &Json) -> Result<HttpSpec, AllocError>
     ensures { IfOk result (λ h. h ≡ http_in value.now) }
 {
     let nothing = Json::null();
     let method = method_in(alloc, part(value, "method", &nothing))?;
-    let endpoint = endpoint_in(alloc, part(value, "endpoint", &nothing))?;
+    let response = response_in(alloc, value)?;
     let headers = named_templates_of(alloc, part(value, "headers", &nothing))?;
     let query = named_templates_of(alloc, part(value, "query", &nothing))?;
     let body = template_at(alloc, value, "body")?;
-    let output = text_in(alloc, part(value, "output", &nothing))?;
-    let response = is_word(&output, "response");
+    let endpoint = endpoint_in(alloc, part(value, "endpoint", &nothing))?;
     let redirect = flag_at(value, "redirect");
     Ok(HttpSpec {
         method,

@@ -50,6 +50,7 @@ callee_faults functions p (callees.Function n w) = fault_unless (is_some (functi
 abbrev pub endpoint_faults : List (List ℕ) → Spot → Endpoint → List Fault
 endpoint_faults vars p (endpoints.Pattern t) = []
 endpoint_faults vars p (endpoints.Run e) = expression_faults vars p e
+endpoint_faults vars p (endpoints.Uri e) = expression_faults vars (under p (codes "uri")) e
 
 abbrev pub http_faults : List (List ℕ) → Spot → HttpSpec → List Fault
 http_faults vars p h =

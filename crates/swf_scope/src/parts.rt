@@ -127,6 +127,7 @@ fn endpoint(
     match given {
         Endpoint::Pattern(_) => Ok(()),
         Endpoint::Run(expr) => expression(alloc, variables, at, expr, out),
+        Endpoint::Uri(expr) => expression(alloc, variables, &Spot::Word(at, "uri"), expr, out),
     }
 }
 
