@@ -1,9 +1,14 @@
-//! Runs the documents and the sessions of its folder over a host in memory, and prints a transcript of them.
+//! Runs the documents and the sessions of its folder over a host in memory, and prints a transcript of them; and what comes of
+//! a whole session in which a call fails, and of a stop.
 //!
-//! A line of documents.txt is a document, and is followed by what `check` prints. The sessions of sessions.txt have empty lines
-//! between them; each line is a command, followed by its reply, and `! reopen` ends the input and opens the store again. A line
-//! that begins with `#` names what follows, and stands in the transcript as it is.
+//! A line of documents.txt is a document, and is followed by what `check` prints. The sessions of sessions.txt and script.txt
+//! have empty lines between them; each line is a command, followed by its reply, or begins with `!` (`src/session.rt` has the
+//! words), and `! reopen` ends the input and opens the store again. A line of faults.txt names a call that fails or the calls
+//! before a stop (`src/faults.rt`). A line that begins with `#` names what follows, and stands in the transcript as it is.
 #![tactic(auto)]
+
+mod faults;
+mod session;
 
 use std::alloc::{AllocError, Global};
 use std::fs;
@@ -16,6 +21,24 @@ use swf_text::Bytes;
 /// A line of a session that stops it and opens it again.
 const REOPEN: &str = "! reopen\n";
 
+/// The numbers of the calls that fail.
+#[derive(Drop)]
+struct Failing {
+    store: Vec<u64>,
+    next: Vec<u64>,
+    say: Vec<u64>,
+}
+
+impl Failing {
+    fn none(alloc: Global) -> Failing {
+        Failing {
+            store: Vec::new(alloc),
+            next: Vec::new(alloc),
+            say: Vec::new(alloc),
+        }
+    }
+}
+
 /// What a run ended with, and its host.
 #[derive(Drop)]
 struct Ran {
@@ -23,19 +46,35 @@ struct Ran {
     host: MemoryHost,
 }
 
-// Runs one mode of the program over the files of an image. Each line is an input of its own.
-fn run(alloc: Global, mode: &str, image: Image, lines: &[&str]) -> Result<Ran, AllocError> {
-    let mut script = Vec::new(alloc);
-    for line in lines {
-        let line = Bytes::copy_of(alloc, line.as_bytes())?;
-        script.push(Turn::In(Input::Ask(0, line)))?;
-    }
+// The words of a command line, which have commas between them.
+fn words_of(alloc: Global, text: &str) -> Result<Vec<String>, AllocError> {
     let mut words = Vec::new(alloc);
-    words.push(String::from_str(alloc, mode)?)?;
-    let store = MemoryStore::new(alloc, image, Vec::new(alloc));
-    let mut host = MemoryHost::new(alloc, store, script, Vec::new(alloc), Vec::new(alloc));
+    if !text.is_empty() {
+        for word in text.split(',') {
+            words.push(String::from_str(alloc, word)?)?;
+        }
+    }
+    Ok(words)
+}
+
+// Runs the program with these words over the files of an image.
+fn run(
+    alloc: Global,
+    words: &str,
+    image: Image,
+    failing: Failing,
+    script: Vec<Turn>,
+) -> Result<Ran, AllocError> {
+    let words = words_of(alloc, words)?;
+    let store = MemoryStore::new(alloc, image, failing.store);
+    let mut host = MemoryHost::new(alloc, store, script, failing.next, failing.say);
     let status = swf_run(alloc, &words, &mut host);
     Ok(Ran { status, host })
+}
+
+// An input of a connection.
+fn ask(conn: u64, line: Vec<u8>) -> Turn {
+    Turn::In(Input::Ask(conn, Bytes::of(line)))
 }
 
 // Adds a line that says how a run ended, where that is not as it should.
@@ -61,7 +100,10 @@ fn add_line(transcript: &mut Vec<u8>, before: &str, line: &str) -> Result<(), Al
 
 // Adds what is printed for a document, whose status is 0 exactly where that is the word `accepted`.
 fn add_document(alloc: Global, transcript: &mut Vec<u8>, document: &str) -> Result<(), AllocError> {
-    let ran = run(alloc, "check", Image::empty(alloc), &[document])?;
+    let mut script = Vec::new(alloc);
+    script.push(ask(0, document.as_bytes().to_vec(alloc)?))?;
+    let image = Image::empty(alloc);
+    let ran = run(alloc, "check", image, Failing::none(alloc), script)?;
     let mut printed = Vec::new(alloc);
     for piece in ran.host.said() {
         printed.extend_from_slice(piece.bytes.as_slice())?;
@@ -75,66 +117,38 @@ fn add_document(alloc: Global, transcript: &mut Vec<u8>, document: &str) -> Resu
     add_status(alloc, transcript, ran.status, expected)
 }
 
-// Adds each command behind a `>`, and under it the reply. Answers the files that the session left.
-fn add_commands(
-    alloc: Global,
-    transcript: &mut Vec<u8>,
-    image: Image,
-    lines: &[&str],
-) -> Result<Image, AllocError> {
-    let ran = run(alloc, "session", image, lines)?;
-    for (place, line) in lines.iter().enumerate() {
-        add_line(transcript, "> ", line)?;
-        if let Some(piece) = ran.host.said().get(place) {
-            transcript.extend_from_slice(piece.bytes.as_slice())?;
+// Adds all documents, one a line.
+fn add_documents(alloc: Global, transcript: &mut Vec<u8>, text: &str) -> Result<(), AllocError> {
+    for line in text.split('\n') {
+        if line.starts_with('#') {
+            add_line(transcript, "", line)?;
+        } else if !line.is_empty() {
+            add_document(alloc, transcript, line)?;
         }
-    }
-    add_status(alloc, transcript, ran.status, 0)?;
-    ran.host.store().image().copy(alloc)
-}
-
-// Adds a session: its name and its commands, which fall into parts between which it is opened again.
-fn add_session(alloc: Global, transcript: &mut Vec<u8>, block: &str) -> Result<(), AllocError> {
-    let mut image = Image::empty(alloc);
-    for (number, part) in block.split(REOPEN).enumerate() {
-        if number > 0 {
-            transcript.extend_from_slice(REOPEN.as_bytes())?;
-        }
-        let mut lines = Vec::new(alloc);
-        for line in part.split('\n') {
-            if line.starts_with('#') {
-                add_line(transcript, "", line)?;
-            } else if !line.is_empty() {
-                lines.push(line)?;
-            }
-        }
-        image = add_commands(alloc, transcript, image, lines.as_slice())?;
     }
     Ok(())
 }
 
-// The transcript of all documents, one a line, and then of all sessions, between which empty lines stand.
-fn transcript(alloc: Global, documents: &str, sessions: &str) -> Result<Vec<u8>, AllocError> {
-    let mut transcript = Vec::new(alloc);
-    for line in documents.split('\n') {
-        if line.starts_with('#') {
-            add_line(&mut transcript, "", line)?;
-        } else if !line.is_empty() {
-            add_document(alloc, &mut transcript, line)?;
-        }
+// Adds all sessions, between which empty lines stand.
+fn add_sessions(alloc: Global, transcript: &mut Vec<u8>, text: &str) -> io::Result<()> {
+    for block in text.split("\n\n") {
+        session::add_session(alloc, transcript, block)?;
     }
-    for block in sessions.split("\n\n") {
-        add_session(alloc, &mut transcript, block)?;
-    }
-    Ok(transcript)
+    Ok(())
 }
 
 fn main(rt: HostRuntime) -> io::Result<()> {
     let alloc = rt.alloc();
+    let mut transcript = Vec::new(alloc);
     let documents = fs::read_to_string(&rt, "documents.txt")?;
-    let sessions = fs::read_to_string(&rt, "sessions.txt")?;
-    let bytes = transcript(alloc, documents.as_str(), sessions.as_str())?;
-    match String::from_utf8(bytes) {
+    add_documents(alloc, &mut transcript, documents.as_str())?;
+    for name in ["sessions.txt", "script.txt"] {
+        let sessions = fs::read_to_string(&rt, name)?;
+        add_sessions(alloc, &mut transcript, sessions.as_str())?;
+    }
+    let faults = fs::read_to_string(&rt, "faults.txt")?;
+    faults::add_faults(alloc, &mut transcript, faults.as_str())?;
+    match String::from_utf8(transcript) {
         Ok(text) => print!(rt; "{text}"),
         Err(_) => Err(io::Error::from(ErrorKind::InvalidData)),
     }

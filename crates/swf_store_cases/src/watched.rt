@@ -9,13 +9,40 @@ use std::os::fd::{AsRawFd, RawFd};
 use std::os::unix::fs::FileExt;
 use std::rc::Rc;
 
-// What becomes of the calls of open files.
-#[derive(Clone, Copy, PartialEq, Eq)]
-pub(crate) enum Manner {
-    // The call of this number fails.
-    FailAt(u64),
-    // Every other call is interrupted, and a read or a write takes one byte.
-    Grudging,
+/// What becomes of calls: the one of a number fails; and where they are grudging, every other one is interrupted, and the others
+/// do less than asked.
+#[derive(Clone, Copy)]
+pub(crate) struct Manner {
+    pub failing: u64,
+    pub is_grudging: bool,
+}
+
+impl Manner {
+    /// No call fails.
+    pub(crate) fn usual() -> Manner {
+        Manner {
+            failing: u64::MAX,
+            is_grudging: false,
+        }
+    }
+
+    /// What becomes of the call of this number.
+    pub(crate) fn call(self, number: u64) -> io::Result<()> {
+        if number == self.failing {
+            return Err(ErrorKind::Other.into());
+        }
+        if self.is_grudging && number % 2 == 0 {
+            return Err(ErrorKind::Interrupted.into());
+        }
+        Ok(())
+    }
+
+    /// How many of so many bytes a call takes.
+    pub(crate) fn share(self, len: usize, most: usize) -> usize
+        ensures { result ≤ len }
+    {
+        if self.is_grudging { len.min(most) } else { len }
+    }
 }
 
 // What of a store is opened.
@@ -80,31 +107,13 @@ impl Watch {
 
     // The call was made that was to fail.
     pub(crate) fn has_failed(&self) -> bool {
-        match self.manner {
-            Manner::FailAt(number) => number < self.calls.get(),
-            Manner::Grudging => false,
-        }
+        self.manner.failing < self.calls.get()
     }
 
     fn call(&self) -> io::Result<()> {
         let number = self.calls.get();
         self.calls.set(number.wrapping_add(1));
-        match self.manner {
-            Manner::FailAt(failing) if failing == number => Err(ErrorKind::Other.into()),
-            Manner::Grudging if number % 2 == 0 => Err(ErrorKind::Interrupted.into()),
-            _ => Ok(()),
-        }
-    }
-
-    // How many of so many bytes a read or a write takes.
-    fn share(&self, len: usize) -> usize
-        ensures { result ≤ len }
-    {
-        if self.manner == Manner::Grudging {
-            len.min(1)
-        } else {
-            len
-        }
+        self.manner.call(number)
     }
 }
 
@@ -131,14 +140,14 @@ pub(crate) struct WatchedFile {
 impl FileExt for WatchedFile {
     fn read_at(&self, buf: &mut [u8], offset: u64) -> io::Result<usize> {
         self.watch.call()?;
-        let share = self.watch.share(buf.len());
+        let share = self.watch.manner.share(buf.len(), 1);
         self.file.read_at(&mut buf[..share], offset)
     }
 
     fn write_at(&self, buf: &[u8], offset: u64) -> io::Result<usize> {
         self.watch.call()?;
         self.watch.unsynced(self.place).set(true);
-        let share = self.watch.share(buf.len());
+        let share = self.watch.manner.share(buf.len(), 1);
         self.file.write_at(&buf[..share], offset)
     }
 }
@@ -154,7 +163,7 @@ impl OpenFile for WatchedFile {
     }
 
     fn sync_all(&self) -> io::Result<()> {
-        if self.watch.manner != Manner::Grudging {
+        if !self.watch.manner.is_grudging {
             self.watch.call()?;
         }
         self.watch.unsynced(self.place).set(false);
@@ -167,6 +176,14 @@ impl OpenFile for WatchedFile {
 
     fn set_permissions(&self, perm: Permissions) -> io::Result<()> {
         self.file.set_permissions(perm)
+    }
+
+    fn try_clone(&self) -> io::Result<WatchedFile> {
+        Ok(WatchedFile {
+            file: self.file.try_clone()?,
+            watch: Rc::clone(&self.watch)?,
+            place: self.place,
+        })
     }
 }
 

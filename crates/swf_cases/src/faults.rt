@@ -1,0 +1,204 @@
+// What comes of a whole session in which one call fails, and of a stop at any moment of it.
+use crate::session::fail;
+use crate::{Failing, Ran, add_line, ask, run};
+use std::alloc::{AllocError, Global};
+use std::io;
+use swf_host::{MemoryHost, Turn};
+use swf_store::{Image, MemoryStore};
+
+/// Loads the document `a`, whose one task sets x to 1.
+const LOAD: &str =
+    "load {\"document\":{\"dsl\":\"1.0.0\",\"namespace\":\"t\",\"name\":\"a\",\"version\":\"1.0.0\"},\"do\":[{\"s\":{\"set\":{\"x\":1}}}]}";
+
+/// A whole session: the document is loaded, an instance of it is started, and it is done after three steps.
+const WHOLE: [&str; 6] = [
+    LOAD,
+    "start i t a 1.0.0 {}",
+    "settle 100",
+    "status i",
+    "status z",
+    "quit",
+];
+
+const COMPLETED: &str =
+    "{\"context\":null,\"id\":\"i\",\"output\":{\"x\":1},\"status\":\"completed\"}\n";
+
+const RUNNING: &str = "{\"context\":null,\"id\":\"i\",\"status\":\"running\"}\n";
+
+const UNKNOWN: &str = "{\"error\":\"unknown-instance\"}\n";
+
+const LOADED: &str = "{\"ok\":\"loaded\",\"place\":0}\n";
+
+const DUPLICATE: &str = "{\"error\":\"duplicate\",\"place\":0}\n";
+
+const QUIT: &str = "{\"ok\":\"quit\"}\n";
+
+/// What the whole session is answered.
+const WHOLE_REPLIES: [&str; 6] = [
+    LOADED,
+    "{\"ok\":\"started\",\"place\":1}\n",
+    "{\"ok\":\"quiet\",\"steps\":3}\n",
+    COMPLETED,
+    UNKNOWN,
+    QUIT,
+];
+
+/// How many of the replies tell of something that is kept.
+const KEPT_REPLIES: usize = 3;
+
+/// What stands for replies, or for a history, that is none of those that are known.
+const OTHER: usize = 9;
+
+// A script of lines, each from a connection of its own, whose number is the line's place.
+fn script(alloc: Global, lines: &[&str]) -> Result<Vec<Turn>, AllocError> {
+    let mut script = Vec::new(alloc);
+    for (place, line) in lines.iter().enumerate() {
+        script.push(ask(place as u64, line.as_bytes().to_vec(alloc)?))?;
+    }
+    Ok(script)
+}
+
+// Runs the whole session over files that were never written.
+fn run_whole(alloc: Global, failing: Failing) -> Result<Ran, AllocError> {
+    let script = script(alloc, &WHOLE)?;
+    run(alloc, "session", Image::empty(alloc), failing, script)
+}
+
+// How many replies were said, where they are the first of these, each said to the connection that asked before the next line
+// was taken.
+fn replies(host: &MemoryHost, wanted: &[&str]) -> usize {
+    for (place, piece) in host.said().iter().enumerate() {
+        let is_right = match wanted.get(place) {
+            Some(reply) => piece.bytes.as_slice() == reply.as_bytes(),
+            None => false,
+        };
+        let place = place as u64;
+        if !is_right || piece.conn != place || piece.inputs != place.saturating_add(1) {
+            return OTHER;
+        }
+    }
+    host.said().len()
+}
+
+// How far the history of an image has come, as a session over it tells: 0 where it is empty, 1 behind the load, 2 behind the
+// start, and 3 where the instance is completed.
+fn reached(alloc: Global, image: &Image) -> Result<usize, AllocError> {
+    let script = script(alloc, &["status i", LOAD, "quit"])?;
+    let none = Failing::none(alloc);
+    let ran = run(alloc, "session", image.copy(alloc)?, none, script)?;
+    let cases = [
+        [UNKNOWN, LOADED, QUIT],
+        [UNKNOWN, DUPLICATE, QUIT],
+        [RUNNING, DUPLICATE, QUIT],
+        [COMPLETED, DUPLICATE, QUIT],
+    ];
+    for (place, wanted) in cases.iter().enumerate() {
+        if ran.status == 0 && replies(&ran.host, wanted) == wanted.len() {
+            return Ok(place);
+        }
+    }
+    Ok(OTHER)
+}
+
+/// How many images a stop may leave; in how many all that was answered stands and the line behind it too; and how many have
+/// neither that nor what was answered.
+#[derive(Clone, Copy)]
+struct Tried {
+    images: u64,
+    ahead: u64,
+    wrong: u64,
+}
+
+// Runs a session over each image that a stop after so many calls may leave, when so many replies had been said.
+fn try_stop(
+    alloc: Global,
+    store: &MemoryStore,
+    calls: u64,
+    said: usize,
+) -> Result<Tried, AllocError> {
+    let mut tried = Tried {
+        images: 0,
+        ahead: 0,
+        wrong: 0,
+    };
+    let Ok(images) = store.images(alloc, calls) else {
+        return Err(AllocError);
+    };
+    let said = said.min(KEPT_REPLIES);
+    for image in images.iter() {
+        let found = reached(alloc, image)?;
+        tried.images = tried.images.saturating_add(1);
+        if found == said.saturating_add(1) && found <= KEPT_REPLIES {
+            tried.ahead = tried.ahead.saturating_add(1);
+        } else if found != said {
+            tried.wrong = tried.wrong.saturating_add(1);
+        }
+    }
+    Ok(tried)
+}
+
+// How many pieces had been said when so many calls were made.
+fn said_by(host: &MemoryHost, calls: u64) -> usize {
+    let mut count = 0usize;
+    for piece in host.said() {
+        if piece.calls <= calls {
+            count = count.saturating_add(1);
+        }
+    }
+    count
+}
+
+// What comes of a stop of the whole session after so many calls.
+fn stopped(alloc: Global, calls: u64) -> Result<String, AllocError> {
+    let ran = run_whole(alloc, Failing::none(alloc))?;
+    let said = said_by(&ran.host, calls);
+    let Tried {
+        images,
+        ahead,
+        wrong,
+    } = try_stop(alloc, ran.host.store(), calls, said)?;
+    format!(in alloc; "{images} images, {ahead} ahead, {wrong} wrong")
+}
+
+// What comes of the whole session where some calls fail.
+fn failed(alloc: Global, failing: Failing) -> Result<String, AllocError> {
+    let ran = run_whole(alloc, failing)?;
+    let host = &ran.host;
+    let status = ran.status;
+    let said = replies(host, &WHOLE_REPLIES);
+    let inputs = host.taken().len();
+    let calls = host.store().calls().len();
+    let reached = reached(alloc, host.store().image())?;
+    let wrong = try_stop(alloc, host.store(), calls as u64, said)?.wrong;
+    let lacks = host.lacks().saturating_add(host.store().lacks());
+    format!(in alloc;
+        "status {status}, {said} replies, {inputs} inputs, {calls} calls, {reached} reached, {wrong} wrong, {lacks} lacks"
+    )
+}
+
+// What comes of a row: a call that fails, or a number of calls before a stop.
+fn outcome(alloc: Global, row: &str) -> io::Result<String> {
+    if let Some(calls) = row.strip_prefix("stop ") {
+        let calls = calls.parse::<u64>().unwrap_or(u64::MAX);
+        return Ok(stopped(alloc, calls)?);
+    }
+    let mut failing = Failing::none(alloc);
+    if row != "nothing" {
+        fail(&mut failing, row)?;
+    }
+    Ok(failed(alloc, failing)?)
+}
+
+/// Adds each row, and behind it what comes of it.
+pub(crate) fn add_faults(alloc: Global, transcript: &mut Vec<u8>, rows: &str) -> io::Result<()> {
+    for row in rows.split('\n') {
+        if row.starts_with('#') {
+            add_line(transcript, "", row)?;
+        } else if !row.is_empty() {
+            let outcome = outcome(alloc, row)?;
+            let line = format!(in alloc; "{row} => {outcome}")?;
+            add_line(transcript, "", line.as_str())?;
+        }
+    }
+    Ok(())
+}

@@ -1,0 +1,57 @@
+//! Reads the rows of two tables, and prints each with what came of it: calls of stores, of journals and of hosts, in memory
+//! (memory.txt) and over files (files.txt).
+//!
+//! Between blocks of rows stand empty lines. A row that begins with `#` names what follows, and one that begins with `!` says
+//! what a block works with. `src/calls.rt` has the rows that are calls; `src/memory.rt` and `src/files.rt` have the others.
+#![tactic(auto)]
+
+mod calls;
+mod files;
+mod journal;
+mod memory;
+mod watched;
+
+use std::alloc::Global;
+use std::fs;
+use std::io::{self, ErrorKind};
+
+/// A row that has no meaning.
+fn no_row() -> io::Error {
+    ErrorKind::InvalidInput.into()
+}
+
+/// Two words that a space parts.
+fn split(row: &str) -> io::Result<(&str, &str)> {
+    row.split_once(' ').ok_or(no_row())
+}
+
+fn number_of(text: &str) -> io::Result<u64> {
+    match text.parse::<u64>() {
+        Ok(number) => Ok(number),
+        Err(_) => Err(no_row()),
+    }
+}
+
+/// The bytes that a text tells in hex.
+fn bytes_of(alloc: Global, hex: &str) -> io::Result<Vec<u8>> {
+    match hex::decode(alloc, hex) {
+        Ok(bytes) => Ok(bytes),
+        Err(_) => Err(no_row()),
+    }
+}
+
+fn main(rt: HostRuntime) -> io::Result<()> {
+    let alloc = rt.alloc();
+    let rows = fs::read_to_string(&rt, "memory.txt")?;
+    for block in rows.as_str().split("\n\n") {
+        let told = memory::told(alloc, block)?;
+        print!(rt; "{told}")?;
+    }
+    let rows = fs::read_to_string(&rt, "files.txt")?;
+    for (number, block) in rows.as_str().split("\n\n").enumerate() {
+        let folder = format!(in alloc; "{number}")?;
+        let told = files::told_in(rt, folder.as_str(), block)?;
+        print!(rt; "{told}")?;
+    }
+    Ok(())
+}

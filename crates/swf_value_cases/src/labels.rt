@@ -1,0 +1,138 @@
+// Rows on labels: their bytes, and what is read in bytes.
+ghost use Rattle.std.specs.Prelude.{IsTrue};
+ghost use Rattle.swf_record.specs.Encodes.{Nests};
+
+use crate::values::lists_round;
+use crate::{bytes_of, no_row, number_of, split};
+use std::alloc::{AllocError, Global};
+use std::io;
+use swf_document::DocKey;
+use swf_meaning::Label;
+use swf_record::{RecordFault, decode_labels, encode_labels};
+use swf_text::{Strand, Text};
+use swf_value::{Json, depth, read_json};
+
+/// What comes of a row on labels.
+pub(crate) fn told(alloc: Global, word: &str, rest: &str) -> io::Result<String> {
+    match word {
+        "load" => spelled(alloc, Label::Load(value_of(alloc, rest)?)),
+        "start" => spelled(alloc, start(alloc, rest)?),
+        "step" => spelled(alloc, step(alloc, rest)?),
+        "again" => again(alloc, &bytes_of(alloc, rest)?),
+        "decode" => Ok(decoded(alloc, &bytes_of(alloc, rest)?)?),
+        "levels" => levels(alloc, number_of(rest)?),
+        _ => Err(no_row()),
+    }
+}
+
+/// Whether the values of a label nest at most 64 deep.
+fn nests(label: &Label) -> bool
+    ensures { IsTrue result → Nests label.now }
+{
+    match label {
+        Label::Load(document) => depth(document) <= 64,
+        Label::Start { input, .. } => depth(input) <= 64,
+        Label::Step { .. } => true,
+    }
+}
+
+/// The bytes of one label.
+fn encoded(alloc: Global, label: Label) -> io::Result<Vec<u8>> {
+    if !nests(&label) {
+        return Err(no_row());
+    }
+    let labels = [label];
+    Ok(encode_labels(alloc, &labels)?)
+}
+
+/// The bytes of one label, told in hex.
+fn spelled(alloc: Global, label: Label) -> io::Result<String> {
+    Ok(hex::encode(alloc, encoded(alloc, label)?.as_slice())?)
+}
+
+fn value_of(alloc: Global, text: &str) -> io::Result<Json> {
+    match read_json(alloc, text.as_bytes()) {
+        Ok(value) => Ok(value),
+        Err(_) => Err(no_row()),
+    }
+}
+
+/// The label of a start: an id, the namespace, the name and the version of a document, and an input.
+fn start(alloc: Global, row: &str) -> io::Result<Label> {
+    let (id, rest) = split(row)?;
+    let (namespace, rest) = split(rest)?;
+    let (name, rest) = split(rest)?;
+    let (version, input) = split(rest)?;
+    let key = DocKey {
+        namespace: Text::copy_of(alloc, namespace)?,
+        name: Text::copy_of(alloc, name)?,
+        version: Text::copy_of(alloc, version)?,
+    };
+    let id = Text::copy_of(alloc, id)?;
+    let input = value_of(alloc, input)?;
+    Ok(Label::Start { id, key, input })
+}
+
+/// The label of a step: an id, and the branches of a strand, which have commas between them.
+fn step(alloc: Global, row: &str) -> io::Result<Label> {
+    let (id, branches) = row.split_once(' ').unwrap_or((row, ""));
+    let mut strand = Vec::new(alloc);
+    for branch in branches.split(',') {
+        if let Ok(branch) = branch.parse::<u16>() {
+            strand.push(branch)?;
+        }
+    }
+    let id = Text::copy_of(alloc, id)?;
+    let strand = Strand::of(strand);
+    Ok(Label::Step { id, strand })
+}
+
+/// Whether some bytes are those of the one label that is read in them.
+fn again(alloc: Global, bytes: &[u8]) -> io::Result<String> {
+    let Ok(mut labels) = decode_labels(alloc, bytes) else {
+        return Err(no_row());
+    };
+    let is_again = match labels.pop() {
+        Some(label) => encoded(alloc, label)?.as_slice() == bytes,
+        None => false,
+    };
+    Ok(format!(in alloc; "{is_again}")?)
+}
+
+/// A label in words: of a load the depth of its document, of a step its id.
+fn words(alloc: Global, label: &Label) -> Result<String, AllocError> {
+    match label {
+        Label::Load(document) => format!(in alloc; "load {}", depth(document)),
+        Label::Start { id, .. } => format!(in alloc; "start {}", id.as_str()),
+        Label::Step { id, .. } => format!(in alloc; "step {}", id.as_str()),
+    }
+}
+
+/// The labels that are read in some bytes, or the place at which they are bad.
+fn decoded(alloc: Global, bytes: &[u8]) -> Result<String, AllocError> {
+    let labels = match decode_labels(alloc, bytes) {
+        Ok(labels) => labels,
+        Err(RecordFault::Bad { at }) => return format!(in alloc; "bad at {at}"),
+        Err(RecordFault::OutOfMemory) => return Err(AllocError),
+    };
+    let mut all = String::new(alloc);
+    for label in labels.as_slice() {
+        let label = words(alloc, label)?;
+        all.push_str(label.as_str())?;
+        all.push_str(";")?;
+    }
+    Ok(all)
+}
+
+/// Reads the load of so many lists in one another.
+fn levels(alloc: Global, levels: u32) -> io::Result<String> {
+    let text = lists_round(alloc, levels, "")?;
+    let Ok(length) = u32::try_from(text.len()) else {
+        return Err(no_row());
+    };
+    let mut bytes = Vec::new(alloc);
+    bytes.extend_from_slice(b"\0\0\0\x01\x01")?;
+    bytes.extend_from_slice(&length.to_be_bytes())?;
+    bytes.extend_from_slice(&text)?;
+    Ok(decoded(alloc, &bytes)?)
+}
