@@ -152,6 +152,9 @@ fn append<S: Store>(
     count: u64,
     body: &[u8],
 ) -> Result<String, AllocError> {
+    if body.is_empty() {
+        return String::from_str(alloc, "no body");
+    }
     match append_frames(alloc, store, count, body) {
         Ok(session) => format!(in alloc;
             "found {}, appended {}, size {}",
