@@ -1,0 +1,115 @@
+-- Walks over the rows of a forest.
+use Rattle.std.proofs.Common.{◌≡◌, ◌⊎◌, inl, inr, ◌∙◌, refl, sym, ap, ℕ, zero, suc, ◌+◌, ◌-◌, ◌<◌, ◌==◌, if◌then◌else◌, Bool, true, false, List, [], ◌∷◌, ◌++◌, Option, Some, None, IsSome, length, drop, get_or, slice_get, option_map, option_and_then, arith}
+use Rattle.std.proofs.lemmas.Bool.{cond-true, cond-false, cases_Bool, eq-eqb, ne_eqb}
+use Rattle.std.proofs.lemmas.List.{drop_more, length-append, append-nil, append_assoc}
+use Rattle.std.proofs.lemmas.Option.{same_Some}
+use Rattle.swf_frames.specs.Tree.{Strands, strand, no_strands, Branch, find, numbers, has_none, leaves}
+use Rattle.swf_frames.specs.Stacks.{Row, row_of, rows, links, number_at, IsLinked, is_child_of, under, strands_of}
+use Rattle.swf_frames.proofs.FindLemmas.{present}
+use Rattle.swf_frames.specs.declared.stack.Stack.{Stack}
+
+pub past_first : (m : ℕ) (xs : List ℕ) (i : ℕ) → 0 < i → slice_get (m ∷ xs) i ≡ slice_get xs (i - 1)
+past_first m xs zero h = absurd (omega arith)
+past_first m xs (suc i) h = ap (slice_get xs) (omega arith)
+
+none_in : (xs ys : List ℕ) → xs ++ ys ≡ [] → xs ≡ []
+none_in [] ys e = refl
+none_in (x ∷ xs) ys e = cc
+
+pub length_nil : (xs : List ℕ) → length xs ≡ 0 → xs ≡ []
+length_nil [] e = refl
+length_nil (x ∷ xs) e = absurd (omega arith)
+
+pub nothing_more : (xs ys zs : List ℕ) → zs ≡ xs ++ ys → length zs ≡ length xs → ys ≡ []
+nothing_more xs ys zs e l = length_nil ys (omega (arith, ap length e, length-append xs ys))
+
+module _ {F : Type 0} where
+  -- the rows from a place on begin with that of the stack there
+  pub rest_begins : (ss : List (Stack F)) (i : ℕ) (s : Stack F) → i < length ss → s ≡ get_or ss i s → rows (drop i ss) ≡ row_of s ∷ rows (drop (i + 1) ss)
+  rest_begins ss i s l e = ap rows (drop_more ss i s l) ∙ ap (λ (t : Stack F). row_of t ∷ rows (drop (i + 1) ss)) (sym e)
+
+  pub under_child : (p : ℕ) (ss : List (Stack F)) (i : ℕ) (s : Stack F) → i < length ss → s ≡ get_or ss i s → is_child_of p s.parent ≡ true → under p (rows (drop i ss)) ≡ strand s.strand s.frames.items (under s.strand (rows (drop (i + 1) ss))) (under p (rows (drop (i + 1) ss)))
+  under_child p ss i s l e h = ap (under p) (rest_begins ss i s l e) ∙ cond-true (is_child_of p s.parent) _ _ h
+
+  pub under_other : (p : ℕ) (ss : List (Stack F)) (i : ℕ) (s : Stack F) → i < length ss → s ≡ get_or ss i s → is_child_of p s.parent ≡ false → under p (rows (drop i ss)) ≡ under p (rows (drop (i + 1) ss))
+  under_other p ss i s l e h = ap (under p) (rest_begins ss i s l e) ∙ cond-false (is_child_of p s.parent) _ _ h
+
+  leaves_none : (x : Strands F) → leaves x ≡ [] → has_none x ≡ true
+  leaves_none no_strands e = refl
+  leaves_none (strand m fs below after) e =
+      elim (cases_Bool (has_none below)) [
+        | inl h ↦ (let k : m ∷ leaves after ≡ [] = ap (λ b. (if b then m ∷ [] else leaves below) ++ leaves after) (sym h) ∙ e in cc)
+        | inr h ↦ (let k : leaves below ≡ [] = none_in (leaves below) (leaves after) (ap (λ b. (if b then m ∷ [] else leaves below) ++ leaves after) (sym h) ∙ e) in
+            let t = leaves_none below k in cc)
+      ]
+
+  pub leaf_step : (m : ℕ) (fs : List F) (x y : Strands F) → leaves x ≡ [] → leaves (strand m fs x y) ≡ m ∷ leaves y
+  leaf_step m fs x y e = ap (λ b. (if b then m ∷ [] else leaves x) ++ leaves y) (leaves_none x e)
+
+  none_leaves : (x : Strands F) → has_none x ≡ true → leaves x ≡ []
+  none_leaves no_strands e = refl
+  none_leaves (strand m fs below after) e = cc
+
+  pub inner_step : (m : ℕ) (fs : List F) (x y : Strands F) → 0 < length (leaves x) → leaves (strand m fs x y) ≡ leaves x ++ leaves y
+  inner_step m fs x y h =
+      elim (cases_Bool (has_none x)) [
+        | inl t ↦ (let k = ap length (none_leaves x t) in absurd (omega arith))
+        | inr t ↦ ap (λ b. (if b then m ∷ [] else leaves x) ++ leaves y) t
+      ]
+
+  -- a leaf is told after those before it
+  pub leaf_told : (old new all : List ℕ) (m : ℕ) (fs : List F) (x y u : Strands F) → new ≡ old ++ leaves x → length new ≡ length old → u ≡ strand m fs x y → old ++ leaves u ≡ all → (new ++ m ∷ []) ++ leaves y ≡ all
+  leaf_told old new all m fs x y u e l h a =
+      let none = nothing_more old (leaves x) new e l in
+      let same : new ≡ old = e ∙ (ap (λ xs. old ++ xs) none ∙ append-nil old) in
+      append_assoc new (m ∷ []) (leaves y)
+      ∙ (ap (λ xs. xs ++ (m ∷ leaves y)) same
+      ∙ (ap (λ xs. old ++ xs) (sym (ap leaves h ∙ leaf_step m fs x y none)) ∙ a))
+
+  -- what is told of those below a strand that is no leaf
+  pub inner_told : (old new all : List ℕ) (m : ℕ) (fs : List F) (x y u : Strands F) → new ≡ old ++ leaves x → (length new ≡ length old → ⊥) → u ≡ strand m fs x y → old ++ leaves u ≡ all → new ++ leaves y ≡ all
+  inner_told old new all m fs x y u e l h a =
+      let some : 0 < length (leaves x) = omega (arith, ap length e, length-append old (leaves x), l) in
+      ap (λ xs. xs ++ leaves y) e
+      ∙ (append_assoc old (leaves x) (leaves y)
+      ∙ (ap (λ xs. old ++ xs) (sym (ap leaves h ∙ inner_step m fs x y some)) ∙ a))
+
+  pub root_leaf : (ss : List (Stack F)) (root : ℕ) → numbers (strands_of (rows ss)) ≡ root ∷ [] → leaves (under root (rows (drop 1 ss))) ≡ [] → leaves (strands_of (rows ss)) ≡ root ∷ []
+  root_leaf [] root e h = cc
+  root_leaf (s ∷ ss) root e h =
+      let same : s.strand ≡ root = cc in
+      leaf_step s.strand s.frames.items (under s.strand (rows ss)) no_strands (ap (λ n. leaves (under n (rows ss))) same ∙ h) ∙ ap (λ n. n ∷ []) same
+
+  pub root_inner : (ss : List (Stack F)) (root : ℕ) → numbers (strands_of (rows ss)) ≡ root ∷ [] → 0 < length (leaves (under root (rows (drop 1 ss)))) → leaves (strands_of (rows ss)) ≡ leaves (under root (rows (drop 1 ss)))
+  root_inner [] root e h = cc
+  root_inner (s ∷ ss) root e h =
+      let same : s.strand ≡ root = cc in
+      let below : leaves (under s.strand (rows ss)) ≡ leaves (under root (rows ss)) = ap (λ n. leaves (under n (rows ss))) same in
+      inner_step s.strand s.frames.items (under s.strand (rows ss)) no_strands (omega (arith, h, ap length below))
+      ∙ (append-nil (leaves (under s.strand (rows ss))) ∙ below)
+
+  pub number_row : (rs : List (Row F)) (i n : ℕ) → number_at rs i ≡ Some n → (r : Row F) × (slice_get rs i ≡ Some r) × (r.number ≡ n)
+  number_row [] i n e = cc
+  number_row (r ∷ rs) zero n e = (r, refl, same_Some r.number n e)
+  number_row (r ∷ rs) (suc i) n e = number_row rs i n e
+
+  pub rows_drop : (i : ℕ) (ss : List (Stack F)) → rows (drop i ss) ≡ drop i (rows ss)
+  rows_drop zero ss = refl
+  rows_drop (suc i) [] = refl
+  rows_drop (suc i) (s ∷ ss) = rows_drop i ss
+
+  -- what is below the strand at a place stands behind it
+  pub below_found : (ss : List (Stack F)) (next : ℕ) → IsLinked (links (rows ss)) next → (i n : ℕ) → number_at (rows ss) i ≡ Some n → option_map (λ b. b.below) (find (strands_of (rows ss)) n) ≡ Some (under n (rows (drop (i + 1) ss)))
+  below_found ss bound l i n e =
+      let r = number_row (rows ss) i n e in
+      let next_place : suc i ≡ i + 1 = omega arith in
+      let after : drop (suc i) (rows ss) ≡ rows (drop (i + 1) ss) = sym (rows_drop (suc i) ss) ∙ ap (λ k. rows (drop k ss)) next_place in
+      ap (λ m. option_map (λ b. b.below) (find (strands_of (rows ss)) m)) (sym r.2)
+      ∙ (ap (option_map (λ b. b.below)) (present (rows ss) bound l i r.0 r.1) ∙ λ j. Some (under (r.2 j) (after j)))
+
+  of_below : (o : Option (Branch F)) (x : Strands F) (k : ℕ) → option_map (λ b. b.below) o ≡ Some x → option_and_then (λ b. slice_get (numbers b.below) k) o ≡ slice_get (numbers x) k
+  of_below None x k e = cc
+  of_below (Some b) x k e = ap (λ y. slice_get (numbers y) k) (same_Some b.below x e)
+
+  pub child_found : (ss : List (Stack F)) (next : ℕ) → IsLinked (links (rows ss)) next → (i n k : ℕ) → number_at (rows ss) i ≡ Some n → option_and_then (λ b. slice_get (numbers b.below) k) (find (strands_of (rows ss)) n) ≡ slice_get (numbers (under n (rows (drop (i + 1) ss)))) k
+  child_found ss next l i n k e = of_below (find (strands_of (rows ss)) n) (under n (rows (drop (i + 1) ss))) k (below_found ss next l i n e)

@@ -1,0 +1,11 @@
+pub mod FindLemmas
+pub mod ChangeLemmas
+pub mod SearchLemmas
+pub mod ViewLemmas
+pub mod FamilyLemmas
+pub mod SiftLemmas
+pub mod AboveLemmas
+pub mod SplitLemmas
+pub mod CloseLemmas
+pub mod RoomLemmas
+pub mod GrowLemmas

@@ -1,0 +1,6 @@
+pub mod Tree
+pub mod TreeCode
+pub mod Stacks
+pub mod Lends
+pub mod Faults
+pub mod Room
