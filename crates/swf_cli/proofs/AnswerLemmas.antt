@@ -11,7 +11,7 @@ use Rattle.swf_store.specs.declared.said.Piece.{Piece}
 use Rattle.swf_store.specs.Said.{IsSaid}
 use Rattle.swf_meaning.specs.declared.label.Label.{Label}
 use Rattle.swf_meaning.specs.declared.label.Outcome.{Outcome}
-use Rattle.swf_meaning.specs.declared.label.Outcome.TheVariants.{Load, Start}
+use Rattle.swf_meaning.specs.declared.label.Outcome.TheVariants.{Load, Start, Moment}
 use Rattle.swf_meaning.specs.declared.label.Query.{Query}
 use Rattle.swf_meaning.specs.declared.label.Query.TheVariants.{Status as OfStatus, History as OfHistory}
 use Rattle.swf_meaning.specs.declared.label.Answer.{Answer}
@@ -26,7 +26,7 @@ use Rattle.swf_world.specs.declared.query.QueryFault.TheVariants.{OutOfMemory as
 use Rattle.swf_world.specs.Latest.{label_of}
 use Rattle.swf_world.specs.Refusals.{refusal}
 use Rattle.swf_world.specs.declared.refusal.Refusal.{Refusal}
-use Rattle.swf_world.specs.declared.refusal.Refusal.TheVariants.{Refused as NotRead, Duplicate, UnknownDocument, UnknownInstance, Full as TooMany, NotEnabled}
+use Rattle.swf_world.specs.declared.refusal.Refusal.TheVariants.{Refused as NotRead, Duplicate, UnknownDocument, UnknownInstance, Past, Full as TooMany, NotEnabled}
 use Rattle.swf_engine.specs.declared.engine.Settled.{Settled as HasSettled}
 use Rattle.swf_engine.specs.declared.engine.Submitted.{Submitted}
 use Rattle.swf_engine.specs.declared.engine.Submitted.TheVariants.{Accepted, Refused}
@@ -46,28 +46,33 @@ use Rattle.swf_protocol.specs.declared.command.Command.{Command}
 use Rattle.swf_protocol.specs.declared.command.Command.TheVariants.{Do, Ask, Settle, Quit}
 use Rattle.swf_protocol.specs.declared.command.LineFault.{LineFault}
 use Rattle.swf_protocol.specs.declared.reply.Reply.{Reply}
-use Rattle.swf_protocol.specs.declared.reply.Reply.TheVariants.{Loaded, Started, Memory}
+use Rattle.swf_protocol.specs.declared.reply.Reply.TheVariants.{Memory}
 use Rattle.swf_cli.specs.Follows.{MayAdd}
 use Rattle.swf_cli.specs.Steps.{CommandDone, LineDone, Passes, Stand, IsFilled, IsBreak, or_memory, queried}
-use Rattle.swf_cli.specs.Turns.{Outcomes, Settled, Lacks, LineTurn, accepted, refused, is_load, settle_reply, query_reply}
+use Rattle.swf_cli.specs.Turns.{Outcomes, Settled, Lacks, LineTurn, accepted, refused, settle_reply, query_reply}
+use Rattle.swf_cli.specs.Sorts.{sort_of, accepted_as}
+use Rattle.swf_cli.specs.declared.answer.Sort.{Sort}
 use Rattle.swf_cli.specs.declared.words.Words.{Words}
 
 -- the label of an outcome has its value
 pub shallow_nests : (w : World) (o : Outcome) → IsModest (Do o) → Nests (label_of w o)
 shallow_nests w (Load v) m = m
 shallow_nests w (Start id key input) m = m
+shallow_nests w (Moment moment) m = m
 
-accepted_by : (o : Outcome) (n : ℕ) → (if is_load o then Loaded n else Started n) ≡ accepted o n
+accepted_by : (o : Outcome) (n : ℕ) → accepted_as (sort_of o) n ≡ accepted o n
 accepted_by (Load v) n = refl
 accepted_by (Start id key input) n = refl
+accepted_by (Moment moment) n = refl
 
 accepted_sayable : (o : Outcome) (n : ℕ) → n ≤ 2 ^ 40 → IsSayable (accepted o n)
 accepted_sayable (Load v) n h = h
 accepted_sayable (Start id key input) n h = h
+accepted_sayable (Moment moment) n h = h
 
 -- what the code says of an outcome that was taken
-pub accepted_as : (o : Outcome) (n : ℕ) (b : Bool) (reply : Reply) → b ≡ is_load o → reply ≡ (if b then Loaded n else Started n) → accepted o n ≡ reply
-accepted_as o n b reply e is = sym (is ∙ ap (λ (c : Bool). if c then Loaded n else Started n) e ∙ accepted_by o n)
+pub accepted_so : (o : Outcome) (n : ℕ) (s : Sort) (reply : Reply) → s ≡ sort_of o → reply ≡ accepted_as s n → accepted o n ≡ reply
+accepted_so o n s reply e is = sym (is ∙ ap (λ (x : Sort). accepted_as x n) e ∙ accepted_by o n)
 
 pub said_accepted : (o : Outcome) (n : ℕ) (reply : Reply) → accepted o n ≡ reply → n ≤ 2 ^ 40 → IsSayable reply
 said_accepted o n reply e h = subst IsSayable e (accepted_sayable o n h)
@@ -77,6 +82,7 @@ refused_sayable (NotRead faults) h = tt
 refused_sayable (Duplicate place) h = h
 refused_sayable UnknownDocument h = tt
 refused_sayable UnknownInstance h = tt
+refused_sayable (Past now) h = tt
 refused_sayable TooMany h = tt
 refused_sayable NotEnabled h = tt
 

@@ -8,3 +8,4 @@ pub mod Steps
 pub mod Finish
 pub mod Shown
 pub mod Running
+pub mod Sorts

@@ -2,7 +2,7 @@
 use Rattle.std.specs.Prelude.{◌≡◌, ◌⊎◌, ℕ, List, [], ◌∷◌, ◌++◌, Bool, true, false, length, nat_lt, Option, Some, None, Result, Ok, Err, unwrap_or, if◌then◌else◌, flat_map, map}
 use Rattle.swf_meaning.specs.declared.label.Label.{Label}
 use Rattle.swf_meaning.specs.declared.label.Outcome.{Outcome}
-use Rattle.swf_meaning.specs.declared.label.Outcome.TheVariants.{Load, Start}
+use Rattle.swf_meaning.specs.declared.label.Outcome.TheVariants.{Load, Start, Moment}
 use Rattle.swf_meaning.specs.Runs.{world_at, is_quiet}
 use Rattle.swf_meaning.specs.World.{World}
 use Rattle.swf_host.specs.declared.host.Input.{Input}
@@ -11,7 +11,7 @@ use Rattle.swf_world.specs.Answers.{answer}
 use Rattle.swf_world.specs.Latest.{label_of}
 use Rattle.swf_world.specs.Refusals.{refusal}
 use Rattle.swf_world.specs.declared.refusal.Refusal.{Refusal}
-use Rattle.swf_world.specs.declared.refusal.Refusal.TheVariants.{Refused as NotRead, Duplicate as Used, UnknownDocument as NoDocument, UnknownInstance as NoInstance, Full as TooMany, NotEnabled}
+use Rattle.swf_world.specs.declared.refusal.Refusal.TheVariants.{Refused as NotRead, Duplicate as Used, UnknownDocument as NoDocument, UnknownInstance as NoInstance, Past as Early, Full as TooMany, NotEnabled}
 use Rattle.swf_meaning.specs.declared.label.Answer.{Answer}
 use Rattle.swf_meaning.specs.declared.label.Answer.TheVariants.{Status, History}
 use Rattle.swf_world.specs.declared.query.QueryFault.{QueryFault}
@@ -21,7 +21,7 @@ use Rattle.swf_protocol.specs.declared.command.Command.{Command}
 use Rattle.swf_protocol.specs.declared.command.Command.TheVariants.{Do, Ask, Settle, Quit}
 use Rattle.swf_protocol.specs.declared.command.LineFault.{LineFault}
 use Rattle.swf_protocol.specs.declared.reply.Reply.{Reply}
-use Rattle.swf_protocol.specs.declared.reply.Reply.TheVariants.{Loaded, Started, Quiet, Budget, Report, History as Labels, Quit as Bye, BadLine, TooLong, Refused, Duplicate, UnknownDocument, UnknownInstance, Full, Memory}
+use Rattle.swf_protocol.specs.declared.reply.Reply.TheVariants.{Loaded, Started, Reached, Quiet, Budget, Report, History as Labels, Quit as Bye, BadLine, TooLong, Refused, Duplicate, UnknownDocument, UnknownInstance, Past, Full, Memory}
 use Rattle.swf_cli.specs.declared.words.Words.{Words}
 
 pub record Turn : Type 0 where
@@ -33,14 +33,11 @@ pub record Turn : Type 0 where
 abbrev pub most_line : ℕ
 most_line = 1048576
 
-abbrev pub is_load : Outcome → Bool
-is_load (Load v) = true
-is_load (Start id key input) = false
-
 -- the reply to an outcome whose label was added at this place
 abbrev pub accepted : Outcome → ℕ → Reply
 accepted (Load v) place = Loaded place
 accepted (Start id key input) place = Started place
+accepted (Moment moment) place = Reached place
 
 -- the reply to an outcome that was refused
 abbrev pub refused : Refusal → Reply
@@ -48,6 +45,7 @@ refused (NotRead faults) = Refused faults
 refused (Used place) = Duplicate place
 refused NoDocument = UnknownDocument
 refused NoInstance = UnknownInstance
+refused (Early now) = Past now
 refused TooMany = Full
 refused NotEnabled = UnknownInstance
 

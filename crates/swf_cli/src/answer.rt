@@ -1,11 +1,12 @@
 // What a line is answered, and what it adds to the journal.
-ghost use Rattle.std.specs.Prelude.{◌≡◌, ◌≤◌, Ok, IfOk, is_some, if◌then◌else◌};
+ghost use Rattle.std.specs.Prelude.{◌≡◌, ◌≤◌, Ok, IfOk, is_some};
 ghost use Rattle.swf_engine.specs.Causes.{EngineCause, WhereUsable};
 ghost use Rattle.swf_engine.specs.Core.{IsEngineOf};
 ghost use Rattle.swf_protocol.specs.Line.{command_of, is_quit};
 ghost use Rattle.swf_protocol.specs.Sayable.{IsSayable, IsModest};
 ghost use Rattle.swf_cli.specs.Steps.{LineDone, reply_of, or_memory, queried, IsBreak};
-ghost use Rattle.swf_cli.specs.Turns.{is_load, refused, settle_reply};
+ghost use Rattle.swf_cli.specs.Sorts.{sort_of, accepted_as};
+ghost use Rattle.swf_cli.specs.Turns.{refused, settle_reply};
 ghost use Rattle.swf_cli.specs.declared.words.Words.{Words as Meaning};
 
 use crate::words::Words;
@@ -23,14 +24,32 @@ pub struct Answered {
     pub ends: bool,
 }
 
-// The reply to an outcome whose label was added at this place.
-fn accepted(is_load: bool, place: u64) -> Reply
-    ensures { result ≡ (if is_load then Reply.Loaded place else Reply.Started place) }
+/// What kind of outcome was handed in.
+#[derive(Clone, Copy, Debug, PartialEq, Eq)]
+pub enum Sort {
+    Load,
+    Start,
+    Moment,
+}
+
+fn sort_of(outcome: &Outcome) -> Sort
+    ensures { result ≡ sort_of outcome.now }
 {
-    if is_load {
-        Reply::Loaded(place)
-    } else {
-        Reply::Started(place)
+    match outcome {
+        Outcome::Load(_) => Sort::Load,
+        Outcome::Start { .. } => Sort::Start,
+        Outcome::Moment(_) => Sort::Moment,
+    }
+}
+
+// The reply to an outcome whose label was added at this place.
+fn accepted(sort: Sort, place: u64) -> Reply
+    ensures { result ≡ accepted_as sort place }
+{
+    match sort {
+        Sort::Load => Reply::Loaded(place),
+        Sort::Start => Reply::Started(place),
+        Sort::Moment => Reply::Reached(place),
     }
 }
 
@@ -42,15 +61,10 @@ fn refused(refusal: Refusal) -> Reply
         Refusal::Duplicate { place } => Reply::Duplicate(place),
         Refusal::UnknownDocument => Reply::UnknownDocument,
         Refusal::UnknownInstance => Reply::UnknownInstance,
+        Refusal::Past { now } => Reply::Past(now),
         Refusal::Full => Reply::Full,
         Refusal::NotEnabled => Reply::UnknownInstance,
     }
-}
-
-fn is_load(outcome: &Outcome) -> bool
-    ensures { result ≡ is_load outcome.now }
-{
-    matches!(outcome, Outcome::Load(_))
 }
 
 // A call of the engine that found no memory is answered so.
@@ -81,9 +95,9 @@ fn submit<S: Store>(
     ensures honest { is_some (S.seen store.new) ≡ is_some (S.seen store.old) }
     ensures cause { EngineCause (S.store_faults store.old) (S.store_faults store.new) result }
 {
-    let is_load = is_load(&outcome);
+    let sort = sort_of(&outcome);
     match engine.submit(store, outcome) {
-        Ok(Submitted::Accepted(installed)) => Ok(accepted(is_load, installed.place)),
+        Ok(Submitted::Accepted(installed)) => Ok(accepted(sort, installed.place)),
         Ok(Submitted::Refused(refusal)) => Ok(refused(refusal)),
         Err(fault) => or_memory(fault),
     }

@@ -10,7 +10,7 @@ use Rattle.swf_world.specs.Refusals.{refusal}
 use Rattle.swf_world.specs.declared.refusal.PrepareFault.{PrepareFault}
 use Rattle.swf_world.specs.declared.refusal.PrepareFault.TheVariants as unready
 use Rattle.swf_world.specs.declared.refusal.Refusal.{Refusal}
-use Rattle.swf_world.specs.declared.refusal.Refusal.TheVariants.{Refused as NotRead, Duplicate, UnknownDocument, UnknownInstance, Full as TooMany, NotEnabled}
+use Rattle.swf_world.specs.declared.refusal.Refusal.TheVariants.{Refused as NotRead, Duplicate, UnknownDocument, UnknownInstance, Full as TooMany, Past, NotEnabled}
 use Rattle.swf_engine.specs.declared.engine.Settled.{Settled}
 use Rattle.swf_engine.specs.declared.engine.Submitted.{Submitted}
 use Rattle.swf_engine.specs.declared.engine.Submitted.TheVariants.{Accepted, Refused}
@@ -34,6 +34,7 @@ IsSmallRefusal (Duplicate place) = place ≤ most_bytes
 IsSmallRefusal UnknownDocument = Unit {0}
 IsSmallRefusal UnknownInstance = Unit {0}
 IsSmallRefusal TooMany = Unit {0}
+IsSmallRefusal (Past now) = Unit {0}
 IsSmallRefusal NotEnabled = Unit {0}
 
 -- the place of an answer is one of a journal of at most so many bytes

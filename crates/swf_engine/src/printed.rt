@@ -7,6 +7,7 @@ ghost use Rattle.swf_meaning.specs.Printed.{key_text, printed};
 
 use std::alloc::{AllocError, Global};
 use swf_document::DocKey;
+use swf_duration::Moment;
 use swf_meaning::Label;
 use swf_text::{Strand, Text, TextBuilder, word};
 use swf_value::{Json, Member, member};
@@ -52,6 +53,17 @@ fn print_start(alloc: Global, id: &Text, key: &DocKey, input: &Json) -> Result<J
     Json::object(alloc, members)
 }
 
+// A moment is at most 4,503,599,627,370,495.
+fn print_moment(alloc: Global, moment: Moment) -> Result<Json, AllocError>
+    ensures { IfOk result (λ v. v ≡ printed (Label.Moment moment)) }
+{
+    let mut members = Vec::new(alloc);
+    members.push(label_member(alloc, "moment")?)?;
+    let number = Json::int(moment.milliseconds() as i64);
+    members.push(member(alloc, "moment", number)?)?;
+    Json::object(alloc, members)
+}
+
 fn print_strand(alloc: Global, strand: &Strand) -> Result<Json, AllocError>
     ensures { IfOk result (λ v. v ≡ list (items_of (map (λ n. int (pos n)) strand.now))) }
 {
@@ -79,6 +91,7 @@ pub fn print_label(alloc: Global, label: &Label) -> Result<Json, AllocError>
     match label {
         Label::Load(document) => print_load(alloc, document),
         Label::Start { id, key, input } => print_start(alloc, id, key, input),
+        Label::Moment(moment) => print_moment(alloc, *moment),
         Label::Step { id, strand } => print_step(alloc, id, strand),
     }
 }

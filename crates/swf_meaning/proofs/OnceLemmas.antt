@@ -1,7 +1,7 @@
 -- In a legal run no key is used twice.
-use Rattle.std.proofs.Common.{◌≡◌, ◌∙◌, ap, sym, refl, subst, ℕ, List, [], ◌∷◌, ◌++◌, Bool, true, false, not, ◌&&◌, ◌||◌, if◌then◌else◌, is_some, Option, Some, None, option_map, option_and_then, unwrap_or, codes, nat_le, length}
+use Rattle.std.proofs.Common.{arith, ◌⊎◌, inl, inr, ⊎_elim, ◌≡◌, ◌∙◌, ap, sym, refl, subst, ℕ, List, [], ◌∷◌, ◌++◌, Bool, true, false, not, ◌&&◌, ◌||◌, ◌≤◌, ◌==◌, if◌then◌else◌, is_some, Option, Some, None, option_map, option_and_then, unwrap_or, codes, nat_le, length}
 use Rattle.std.specs.List.{list_any, filter_map, cons_option}
-use Rattle.std.proofs.lemmas.Bool.{and_parts, or_parts, or_left, or_right, or_from, and_from, not_from_false, false_from_ne_true, both_ways}
+use Rattle.std.proofs.lemmas.Bool.{and_parts, or_parts, or_left, or_right, or_from, and_from, not_from_false, false_from_ne_true, both_ways, leb-false, eqb-true, eq-eqb}
 use Rattle.std.proofs.lemmas.Option.{cond_some, option_and_then_some, same_Some}
 use Rattle.std.proofs.lemmas.List.Folds.{list_any-append}
 use Rattle.swf_value.specs.Value.{Value}
@@ -12,10 +12,10 @@ use Rattle.swf_document.specs.declared.document.DocKey.{DocKey}
 use Rattle.swf_document.specs.declared.document.Document.{Document}
 use Rattle.swf_document.specs.declared.fault.Fault.{Fault}
 use Rattle.swf_meaning.specs.declared.label.Label.{Label}
-use Rattle.swf_meaning.specs.declared.label.Label.TheVariants.{Load, Start, Step}
-use Rattle.swf_meaning.specs.Keys.{Key, Document as OfDocument, Instance as OfInstance, same_key, doc_key, key_of, are_distinct, Once}
+use Rattle.swf_meaning.specs.declared.label.Label.TheVariants.{Load, Start, Moment, Step}
+use Rattle.swf_meaning.specs.Keys.{Key, Document as OfDocument, Instance as OfInstance, Moment as OfMoment, same_key, doc_key, key_of, are_distinct, Once}
 use Rattle.swf_meaning.specs.World.{World, empty, new_instance, is_root}
-use Rattle.swf_meaning.specs.After.{is_used, with_document, loaded, load_faults, if_none, accepted, most_documents, document_at, with_instance, most_instances, stepped, with_instances, after}
+use Rattle.swf_meaning.specs.After.{is_used, with_document, loaded, load_faults, if_none, accepted, most_documents, document_at, with_instance, most_instances, stepped, with_instances, counted, started, reached, after}
 use Rattle.swf_meaning.specs.Runs.{run_from, Legal}
 
 -- what is mapped to a value is a value
@@ -43,8 +43,8 @@ same_key_true (OfDocument a) (OfDocument b) e =
     let version = same_true a.version b.version p.1 in
     λ i. OfDocument (record { namespace = namespace i; name = name i; version = version i })
 same_key_true (OfInstance a) (OfInstance b) e = ap OfInstance (same_true a b e)
-same_key_true (OfDocument a) (OfInstance b) e = cc
-same_key_true (OfInstance a) (OfDocument b) e = cc
+same_key_true (OfMoment a) (OfMoment b) e = ap OfMoment (eqb-true a b e)
+same_key_true a b e = cc
 
 -- a key passes the test with itself
 pub same_key_refl : (k : Key) → same_key k k ≡ true
@@ -53,6 +53,7 @@ same_key_refl (OfDocument d) =
     (and_from (same d.namespace d.namespace) (same d.name d.name) (same_refl d.namespace) (same_refl d.name))
     (same_refl d.version)
 same_key_refl (OfInstance id) = same_refl id
+same_key_refl (OfMoment m) = eq-eqb m m refl
 
 -- a value that can be loaded is its document
 pub if_none_some : (e : Document) (fs : List Fault) (d : Document) → if_none e fs ≡ Some d → e ≡ d
@@ -77,16 +78,65 @@ loaded_grown w m v d e =
     let h = refused_some (is_used (OfDocument d.key) w || nat_le most_documents (length w.documents)) (Some (with_document w v d)) m e in
     ((or_parts (is_used (OfDocument d.key) w) (nat_le most_documents (length w.documents)) h.0).0, ap (λ u. u.keys) (sym (same_Some (with_document w v d) m h.1)))
 
+-- no moment was reached that is above the present one
+abbrev Timed : World → Type 0
+Timed w = (t : ℕ) → is_used (OfMoment t) w ≡ true → t ≤ w.now
+
+not_reached : (w : World) (t : ℕ) → Timed w → nat_le t w.now ≡ false → is_used (OfMoment t) w ≡ false
+not_reached w t timed p = false_from_ne_true (is_used (OfMoment t) w) (λ u. omega (arith, timed t u, leb-false t w.now p))
+
 -- a label that has a key asks for a new one, which it uses
-after_grown : (w m : World) (l : Label) → after w l ≡ Some m → Grown (key_of l) w m
-after_grown w m (Load v) e = option_and_then_some (loaded w v) (accepted v) m e
+after_grown : (w m : World) (l : Label) → Timed w → after w l ≡ Some m → Grown (key_of l) w m
+after_grown w m (Load v) timed e = option_and_then_some (loaded w v) (accepted v) m e
     (λ d p q. subst (λ k. Grown (Some (OfDocument k)) w m) (sym (doc_key_read v d p)) (loaded_grown w m v d q))
-after_grown w m (Start id key input) e =
+after_grown w m (Start id key input) timed e =
     let h = refused_some (is_used (OfInstance id) w || nat_le most_instances (length w.instances)) (option_map (λ d. with_instance w (new_instance id input w.now d)) (document_at key w.documents)) m e in
     ((or_parts (is_used (OfInstance id) w) (nat_le most_instances (length w.instances)) h.0).0, mapped_some (λ d. with_instance w (new_instance id input w.now d)) (document_at key w.documents) m h.1 (λ d p q. ap (λ u. u.keys) (sym q)))
-after_grown w m (Step id strand) e =
-    let h = chosen_some (is_root strand) (option_map (with_instances w) (stepped id w.instances)) m e in
-    mapped_some (with_instances w) (stepped id w.instances) m h (λ is p q. ap (λ u. u.keys) (sym q))
+after_grown w m (Moment t) timed e =
+    let h = refused_some (nat_le t w.now) (Some (record (counted (OfMoment t) w) { now = t })) m e in
+    (not_reached w t timed h.0, ap (λ u. u.keys) (sym (same_Some (record (counted (OfMoment t) w) { now = t }) m h.1)))
+after_grown w m (Step id strand) timed e =
+    let h = chosen_some (is_root strand) (option_map (with_instances w) (stepped w.now id w.instances)) m e in
+    mapped_some (with_instances w) (stepped w.now id w.instances) m h (λ is p q. ap (λ u. u.keys) (sym q))
+
+-- a key that is used after a label was used before it, or is the label's
+used_before : (o : Option Key) (w m : World) (k : Key) → Grown o w m → is_used k m ≡ true → (is_used k w ≡ true) ⊎ (o ≡ Some k)
+used_before None w m k g u = inl (sym (ap (list_any (λ p. same_key k p.0)) g) ∙ u)
+used_before (Some a) w m k g u =
+    by (is_used k w) (same_key k a) refl refl (sym (ap (list_any (λ p. same_key k p.0)) g.1 ∙ list_any-append (λ p. same_key k p.0) w.keys ((a, w.count) ∷ [])) ∙ u)
+  where
+    by : (b c : Bool) → is_used k w ≡ b → same_key k a ≡ c → (b || (c || false)) ≡ true → (is_used k w ≡ true) ⊎ (Some a ≡ Some k)
+    by true c p q h = inl p
+    by false true p q h = inr (ap Some (sym (same_key_true k a q)))
+    by false false p q h = cc
+
+-- the present moment does not fall, and a moment that is reached is the present one
+abbrev Later : Label → World → World → Type 0
+Later l w m = (w.now ≤ m.now) × ((t : ℕ) → key_of l ≡ Some (OfMoment t) → t ≤ m.now)
+
+same_now : (l : Label) (w m : World) → m.now ≡ w.now → ((t : ℕ) → key_of l ≡ Some (OfMoment t) → ⊥) → Later l w m
+same_now l w m e none = (omega (arith, e), λ t k. absurd (none t k))
+
+later : (w m : World) (l : Label) → after w l ≡ Some m → Later l w m
+later w m (Load v) e = option_and_then_some (loaded w v) (accepted v) m e
+    (λ d p q.
+    let h = refused_some (is_used (OfDocument d.key) w || nat_le most_documents (length w.documents)) (Some (with_document w v d)) m q in
+    same_now (Load v) w m (ap (λ u. u.now) (sym (same_Some (with_document w v d) m h.1))) (λ t k. cc))
+later w m (Start id key input) e =
+    let h = refused_some (is_used (OfInstance id) w || nat_le most_instances (length w.instances)) (option_map (λ d. with_instance w (new_instance id input w.now d)) (document_at key w.documents)) m e in
+    same_now (Start id key input) w m (mapped_some (λ d. with_instance w (new_instance id input w.now d)) (document_at key w.documents) m h.1 (λ d p q. ap (λ u. u.now) (sym q))) (λ t k. cc)
+later w m (Moment t) e =
+    let h = refused_some (nat_le t w.now) (Some (record (counted (OfMoment t) w) { now = t })) m e in
+    let n : t ≡ m.now = ap (λ u. u.now) (same_Some (record (counted (OfMoment t) w) { now = t }) m h.1) in
+    (omega (arith, n, leb-false t w.now h.0), λ u k. let same : t ≡ u = cc in omega (arith, n, same))
+later w m (Step id strand) e =
+    let h = chosen_some (is_root strand) (option_map (with_instances w) (stepped w.now id w.instances)) m e in
+    same_now (Step id strand) w m (mapped_some (with_instances w) (stepped w.now id w.instances) m h (λ is p q. ap (λ u. u.now) (sym q))) (λ t k. cc)
+
+timed_after : (w m : World) (l : Label) → Timed w → after w l ≡ Some m → Timed m
+timed_after w m l timed e t u =
+    let f = later w m l e in
+    ⊎_elim (λ p. omega (arith, timed t p, f.0)) (λ q. f.1 t q) (used_before (key_of l) w m (OfMoment t) (after_grown w m l timed e) u)
 
 -- a key that was used stays so
 still_used : (o : Option Key) (w m : World) (k : Key) → Grown o w m → is_used k w ≡ true → is_used k m ≡ true
@@ -116,22 +166,24 @@ not_here None w m k ks g u f = f (still_used None w m k g u)
 not_here (Some a) w m k ks g u f = or_from (same_key k a) (list_any (same_key k) ks) (not_new w k a g.0 u) (f (still_used (Some a) w m k g u))
 
 -- a used key is not the key of a later label
-not_later : (ls : List Label) (w : World) (k : Key) → is_some (run_from w ls) ≡ true → is_used k w ≡ true → list_any (same_key k) (filter_map key_of ls) ≡ false
-not_later [] w k r u = refl
-not_later (l ∷ ls) w k r u = first_world (after w l) ls r (λ m p q. not_here (key_of l) w m k (filter_map key_of ls) (after_grown w m l p) u (λ t. not_later ls m k q t))
+not_later : (ls : List Label) (w : World) (k : Key) → Timed w → is_some (run_from w ls) ≡ true → is_used k w ≡ true → list_any (same_key k) (filter_map key_of ls) ≡ false
+not_later [] w k timed r u = refl
+not_later (l ∷ ls) w k timed r u =
+    first_world (after w l) ls r (λ m p q. not_here (key_of l) w m k (filter_map key_of ls) (after_grown w m l timed p) u (λ t. not_later ls m k (timed_after w m l timed p) q t))
 
 -- the key of the first label is not that of a later one
-once_here : (o : Option Key) (w m : World) (ls : List Label) → Grown o w m → is_some (run_from m ls) ≡ true → Once ls → are_distinct (cons_option o (filter_map key_of ls)) ≡ true
-once_here None w m ls g r h = h
-once_here (Some k) w m ls g r h =
-    let n = not_later ls m k r (now_used w m k g) in
+once_here : (o : Option Key) (w m : World) (ls : List Label) → Timed m → Grown o w m → is_some (run_from m ls) ≡ true → Once ls → are_distinct (cons_option o (filter_map key_of ls)) ≡ true
+once_here None w m ls timed g r h = h
+once_here (Some k) w m ls timed g r h =
+    let n = not_later ls m k timed r (now_used w m k g) in
     and_from (not (list_any (same_key k) (filter_map key_of ls))) (are_distinct (filter_map key_of ls)) (not_from_false (list_any (same_key k) (filter_map key_of ls)) n) h
 
--- no run uses a key twice, from whatever world
-pub once_from : (w : World) (ls : List Label) → is_some (run_from w ls) ≡ true → Once ls
-once_from w [] r = refl
-once_from w (l ∷ ls) r = first_world (after w l) ls r (λ m p q. once_here (key_of l) w m ls (after_grown w m l p) q (once_from m ls q))
+-- no run uses a key twice, from a world whose moments have come
+once_from : (w : World) (ls : List Label) → Timed w → is_some (run_from w ls) ≡ true → Once ls
+once_from w [] timed r = refl
+once_from w (l ∷ ls) timed r =
+    first_world (after w l) ls r (λ m p q. let u = timed_after w m l timed p in once_here (key_of l) w m ls u (after_grown w m l timed p) q (once_from m ls u q))
 
 -- no legal run uses a key twice
 pub once_of_legal : (h : List Label) → Legal h → Once h
-once_of_legal h r = once_from empty h r
+once_of_legal h r = once_from empty h (λ t u. cc) r

@@ -8,11 +8,11 @@ use Rattle.swf_validate.specs.Accepts.{faults}
 use Rattle.swf_document.specs.declared.document.DocKey.{DocKey}
 use Rattle.swf_document.specs.declared.document.Document.{Document}
 use Rattle.swf_meaning.specs.declared.label.Label.{Label}
-use Rattle.swf_meaning.specs.declared.label.Label.TheVariants.{Load, Start, Step}
+use Rattle.swf_meaning.specs.declared.label.Label.TheVariants.{Load, Start, Moment, Step}
 use Rattle.swf_document.specs.declared.fault.Fault.{Fault}
 use Rattle.swf_meaning.specs.Built.{not_built}
 use Rattle.swf_meaning.specs.Local.{local}
-use Rattle.swf_meaning.specs.Keys.{Key, Document as OfDocument, Instance as OfInstance, same_doc, same_key}
+use Rattle.swf_meaning.specs.Keys.{Key, Document as OfDocument, Instance as OfInstance, Moment as OfMoment, same_doc, same_key}
 use Rattle.swf_meaning.specs.World.{Instance, Loaded, World, sight, new_instance, with_step, is_root}
 
 abbrev pub most_documents : ℕ
@@ -63,11 +63,15 @@ with_instance w i = record (counted (OfInstance i.id) w) { instances = w.instanc
 abbrev pub started : World → List ℕ → DocKey → Value → Option World
 started w id key input = if is_used (OfInstance id) w || nat_le most_instances (length w.instances) then None else option_map (λ d. with_instance w (new_instance id input w.now d)) (document_at key w.documents)
 
--- the instances after the one of that id took a step; none where there is none or it cannot
-abbrev pub stepped : List ℕ → List Instance → Option (List Instance)
-stepped id [] = None
-stepped id (i ∷ is) =
-    if same id i.id then option_map (λ m. with_step i m ∷ is) (local (sight i) i.node) else option_map (λ js. i ∷ js) (stepped id is)
+-- a moment that is above the one that was reached
+abbrev pub reached : World → ℕ → Option World
+reached w moment = if nat_le moment w.now then None else Some (record (counted (OfMoment moment) w) { now = moment })
+
+-- the instances after the one of that id took a step at a moment; none where there is none or it cannot
+abbrev pub stepped : ℕ → List ℕ → List Instance → Option (List Instance)
+stepped now id [] = None
+stepped now id (i ∷ is) =
+    if same id i.id then option_map (λ m. with_step i m ∷ is) (local (sight now i) i.node) else option_map (λ js. i ∷ js) (stepped now id is)
 
 abbrev pub with_instances : World → List Instance → World
 with_instances w is = record w { instances = is; count = w.count + 1 }
@@ -76,4 +80,5 @@ with_instances w is = record w { instances = is; count = w.count + 1 }
 abbrev pub after : World → Label → Option World
 after w (Load v) = option_and_then (loaded w v) (accepted v)
 after w (Start id key input) = started w id key input
-after w (Step id strand) = if is_root strand then option_map (with_instances w) (stepped id w.instances) else None
+after w (Moment moment) = reached w moment
+after w (Step id strand) = if is_root strand then option_map (with_instances w) (stepped w.now id w.instances) else None

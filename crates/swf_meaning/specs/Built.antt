@@ -1,22 +1,26 @@
 -- Which kinds of task are built, and so which documents can be loaded.
 use Rattle.std.specs.Prelude.{ℕ, List, [], ◌∷◌, Bool, true, false, Option, Some, None, if◌then◌else◌}
-use Rattle.swf_document.specs.Task.{Tasks, no_tasks, named, Task, task, Kind, do_all, raise, set, switch}
+use Rattle.swf_document.specs.Task.{Tasks, no_tasks, named, Task, task, Kind, do_all, for, raise, set, switch, try, wait, Handler, no_handler, handler}
 use Rattle.swf_document.specs.declared.document.Document.{Document}
 use Rattle.swf_document.specs.declared.fault.Fault.{Fault}
 use Rattle.swf_document.specs.declared.fault.FaultKind.TheVariants.{NotInProfile}
 
 abbrev pub is_built : Kind → Bool
 is_built (do_all ts) = true
+is_built (for l ts) = true
 is_built (raise e) = true
 is_built (set e) = true
 is_built (switch cs) = true
+is_built (try c ts h) = true
+is_built (wait d) = true
 is_built k = false
 
 abbrev pub or_else : {A : Type 0} → Option A → Option A → Option A
 or_else (Some a) b = Some a
 or_else None b = b
 
--- the place of the first task of a kind that is not built, a task before those in it
+-- the place of the first task of a kind that is not built: a task before those in it, and a handler before the list whose
+-- errors it handles
 abbrev mutual
   pub unbuilt : Tasks → Option (List (List ℕ))
   unbuilt no_tasks = None
@@ -27,7 +31,13 @@ abbrev mutual
 
   unbuilt_kind : Kind → Option (List (List ℕ))
   unbuilt_kind (do_all ts) = unbuilt ts
+  unbuilt_kind (for l ts) = unbuilt ts
+  unbuilt_kind (try c ts h) = or_else (unbuilt_handler h) (unbuilt ts)
   unbuilt_kind k = None
+
+  unbuilt_handler : Handler → Option (List (List ℕ))
+  unbuilt_handler no_handler = None
+  unbuilt_handler (handler ts) = unbuilt ts
 
 abbrev pub fault_at : Option (List (List ℕ)) → List Fault
 fault_at None = []

@@ -1,5 +1,5 @@
 -- Codes for labels, nodes and worlds, by which a ghost name tells them apart.
-use Rattle.std.specs.Prelude.{◌≡◌, ℕ, List}
+use Rattle.std.specs.Prelude.{◌≡◌, refl, ℕ, List}
 use Rattle.std.specs.Coded.{Coded, codes, coded_list, coded_ℕ}
 use base.Stored.{Gv, gnil, gnum, gcons}
 use mathlib.Core.Path.{ap}
@@ -11,7 +11,7 @@ use Rattle.swf_document.specs.declared.common.Flow.{Flow}
 use Rattle.swf_document.specs.declared.error.Problem.{Problem}
 use Rattle.swf_meaning.specs.declared.label.Label.{Label}
 use Rattle.swf_meaning.specs.Keys.{Key}
-use Rattle.swf_meaning.specs.Node.{Node, Fresh, Live, Done, Fault, Inside, Seq}
+use Rattle.swf_meaning.specs.Node.{Node, Fresh, Live, Done, Fault, Inside, At, Later, Sleep, Round, Seq, Each, Try, Catch}
 use Rattle.swf_meaning.specs.World.{Instance, Loaded, World}
 
 pub label_code : Coded Label
@@ -28,6 +28,19 @@ number_in gnil = 0
 number_in (gnum n) = n
 number_in (gcons a b) = 0
 
+abbrev code_round : Round → Gv
+code_round Seq = gcons (gnum 0) gnil
+code_round (Each items j) = gcons (gnum 1) (gcons ((coded_list value_code).code items) (gnum j))
+code_round (Try n) = gcons (gnum 2) (gnum n)
+code_round (Catch p) = gcons (gnum 3) (problem_code.code p)
+
+pub code_round_inj : (x y : Round) → code_round x ≡ code_round y → x ≡ y
+code_round_inj Seq Seq p = refl
+code_round_inj (Each xs i) (Each ys j) p = λ h. Each ((coded_list value_code).inj xs ys (ap (λ g. head (tail g)) p) h) (ap (λ g. number_in (tail (tail g))) p h)
+code_round_inj (Try n) (Try m) p = ap (λ g. Try (number_in (tail g))) p
+code_round_inj (Catch p) (Catch q) e = ap Catch (problem_code.inj p q (ap tail e))
+code_round_inj x y p = cc
+
 abbrev mutual
   code_node : Node → Gv
   code_node (Fresh t v) = gcons (gnum 0) (gcons (task_code.code t) (value_code.code v))
@@ -36,7 +49,9 @@ abbrev mutual
   code_node (Fault p) = gcons (gnum 3) (problem_code.code p)
 
   code_inside : Inside → Gv
-  code_inside (Seq i n) = gcons (gnum i) (code_node n)
+  code_inside (At r i n) = gcons (gnum 0) (gcons (code_round r) (gcons (gnum i) (code_node n)))
+  code_inside (Later n m) = gcons (gnum 1) (gcons (gnum n) (gnum m))
+  code_inside (Sleep m) = gcons (gnum 2) (gnum m)
 
 mutual
   pub code_node_inj : (x y : Node) → code_node x ≡ code_node y → x ≡ y
@@ -50,7 +65,11 @@ mutual
   code_node_inj x y p = cc
 
   pub code_inside_inj : (x y : Inside) → code_inside x ≡ code_inside y → x ≡ y
-  code_inside_inj (Seq i n) (Seq j m) p = λ h. Seq (ap (λ g. number_in (head g)) p h) (code_node_inj n m (ap tail p) h)
+  code_inside_inj (At r i n) (At q j m) p =
+      λ h. At (code_round_inj r q (ap (λ g. head (tail g)) p) h) (ap (λ g. number_in (head (tail (tail g)))) p h) (code_node_inj n m (ap (λ g. tail (tail (tail g))) p) h)
+  code_inside_inj (Later n m) (Later k l) p = λ h. Later (ap (λ g. number_in (head (tail g))) p h) (ap (λ g. number_in (tail (tail g))) p h)
+  code_inside_inj (Sleep m) (Sleep l) p = ap (λ g. Sleep (number_in (tail g))) p
+  code_inside_inj x y p = cc
 
 abbrev pub node_code : Coded Node
 node_code = record { code = code_node; inj = code_node_inj }

@@ -1,23 +1,27 @@
 -- Enter: what becomes of a task that has not begun (DSL, "Data flow", "Input"; DSL reference, "Task").
-use Rattle.std.specs.Prelude.{zero, Option, Some, None, if◌then◌else◌}
+use Rattle.std.specs.Prelude.{◌+◌, zero, Option, Some, None, if◌then◌else◌}
 use Rattle.swf_expr.specs.Expr.{Tree}
 use Rattle.swf_value.specs.Value.{Value}
 use Rattle.swf_jq_builtins.specs.Operations.{is_true}
-use Rattle.swf_document.specs.Task.{Task, Kind, do_all, raise, set, switch}
+use Rattle.swf_document.specs.Task.{Task, Kind, do_all, for, raise, set, switch, try, wait}
 use Rattle.swf_document.specs.declared.common.Flow.TheVariants as flows
 use Rattle.swf_transform.specs.Fill.{fill, first_of, transformed}
-use Rattle.swf_meaning.specs.Node.{Done}
+use Rattle.swf_meaning.specs.Node.{Live, Done, Sleep, Seq, Try}
 use Rattle.swf_meaning.specs.Parts.{common_of, kind_of}
 use Rattle.swf_meaning.specs.Sight.{Sight, before, within}
 use Rattle.swf_meaning.specs.Complete.{Stepped, becomes, with_got, complete}
 use Rattle.swf_meaning.specs.Lists.{comes_to}
+use Rattle.swf_meaning.specs.For.{looping}
 use Rattle.swf_meaning.specs.Switch.{switched, default_of}
 use Rattle.swf_meaning.specs.Raise.{raising}
 
 -- a task of each kind that is built, on its transformed input u; any other gives u
 abbrev pub begun : Sight → Task → Value → Value → Kind → Stepped
 begun s t v u (set e) = with_got s t (fill e (within s t v u) u) (complete s t v u)
-begun s t v u (do_all ts) = comes_to s t v u ts zero u
+begun s t v u (do_all ts) = comes_to s t v u Seq zero u
+begun s t v u (for l ts) = looping s t v u l
+begun s t v u (try c ts h) = comes_to s t v u (Try zero) zero u
+begun s t v u (wait d) = becomes s (Live t v u (Sleep (s.now + d)))
 begun s t v u (switch cs) = switched s t v u (default_of cs) cs
 begun s t v u (raise e) = raising s t v u e
 begun s t v u k = complete s t v u u

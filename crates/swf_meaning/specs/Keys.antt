@@ -1,16 +1,17 @@
 -- By what an outcome is known, so that none acts twice.
-use Rattle.std.specs.Prelude.{◌≡◌, ◌&&◌, ℕ, List, [], ◌∷◌, Bool, true, false, not, Option, Some, None}
+use Rattle.std.specs.Prelude.{◌≡◌, ◌&&◌, ◌==◌, ℕ, List, [], ◌∷◌, Bool, true, false, not, Option, Some, None}
 use Rattle.std.specs.List.{list_any, filter_map}
 use Rattle.swf_value.specs.Value.{Value}
 use Rattle.swf_text.specs.Same.{same}
 use Rattle.swf_reader.specs.Reads.{document_of}
 use Rattle.swf_document.specs.declared.document.DocKey.{DocKey}
 use Rattle.swf_meaning.specs.declared.label.Label.{Label}
-use Rattle.swf_meaning.specs.declared.label.Label.TheVariants.{Load, Start, Step}
+use Rattle.swf_meaning.specs.declared.label.Label.TheVariants.{Load, Start, Moment as AtMoment, Step}
 
 pub data Key : Type 0 where
   Document : DocKey → Key
   Instance : List ℕ → Key
+  Moment : ℕ → Key
 
 abbrev pub same_doc : DocKey → DocKey → Bool
 same_doc a b = same a.namespace b.namespace && same a.name b.name && same a.version b.version
@@ -18,17 +19,18 @@ same_doc a b = same a.namespace b.namespace && same a.name b.name && same a.vers
 abbrev pub same_key : Key → Key → Bool
 same_key (Document a) (Document b) = same_doc a b
 same_key (Instance a) (Instance b) = same a b
-same_key (Document a) (Instance b) = false
-same_key (Instance a) (Document b) = false
+same_key (Moment a) (Moment b) = a == b
+same_key a b = false
 
 -- the namespace, name and version that a value gives
 abbrev pub doc_key : Value → DocKey
 doc_key v = (document_of v).key
 
--- a load's key is its document's, and a start's its id; a step has none
+-- a load's key is its document's, a start's its id, and a moment's the moment; a step has none
 abbrev pub key_of : Label → Option Key
 key_of (Load v) = Some (Document (doc_key v))
 key_of (Start id key input) = Some (Instance id)
+key_of (AtMoment moment) = Some (Moment moment)
 key_of (Step id strand) = None
 
 abbrev pub are_distinct : List Key → Bool

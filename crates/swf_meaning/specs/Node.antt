@@ -1,9 +1,17 @@
 -- The tree that an instance is at a moment (DSL, "Concepts", "Workflow" and "Task").
-use Rattle.std.specs.Prelude.{ℕ}
+use Rattle.std.specs.Prelude.{ℕ, List}
 use Rattle.swf_value.specs.Value.{Value}
 use Rattle.swf_document.specs.Task.{Task}
 use Rattle.swf_document.specs.declared.common.Flow.{Flow}
 use Rattle.swf_document.specs.declared.error.Problem.{Problem}
+
+-- for what a list of tasks is run: once; as the turn of a `for` over these items; as the attempt of a `try` after so many
+-- retries; or to handle an error that was caught
+pub data Round : Type 0 where
+  Seq : Round
+  Each : List Value → ℕ → Round
+  Try : ℕ → Round
+  Catch : Problem → Round
 
 -- a task that has not begun, with its raw input; one that runs, with its raw and its transformed input and what
 -- runs inside; one that is done, with its output and where control goes; and one that ended in an error.
@@ -15,6 +23,9 @@ mutual
     Done : Value → Flow → Node
     Fault : Problem → Node
 
-  -- what runs inside a task: a place in its list of tasks, and the node there
+  -- what runs inside a task: a place in its list of tasks, and the node there; a `try` that waits until a moment to make that
+  -- retry; or a `wait` until a moment
   pub data Inside : Type 0 where
-    Seq : ℕ → Node → Inside
+    At : Round → ℕ → Node → Inside
+    Later : ℕ → ℕ → Inside
+    Sleep : ℕ → Inside

@@ -48,7 +48,7 @@ abbrev pub raised_or_done : Sight → Task → List Variable → Value → Optio
 raised_or_done s t r u None = fails s t kinds.Configuration (codes "unknown error")
 raised_or_done s t r u (Some e) = raised s t r u e
 
--- the error that is raised, written there or of that name
+-- the error that is raised, written there or of that name; one in `use.errors` sees none of the variables around
 abbrev pub raising : Sight → Task → Value → Value → ErrorRef → Stepped
 raising s t v u (refs.Written e) = raised s t (within s t v u) u e
-raising s t v u (refs.Named n) = raised_or_done s t (within s t v u) u (error_named n s.document.errors)
+raising s t v u (refs.Named n) = raised_or_done s t (within (record s { around = [] }) t v u) u (error_named n s.document.errors)

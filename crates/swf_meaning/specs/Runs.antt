@@ -25,4 +25,4 @@ world_at h = unwrap_or (run h) empty
 
 -- no strand is enabled
 abbrev pub is_quiet : World → Bool
-is_quiet w = not (list_any (λ i. is_enabled i.node) w.instances)
+is_quiet w = not (list_any (λ i. is_enabled w.now i.node) w.instances)

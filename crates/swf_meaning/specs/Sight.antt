@@ -7,14 +7,17 @@ use Rattle.swf_document.specs.Task.{Task}
 use Rattle.swf_document.specs.declared.document.Document.{Document}
 use Rattle.swf_meaning.specs.Parts.{place_of}
 
--- what a step on an instance goes by besides its tree: the document, whose errors have names; the id, when it started,
--- the raw input of its workflow, and the context
+-- what a step on an instance goes by besides its tree: the document, whose errors and retries have names; the id, when it
+-- started, the raw input of its workflow, the context and the moment; and the variables of the loops and of the errors caught
+-- around the task that takes the step, those of the innermost last
 pub record Sight : Type 0 where
   pub document : Document
   pub id : List ℕ
   pub started : ℕ
   pub input : Value
   pub context : Value
+  pub now : ℕ
+  pub around : List Variable
 
 abbrev pub variable : List ℕ → Value → Variable
 variable x v = record { name = x; value = v }
@@ -51,7 +54,7 @@ abbrev pub with_context : Sight → List Variable
 with_context s = of_workflow s ++ variable (codes "context") s.context ∷ []
 
 abbrev pub of_task : Sight → Task → Value → List Variable
-of_task s t v = with_context s ++ variable (codes "task") (task_value t v) ∷ []
+of_task s t v = with_context s ++ variable (codes "task") (task_value t v) ∷ s.around
 
 -- what `input.from` sees: of a workflow `$workflow` alone
 abbrev pub before : Sight → Task → Value → List Variable

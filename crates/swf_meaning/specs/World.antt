@@ -36,9 +36,9 @@ pub record World : Type 0 where
 abbrev pub empty : World
 empty = record { documents = []; instances = []; keys = []; now = 0; outbox = []; count = 0 }
 
--- what a step of an instance goes by
-abbrev pub sight : Instance → Sight
-sight i = record { document = i.document; id = i.id; started = i.started; input = i.input; context = i.context }
+-- what a step of an instance goes by at a moment
+abbrev pub sight : ℕ → Instance → Sight
+sight now i = record { document = i.document; id = i.id; started = i.started; input = i.input; context = i.context; now = now; around = [] }
 
 -- an instance that has just begun
 abbrev pub new_instance : List ℕ → Value → ℕ → Document → Instance

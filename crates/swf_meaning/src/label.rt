@@ -1,5 +1,6 @@
 // What happens to the world, one label after another.
 use swf_document::DocKey;
+use swf_duration::Moment;
 use swf_text::{Strand, Text};
 use swf_value::Json;
 
@@ -10,6 +11,8 @@ pub enum Label {
     Load(Json),
     /// An instance of a loaded document was started.
     Start { id: Text, key: DocKey, input: Json },
+    /// A moment was reached.
+    Moment(Moment),
     /// An instance took one step on one of its strands.
     Step { id: Text, strand: Strand },
 }
@@ -19,6 +22,7 @@ pub enum Label {
 pub enum Outcome {
     Load(Json),
     Start { id: Text, key: DocKey, input: Json },
+    Moment(Moment),
 }
 
 /// What can be asked without changing anything.

@@ -4,7 +4,7 @@ ghost use Rattle.swf_meaning.specs.declared.label.Label.{Label};
 ghost use Rattle.swf_meaning.specs.Keys.{Once};
 ghost use Rattle.swf_meaning.specs.Runs.{Legal};
 
-/// In a legal run no document is loaded twice under one key, and no id starts two instances.
+/// In a legal run no document is loaded twice under one key, no id starts two instances, and no moment is reached twice.
 pub fn legal_once()
     ensures { (h : List Label) → Legal h → Once h }
 {}

@@ -10,9 +10,9 @@ use Rattle.swf_document.specs.declared.document.DocKey.{DocKey}
 use Rattle.swf_protocol.specs.declared.command.Command.{Command}
 use Rattle.swf_protocol.specs.declared.command.LineFault.{LineFault}
 use Rattle.swf_protocol.specs.declared.command.LineFault.TheVariants.{Command as BadCommand}
-use Rattle.swf_protocol.specs.Line.{cut, spelled, command_of, loads, starts, start_with, key_of, fourth, third, second, first, settles, settle_of, tells, history_of, status_of, with_rest, is_id}
+use Rattle.swf_protocol.specs.Line.{cut, spelled, command_of, loads, starts, start_with, key_of, fourth, third, second, first, settles, settle_of, tells, history_of, reaches, moment_of, status_of, with_rest, is_id}
 use Rattle.swf_protocol.specs.Line.{is_quit}
-use Rattle.swf_protocol.specs.Number.{number_of, budget_of}
+use Rattle.swf_protocol.specs.Number.{number_of, budget_of, moment_in}
 
 utf8_line : (line : List ℕ) → IsUtf8 line → command_of line ≡ spelled line (cut line)
 utf8_line line u = ap (λ b. cond b (spelled line (cut line)) (Err BadCommand)) (is_utf8-from_IsUtf8 line u)
@@ -74,6 +74,13 @@ tells_stay (Some n) = refl
 history_stays : (rest : List ℕ) → is_quit (history_of rest) ≡ false
 history_stays rest = stays (is_some (cut rest)) _ _ refl (tells_stay (number_of rest))
 
+reaches_stay : (o : Option ℕ) → is_quit (reaches o) ≡ false
+reaches_stay None = refl
+reaches_stay (Some n) = refl
+
+moment_stays : (rest : List ℕ) → is_quit (moment_of rest) ≡ false
+moment_stays rest = stays (is_some (cut rest)) _ _ refl (reaches_stay (moment_in rest))
+
 status_stays : (rest : List ℕ) → is_quit (status_of rest) ≡ false
 status_stays rest = stays (is_some (cut rest)) _ _ refl (stays (is_id rest) _ _ refl refl)
 
@@ -84,4 +91,5 @@ with_rest_stays word rest =
     (stays (same word _) _ _ (first_stays (cut rest))
     (stays (same word _) _ _ (settle_stays rest)
     (stays (same word _) _ _ (status_stays rest)
-    (stays (same word _) _ _ (history_stays rest) refl))))
+    (stays (same word _) _ _ (history_stays rest)
+    (stays (same word _) _ _ (moment_stays rest) refl)))))

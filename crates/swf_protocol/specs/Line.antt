@@ -9,9 +9,9 @@ use Rattle.swf_value.specs.declared.fault.ValueFault.{ValueFault}
 use Rattle.swf_value.specs.declared.fault.ValueFault.TheVariants.{NotJson as ValueNotJson, TooDeep as ValueTooDeep, NotWhole as ValueNotWhole, OutOfMemory}
 use Rattle.swf_text.specs.Ascii.{is_digit, is_letter}
 use Rattle.swf_document.specs.declared.document.DocKey.{DocKey}
-use Rattle.swf_meaning.specs.declared.label.Outcome.TheVariants.{Load, Start}
+use Rattle.swf_meaning.specs.declared.label.Outcome.TheVariants.{Load, Start, Moment}
 use Rattle.swf_meaning.specs.declared.label.Query.TheVariants.{Status, History}
-use Rattle.swf_protocol.specs.Number.{number_of, budget_of}
+use Rattle.swf_protocol.specs.Number.{number_of, budget_of, moment_in}
 use Rattle.swf_protocol.specs.declared.command.Command.{Command}
 use Rattle.swf_protocol.specs.declared.command.Command.TheVariants.{Do, Ask, Settle, Quit}
 use Rattle.swf_protocol.specs.declared.command.LineFault.{LineFault}
@@ -88,6 +88,14 @@ tells None = Err Number
 abbrev pub history_of : List ℕ → Result Command LineFault
 history_of rest = if is_some (cut rest) then Err BadCommand else tells (number_of rest)
 
+abbrev pub reaches : Option ℕ → Result Command LineFault
+reaches (Some n) = Ok (Do (Moment n))
+reaches None = Err Number
+
+-- `moment T`, behind its word
+abbrev pub moment_of : List ℕ → Result Command LineFault
+moment_of rest = if is_some (cut rest) then Err BadCommand else reaches (moment_in rest)
+
 -- `status ID`, behind its word
 abbrev pub status_of : List ℕ → Result Command LineFault
 status_of rest = if is_some (cut rest) then Err BadCommand else (if is_id rest then Ok (Ask (Status (chars rest))) else Err Word)
@@ -100,7 +108,8 @@ with_rest word rest =
     else (if same word (codes "settle") then settle_of rest
     else (if same word (codes "status") then status_of rest
     else (if same word (codes "history") then history_of rest
-    else Err BadCommand))))
+    else (if same word (codes "moment") then moment_of rest
+    else Err BadCommand)))))
 
 abbrev pub alone : List ℕ → Result Command LineFault
 alone word = if same word (codes "quit") then Ok Quit else (if same word (codes "settle") then Ok (Settle None) else Err BadCommand)

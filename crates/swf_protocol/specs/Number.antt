@@ -24,3 +24,14 @@ budget (Some n) = if nat_lt 0 n && nat_le n greatest_budget then Some n else Non
 -- a number from 1 to 1,000,000
 abbrev pub budget_of : List ℕ → Option ℕ
 budget_of t = budget (number_of t)
+
+abbrev pub last_moment : ℕ
+last_moment = 4503599627370495
+
+abbrev pub in_time : Option ℕ → Option ℕ
+in_time None = None
+in_time (Some n) = if nat_le n last_moment then Some n else None
+
+-- a number of at most 4503599627370495
+abbrev pub moment_in : List ℕ → Option ℕ
+moment_in t = in_time (number_of t)

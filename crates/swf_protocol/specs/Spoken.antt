@@ -9,7 +9,7 @@ use Rattle.swf_document.specs.FaultWord.{fault_word}
 use Rattle.swf_protocol.specs.declared.command.LineFault.{LineFault}
 use Rattle.swf_protocol.specs.declared.command.LineFault.TheVariants.{Command, Word, Number, NotJson, TooDeep, NotWhole}
 use Rattle.swf_protocol.specs.declared.reply.Reply.{Reply}
-use Rattle.swf_protocol.specs.declared.reply.Reply.TheVariants.{Loaded, Started, Quiet, Budget, Report, History, Quit, BadLine, TooLong, Refused, Duplicate, UnknownDocument, UnknownInstance, Full, Memory}
+use Rattle.swf_protocol.specs.declared.reply.Reply.TheVariants.{Loaded, Started, Reached, Quiet, Budget, Report, History, Quit, BadLine, TooLong, Refused, Duplicate, UnknownDocument, UnknownInstance, Past, Full, Memory}
 
 -- an object of one text, and of a text and something else
 abbrev pub one : List ℕ → List ℕ → Value
@@ -39,6 +39,7 @@ faults_value fs = list (items_of (map fault_value fs))
 abbrev pub reply_value : Reply → Value
 reply_value (Loaded n) = ok_with (codes "loaded") (codes "place") n
 reply_value (Started n) = ok_with (codes "started") (codes "place") n
+reply_value (Reached n) = ok_with (codes "moment") (codes "place") n
 reply_value (Quiet n) = ok_with (codes "quiet") (codes "steps") n
 reply_value (Budget n) = ok_with (codes "budget") (codes "steps") n
 reply_value (Report v) = v
@@ -50,6 +51,7 @@ reply_value (Refused fs) = two (codes "error") (codes "refused") (codes "faults"
 reply_value (Duplicate n) = two (codes "error") (codes "duplicate") (codes "place") (int (pos n))
 reply_value UnknownDocument = one (codes "error") (codes "unknown-document")
 reply_value UnknownInstance = one (codes "error") (codes "unknown-instance")
+reply_value (Past now) = two (codes "error") (codes "past") (codes "now") (int (pos now))
 reply_value Full = one (codes "error") (codes "full")
 reply_value Memory = one (codes "error") (codes "memory")
 

@@ -2,13 +2,13 @@
 ghost use Rattle.std.specs.Prelude.{◌≡◌, ◌≢◌, IfOk, false, option_map};
 ghost use Rattle.std.specs.List.{list_all};
 ghost use Rattle.swf_text.specs.Same.{same};
-ghost use Rattle.swf_protocol.specs.Line.{cut, is_id_char, is_id, loads, start_with, key_of, fourth, third, second, start_of, settle_of, history_of, status_of, with_rest, alone, command_of, is_quit};
+ghost use Rattle.swf_protocol.specs.Line.{cut, is_id_char, is_id, loads, start_with, key_of, fourth, third, second, start_of, settle_of, history_of, moment_of, status_of, with_rest, alone, command_of, is_quit};
 ghost use Rattle.swf_value.specs.Read.{read_within};
 ghost use Rattle.swf_protocol.specs.Reading.{Reads, FaultIs};
 ghost use Rattle.swf_protocol.specs.Sayable.{IsModest};
 
 use crate::command::{Command, LineFault};
-use crate::number::{budget_of, number_of};
+use crate::number::{budget_of, moment_in, number_of};
 use std::alloc::{AllocError, Global};
 use swf_document::DocKey;
 use swf_meaning::{Outcome, Query};
@@ -209,6 +209,20 @@ fn read_history(rest: &str) -> Result<Command, ReadFault>
     }
 }
 
+// `moment T`, behind its word.
+fn read_moment(rest: &str) -> Result<Command, ReadFault>
+    ensures reads { Reads result (moment_of rest.now) }
+    ensures modest { IfOk result IsModest }
+{
+    if cut(rest).is_some() {
+        return Err(ReadFault::Line(LineFault::Command));
+    }
+    match moment_in(rest.as_bytes()) {
+        Some(moment) => Ok(Command::Do(Outcome::Moment(moment))),
+        None => Err(ReadFault::Line(LineFault::Number)),
+    }
+}
+
 fn is_word(word: &str, known: &str) -> bool
     ensures { result ≡ same word.now known.now }
 {
@@ -230,6 +244,8 @@ fn read_with_rest(alloc: Global, word: &str, rest: &str) -> Result<Command, Read
         read_status(alloc, rest)
     } else if is_word(word, "history") {
         read_history(rest)
+    } else if is_word(word, "moment") {
+        read_moment(rest)
     } else {
         Err(ReadFault::Line(LineFault::Command))
     }

@@ -1,7 +1,8 @@
 // Reading a word as a number.
 ghost use Rattle.std.specs.Prelude.{◌≡◌, ◌+◌, ◌*◌, ◌≤◌, ◌<◌, ◌^◌, IfSome, SomeIff};
-ghost use Rattle.swf_protocol.specs.Number.{value_of_digits, is_number, number_of, budget_of};
+ghost use Rattle.swf_protocol.specs.Number.{value_of_digits, is_number, number_of, budget_of, moment_in};
 
+use swf_duration::Moment;
 use swf_text::all_digits;
 
 /// The most steps of one settling.
@@ -59,6 +60,18 @@ pub fn budget_of(bytes: &[u8]) -> Option<u64>
     let number = number_of(bytes)?;
     if number > 0 && number <= MOST_STEPS {
         Some(number)
+    } else {
+        None
+    }
+}
+
+/// A moment: a number of at most 4503599627370495.
+pub fn moment_in(bytes: &[u8]) -> Option<Moment>
+    ensures { result ≡ moment_in bytes.now }
+{
+    let number = number_of(bytes)?;
+    if number <= Moment::LAST {
+        Some(Moment::new(number))
     } else {
         None
     }

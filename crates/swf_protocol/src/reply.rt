@@ -1,6 +1,7 @@
 // The replies of a session.
 use crate::command::LineFault;
 use swf_document::Faults;
+use swf_duration::Moment;
 use swf_value::Json;
 
 /// What an input is answered.
@@ -10,6 +11,8 @@ pub enum Reply {
     Loaded(u64),
     /// An instance was started; so many labels came before.
     Started(u64),
+    /// A moment was reached; so many labels came before.
+    Reached(u64),
     /// So many steps were taken, and no more can be.
     Quiet(u64),
     /// So many steps were taken, and more can be.
@@ -32,6 +35,8 @@ pub enum Reply {
     UnknownDocument,
     /// There is no instance of that id.
     UnknownInstance,
+    /// The moment is not above the present one, which is this.
+    Past(Moment),
     /// No more of its kind are taken.
     Full,
     /// No memory was found for the command.

@@ -9,6 +9,7 @@ use crate::command::LineFault;
 use crate::reply::Reply;
 use std::alloc::{AllocError, Global};
 use swf_document::{Fault, Faults};
+use swf_duration::Moment;
 use swf_text::{pointer_text, word};
 use swf_value::{Json, member, write_json};
 
@@ -101,6 +102,13 @@ fn duplicate(alloc: Global, place: u64) -> Result<Json, AllocError>
     )
 }
 
+fn past(alloc: Global, now: Moment) -> Result<Json, AllocError>
+    ensures { IfOk result (λ v. v ≡ reply_value (Reply.Past now)) }
+{
+    let value = Json::int(now.milliseconds() as i64);
+    two(alloc, "error", "past", "now", value)
+}
+
 // The value that a reply's line is of.
 fn reply_json(alloc: Global, reply: Reply) -> Result<Json, AllocError>
     requires { IsSayable reply }
@@ -109,6 +117,7 @@ fn reply_json(alloc: Global, reply: Reply) -> Result<Json, AllocError>
     match reply {
         Reply::Loaded(place) => ok_with(alloc, "loaded", "place", place),
         Reply::Started(place) => ok_with(alloc, "started", "place", place),
+        Reply::Reached(place) => ok_with(alloc, "moment", "place", place),
         Reply::Quiet(steps) => ok_with(alloc, "quiet", "steps", steps),
         Reply::Budget(steps) => ok_with(alloc, "budget", "steps", steps),
         Reply::Report(value) | Reply::History(value) => Ok(value),
@@ -119,6 +128,7 @@ fn reply_json(alloc: Global, reply: Reply) -> Result<Json, AllocError>
         Reply::Duplicate(place) => duplicate(alloc, place),
         Reply::UnknownDocument => one(alloc, "error", "unknown-document"),
         Reply::UnknownInstance => one(alloc, "error", "unknown-instance"),
+        Reply::Past(now) => past(alloc, now),
         Reply::Full => one(alloc, "error", "full"),
         Reply::Memory => one(alloc, "error", "memory"),
     }

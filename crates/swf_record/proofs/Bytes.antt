@@ -1,12 +1,12 @@
 -- Lists of bytes, and numbers that are read from them.
-use Rattle.std.proofs.Common.{◌≡◌, ◌∙◌, ap, sym, subst, refl, ℕ, zero, suc, ◌<◌, ◌≤◌, ◌^◌, List, [], ◌∷◌, ◌++◌, length, take, drop, get_or, Ok, Err, true, false, Bool, cond, ltb, lt-ltb, le-ltb, inl, inr, arith, w16, w32, lit<}
+use Rattle.std.proofs.Common.{◌≡◌, ◌∙◌, ap, sym, subst, refl, ℕ, zero, suc, ◌<◌, ◌≤◌, ◌^◌, List, [], ◌∷◌, ◌++◌, length, take, drop, get_or, Ok, Err, true, false, Bool, cond, ltb, lt-ltb, le-ltb, inl, inr, arith, w16, w32, w64, lit<}
 use Rattle.std.proofs.Math.Seq.{take-append_seam, drop-append_seam}
 use Rattle.std.proofs.lemmas.Bool.{cases_lt}
 use Rattle.std.proofs.lemmas.List.{take-append-drop, length-append, length-take-le}
-use Rattle.std.proofs.lemmas.Nat.{from_be_bytes-to_be_bytes_2, from_be_bytes-to_be_bytes_4, be_bytes_2, be_bytes_4}
+use Rattle.std.proofs.lemmas.Nat.{from_be_bytes-to_be_bytes_2, from_be_bytes-to_be_bytes_4, from_be_bytes-to_be_bytes_8, be_bytes_2, be_bytes_4, be_bytes_8}
 use Rattle.std.specs.Int.{Width, byte_len, to_be_bytes, from_be_bytes}
 use Rattle.std.specs.List.{AllByRecursion}
-use Rattle.swf_record.specs.Encodes.{two_bytes, four_bytes}
+use Rattle.swf_record.specs.Encodes.{two_bytes, four_bytes, eight_bytes}
 use Rattle.swf_record.specs.Decodes.{Reading, number_in}
 
 -- numbers that are bytes
@@ -78,6 +78,10 @@ pub four_ahead : (n : ℕ) (rest : List ℕ) → n < 2 ^ 32 → number_in w32 (f
 unfolding four_bytes
 four_ahead n rest h = number_ahead w32 (to_be_bytes w32 n) rest refl ∙ ap (λ m. Ok (m, rest)) (from_be_bytes-to_be_bytes_4 n h)
 
+pub eight_ahead : (n : ℕ) (rest : List ℕ) → n < 2 ^ 64 → number_in w64 (eight_bytes n ++ rest) ≡ Ok (n, rest)
+unfolding eight_bytes
+eight_ahead n rest h = number_ahead w64 (to_be_bytes w64 n) rest refl ∙ ap (λ m. Ok (m, rest)) (from_be_bytes-to_be_bytes_8 n h)
+
 -- what a reading of bytes found: they are the bytes of a thing that fits, and then other bytes
 pub record Found {A : Type 0} (bytes : A → List ℕ) (Fit : A → Type 0) (field : List ℕ) (x : A) (rest : List ℕ) : Type 0 where
   pub is : field ≡ bytes x ++ rest
@@ -105,5 +109,17 @@ four_behind field rest n h e =
     record {
       is = w.1 ∙ ap (λ b. b ++ rest) (sym (be_bytes_4 w.0 n w.2 each w.3));
       fits = omega (arith, each 0, each 1, each 2, each 3, w.3);
+      left = AreBytes-behind w.0 rest whole;
+    }
+
+pub eight_behind : (field rest : List ℕ) (n : ℕ) → AreBytes field → number_in w64 field ≡ Ok (n, rest) → Found eight_bytes (λ n. Unit {0}) field n rest
+unfolding eight_bytes
+eight_behind field rest n h e =
+    let w = number_behind w64 field rest n e in
+    let whole : AreBytes (w.0 ++ rest) = subst AreBytes w.1 h in
+    let each = each_byte w.0 (AreBytes-front w.0 rest whole) in
+    record {
+      is = w.1 ∙ ap (λ b. b ++ rest) (sym (be_bytes_8 w.0 n w.2 each w.3));
+      fits = tt;
       left = AreBytes-behind w.0 rest whole;
     }

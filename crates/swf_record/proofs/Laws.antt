@@ -1,16 +1,16 @@
 -- Bytes are read as labels exactly where they are their bytes.
-use Rattle.std.proofs.Common.{◌≡◌, ◌∙◌, ap, ap₂, sym, subst, refl, ℕ, zero, suc, ◌+◌, ◌<◌, List, [], ◌∷◌, ◌++◌, length, get_or, Result, Ok, Err, true, false, Bool, cond, eqb, ◌⊎◌, inl, inr, arith, w32, append_assoc, append-nil}
-use Rattle.std.proofs.lemmas.Bool.{eqb-true}
+use Rattle.std.proofs.Common.{◌≡◌, ◌∙◌, ap, ap₂, sym, subst, refl, ℕ, zero, suc, ◌+◌, ◌<◌, ◌≤◌, List, [], ◌∷◌, ◌++◌, length, get_or, Result, Ok, Err, true, false, Bool, cond, eqb, ◌⊎◌, inl, inr, arith, w32, w64, nat_le, append_assoc, append-nil}
+use Rattle.std.proofs.lemmas.Bool.{eqb-true, le-leb, leb-true}
 use Rattle.std.proofs.lemmas.List.{length-append}
 use Rattle.std.proofs.Math.Dec.{eqb-suc-zero}
 use Rattle.std.specs.List.{AllByRecursion, flat_map}
 use Rattle.swf_meaning.specs.declared.label.Label.{Label}
-use Rattle.swf_meaning.specs.declared.label.Label.TheVariants.{Load, Start, Step}
+use Rattle.swf_meaning.specs.declared.label.Label.TheVariants.{Load, Start, Moment, Step}
 use Rattle.swf_value.specs.Value.{Value}
 use Rattle.swf_document.specs.declared.document.DocKey.{DocKey}
-use Rattle.swf_record.specs.Encodes.{four_bytes, text_bytes, value_bytes, strand_bytes, label_bytes, labels_bytes, label_place, FitsText, FitsValue, FitsStrand, Fits, Encodes}
-use Rattle.swf_record.specs.Decodes.{Reading, ◌>>=◌, number_in, text_in, value_in, strand_in, load_in, start_in, step_in, label_in, many_in, ended, record_in, placed, decoded}
-use Rattle.swf_record.proofs.Bytes.{AreBytes, AreBytes-from_each, if_read, read_is, Found, length-four_bytes, four_ahead, four_behind}
+use Rattle.swf_record.specs.Encodes.{four_bytes, eight_bytes, text_bytes, value_bytes, strand_bytes, label_bytes, labels_bytes, label_place, FitsText, FitsValue, FitsStrand, last_moment, Fits, Encodes}
+use Rattle.swf_record.specs.Decodes.{Reading, ◌>>=◌, number_in, text_in, value_in, strand_in, load_in, start_in, moment_in, step_in, label_in, many_in, ended, record_in, placed, decoded}
+use Rattle.swf_record.proofs.Bytes.{AreBytes, AreBytes-from_each, if_read, read_is, Found, length-four_bytes, four_ahead, four_behind, eight_ahead, eight_behind}
 use Rattle.swf_record.proofs.Fields.{then_read, many_ahead, many_behind, text_ahead, text_behind, value_ahead, value_behind, strand_ahead, strand_behind}
 
 -- ---- what is put together from fields
@@ -37,10 +37,15 @@ step_ahead : (id s rest : List ℕ) → FitsText id → FitsStrand s → step_in
 unfolding step_in
 step_ahead id s rest h strand = rw (append_assoc (text_bytes id) (strand_bytes s) rest, text_ahead id (strand_bytes s ++ rest) h, strand_ahead s rest strand) refl
 
+moment_ahead : (m : ℕ) (rest : List ℕ) → m ≤ last_moment → moment_in (eight_bytes m ++ rest) ≡ Ok (Moment m, rest)
+unfolding moment_in
+moment_ahead m rest h = rw (eight_ahead m rest (omega arith), le-leb m last_moment h) refl
+
 label_ahead : (l : Label) (rest : List ℕ) → Fits l → label_in (label_bytes l ++ rest) ≡ Ok (l, rest)
 unfolding label_in
 label_ahead (Load v) rest h = load_ahead v rest h.fields
 label_ahead (Start id key input) rest h = start_ahead id key input rest h.fields.0 h.fields.1 h.fields.2 h.fields.3 h.fields.4
+label_ahead (Moment m) rest h = moment_ahead m rest h.fields
 label_ahead (Step id s) rest h = step_ahead id s rest h.fields.0 h.fields.1
 
 -- ---- and back
@@ -107,6 +112,23 @@ step_behind field rest l h e =
       left = subst AreBytes same.1 found.left;
     }
 
+-- a number that is a moment's
+in_time : (b : Bool) (field : List ℕ) (n : ℕ × List ℕ) (l : Label) (rest : List ℕ) → nat_le n.0 last_moment ≡ b → cond {A = Reading Label} b (Ok (Moment n.0, n.1)) (Err field) ≡ Ok (l, rest) → (n.0 ≤ last_moment) × ((Moment n.0 ≡ l) × (n.1 ≡ rest))
+in_time true field n l rest t e = (leb-true n.0 last_moment t, read_is (Moment n.0) l n.1 rest e)
+in_time false field n l rest t e = cc
+
+moment_behind : (field rest : List ℕ) (l : Label) → AreBytes field → moment_in field ≡ Ok (l, rest) → Found label_bytes Fits (5 ∷ field) l rest
+unfolding moment_in
+moment_behind field rest l h e =
+    let n = then_read (number_in w64 field) _ (l, rest) e in
+    let found = eight_behind field n.0.1 n.0.0 h n.1 in
+    let same = in_time (nat_le n.0.0 last_moment) field n.0 l rest refl n.2 in
+    record {
+      is = ap (λ bs. 5 ∷ bs) found.is ∙ ap₂ (λ l more. label_bytes l ++ more) same.1.0 same.1.1;
+      fits = subst Fits same.1.0 (record { nests = tt; fields = same.0 });
+      left = subst AreBytes same.1.1 found.left;
+    }
+
 -- a choice by a tag
 by_test : {A : Type 0} (tag n : ℕ) (here other : Reading A) (p : A × List ℕ) (b : Bool) → eqb tag n ≡ b → cond b here other ≡ Ok p → ((tag ≡ n) × (here ≡ Ok p)) ⊎ (other ≡ Ok p)
 by_test tag n here other p true t e = inl (eqb-true tag n t, e)
@@ -122,9 +144,12 @@ label_behind (tag ∷ field) rest l h e = elim (by_tag tag 1 (load_in field) _ (
   | inl load ↦ subst (λ t. Found label_bytes Fits (t ∷ field) l rest) (sym load.0) (load_behind field rest l h.1 load.1)
   | inr other ↦ elim (by_tag tag 2 (start_in field) _ (l, rest) other) [
     | inl start ↦ subst (λ t. Found label_bytes Fits (t ∷ field) l rest) (sym start.0) (start_behind field rest l h.1 start.1)
-    | inr others ↦ elim (by_tag tag 6 (step_in field) _ (l, rest) others) [
-      | inl step ↦ subst (λ t. Found label_bytes Fits (t ∷ field) l rest) (sym step.0) (step_behind field rest l h.1 step.1)
-      | inr none ↦ cc
+    | inr others ↦ elim (by_tag tag 5 (moment_in field) _ (l, rest) others) [
+      | inl moment ↦ subst (λ t. Found label_bytes Fits (t ∷ field) l rest) (sym moment.0) (moment_behind field rest l h.1 moment.1)
+      | inr last ↦ elim (by_tag tag 6 (step_in field) _ (l, rest) last) [
+        | inl step ↦ subst (λ t. Found label_bytes Fits (t ∷ field) l rest) (sym step.0) (step_behind field rest l h.1 step.1)
+        | inr none ↦ cc
+      ]
     ]
   ]
 ]

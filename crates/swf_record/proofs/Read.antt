@@ -1,11 +1,11 @@
 -- What calls of the reader tell, one after another.
-use Rattle.std.proofs.Common.{◌≡◌, ◌∙◌, ap, sym, subst, refl, ℕ, suc, ◌-◌, ◌<◌, ◌≤◌, List, [], ◌∷◌, ◌++◌, length, take, drop, get_or, Result, Ok, Err, append_assoc, append-nil, lt-ltb, le-ltb, ne_eqb, inl, inr, arith, w16, w32}
+use Rattle.std.proofs.Common.{◌≡◌, ◌∙◌, ap, sym, subst, refl, ℕ, suc, ◌-◌, ◌<◌, ◌≤◌, List, [], ◌∷◌, ◌++◌, length, take, drop, get_or, Result, Ok, Err, append_assoc, append-nil, lt-ltb, le-ltb, ne_eqb, inl, inr, arith, w16, w32, w64}
 use Rattle.std.proofs.Math.Seq.{take-length}
 use Rattle.std.proofs.lemmas.List.{length-drop}
 use Rattle.std.specs.Int.{Width, byte_len, from_be_bytes}
 use Rattle.std.proofs.lemmas.Result.{err_from_is_err_and}
 use Rattle.std.specs.Result.{IsErrAnd}
-use Rattle.swf_record.specs.Decodes.{Reading, ◌>>=◌, number_in, many_in, load_in, start_in, step_in, label_in}
+use Rattle.swf_record.specs.Decodes.{Reading, ◌>>=◌, number_in, many_in, load_in, start_in, moment_in, step_in, label_in}
 use Rattle.swf_record.specs.Told.{told, Tells}
 use Rattle.swf_record.specs.declared.reader.Stop.{Stop}
 use Rattle.swf_record.specs.declared.reader.Stop.TheVariants.{OutOfMemory}
@@ -60,6 +60,11 @@ four_there (a ∷ b ∷ []) n h e = absurd (omega arith)
 four_there (a ∷ b ∷ c ∷ []) n h e = absurd (omega arith)
 four_there (a ∷ b ∷ c ∷ d ∷ rest) n h e = rw (le-ltb (length (a ∷ b ∷ c ∷ d ∷ rest)) 4 h) (ap (λ m. Ok (m, rest)) (sym e))
 
+pub eight_there : (rest : List ℕ) (n : ℕ) → 8 ≤ length rest → n ≡ from_be_bytes w64 (get_or rest 0 0 ∷ get_or rest 1 0 ∷ get_or rest 2 0 ∷ get_or rest 3 0 ∷ get_or rest 4 0 ∷ get_or rest 5 0 ∷ get_or rest 6 0 ∷ get_or rest 7 0 ∷ []) → number_in w64 rest ≡ Ok (n, drop 8 rest)
+unfolding number_in
+eight_there (a ∷ b ∷ c ∷ d ∷ e ∷ f ∷ g ∷ h ∷ rest) n l is = rw (le-ltb (length (a ∷ b ∷ c ∷ d ∷ e ∷ f ∷ g ∷ h ∷ rest)) 8 l) (ap (λ m. Ok (m, rest)) (sym is))
+eight_there rest n l is = absurd (omega arith)
+
 -- all that is left behind n bytes
 pub rest_of : (n : ℕ) (rest : List ℕ) → take (length rest - n) (drop n rest) ≡ drop n rest
 rest_of n rest = ap (λ m. take m (drop n rest)) (sym (length-drop n rest)) ∙ take-length (drop n rest)
@@ -113,13 +118,17 @@ pub start_label : (field rest : List ℕ) (tag : ℕ) → field ≡ tag ∷ rest
 unfolding label_in
 start_label field rest tag e t = rw (e, t) refl
 
+pub moment_label : (field rest : List ℕ) (tag : ℕ) → field ≡ tag ∷ rest → tag ≡ 5 → label_in field ≡ moment_in rest
+unfolding label_in
+moment_label field rest tag e t = rw (e, t) refl
+
 pub step_label : (field rest : List ℕ) (tag : ℕ) → field ≡ tag ∷ rest → tag ≡ 6 → label_in field ≡ step_in rest
 unfolding label_in
 step_label field rest tag e t = rw (e, t) refl
 
-pub other_label : (field rest : List ℕ) (tag : ℕ) → field ≡ tag ∷ rest → (tag ≡ 1 → ⊥) → (tag ≡ 2 → ⊥) → (tag ≡ 6 → ⊥) → label_in field ≡ Err field
+pub other_label : (field rest : List ℕ) (tag : ℕ) → field ≡ tag ∷ rest → (tag ≡ 1 → ⊥) → (tag ≡ 2 → ⊥) → (tag ≡ 5 → ⊥) → (tag ≡ 6 → ⊥) → label_in field ≡ Err field
 unfolding label_in
-other_label field rest tag e one two six = rw (e, ne_eqb tag 1 one, ne_eqb tag 2 two, ne_eqb tag 6 six) refl
+other_label field rest tag e one two five six = rw (e, ne_eqb tag 1 one, ne_eqb tag 2 two, ne_eqb tag 5 five, ne_eqb tag 6 six) refl
 
 -- the same reading
 pub tells_same : {C D : Type 0} (f : C → D) (result : Result C Stop) (rest : List ℕ) (r s : Reading D) → s ≡ r → Tells f result rest r → Tells f result rest s

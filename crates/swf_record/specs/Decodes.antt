@@ -1,13 +1,14 @@
 -- What bytes are read as: labels, field by field from the left, or the place of the first field that does not fit.
-use Rattle.std.specs.Prelude.{◌==◌, ◌-◌, ℕ, zero, suc, List, [], ◌∷◌, length, take, drop, chars, nat_lt, Option, Some, None, Result, Ok, Err, if◌then◌else◌}
-use Rattle.std.specs.Int.{Width, w16, w32, byte_len, from_be_bytes}
+use Rattle.std.specs.Prelude.{◌==◌, ◌-◌, ℕ, zero, suc, List, [], ◌∷◌, length, take, drop, chars, nat_lt, nat_le, Option, Some, None, Result, Ok, Err, if◌then◌else◌}
+use Rattle.std.specs.Int.{Width, w16, w32, w64, byte_len, from_be_bytes}
 use Rattle.std.specs.Result.{result_ok}
 use Rattle.std.specs.Str.{is_utf8, bytes_eq}
 use Rattle.swf_value.specs.Value.{Value}
 use Rattle.swf_value.specs.Written.{written}
 use Rattle.swf_value.specs.Read.{read_within}
 use Rattle.swf_meaning.specs.declared.label.Label.{Label}
-use Rattle.swf_meaning.specs.declared.label.Label.TheVariants.{Load, Start, Step}
+use Rattle.swf_meaning.specs.declared.label.Label.TheVariants.{Load, Start, Moment, Step}
+use Rattle.swf_record.specs.Encodes.{last_moment}
 
 -- what was read and what is left behind it; or what is left from the field on that does not fit
 abbrev pub Reading : Type 0 → Type 0
@@ -67,6 +68,13 @@ start_in rest =
     text_in rest >>= λ id. text_in id.1 >>= λ namespace. text_in namespace.1 >>= λ name. text_in name.1 >>= λ version. value_in version.1
     >>= λ input. Ok (Start id.0 (record { namespace = namespace.0; name = name.0; version = version.0 }) input.0, input.1)
 
+-- a moment, where there is one of that number
+abbrev pub timed : List ℕ → ℕ × List ℕ → Reading Label
+timed field n = if nat_le n.0 last_moment then Ok (Moment n.0, n.1) else Err field
+
+unfoldable pub moment_in : List ℕ → Reading Label
+moment_in field = number_in w64 field >>= timed field
+
 unfoldable pub step_in : List ℕ → Reading Label
 step_in rest = text_in rest >>= λ id. strand_in id.1 >>= λ strand. Ok (Step id.0 strand.0, strand.1)
 
@@ -76,6 +84,7 @@ label_in [] = Err []
 label_in (tag ∷ rest) =
     if tag == 1 then load_in rest
     else if tag == 2 then start_in rest
+    else if tag == 5 then moment_in rest
     else if tag == 6 then step_in rest
     else Err (tag ∷ rest)
 

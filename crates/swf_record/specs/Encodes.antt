@@ -1,19 +1,22 @@
 -- The bytes of labels: numbers with their highest byte first, and what varies in length behind its length.
 use Rattle.std.specs.Prelude.{◌≡◌, ◌+◌, ◌^◌, ◌<◌, ◌≤◌, ℕ, List, ◌∷◌, ◌++◌, true, length, flat_map, Ok}
-use Rattle.std.specs.Int.{w16, w32, to_be_bytes}
+use Rattle.std.specs.Int.{w16, w32, w64, to_be_bytes}
 use Rattle.std.specs.List.{AllByRecursion}
 use Rattle.std.specs.Str.{encode_utf8_all, all_scalars}
 use Rattle.swf_value.specs.Value.{Value, depth}
 use Rattle.swf_value.specs.Written.{written}
 use Rattle.swf_value.specs.Read.{read_within}
 use Rattle.swf_meaning.specs.declared.label.Label.{Label}
-use Rattle.swf_meaning.specs.declared.label.Label.TheVariants.{Load, Start, Step}
+use Rattle.swf_meaning.specs.declared.label.Label.TheVariants.{Load, Start, Moment, Step}
 
 unfoldable pub two_bytes : ℕ → List ℕ
 two_bytes n = to_be_bytes w16 n
 
 unfoldable pub four_bytes : ℕ → List ℕ
 four_bytes n = to_be_bytes w32 n
+
+unfoldable pub eight_bytes : ℕ → List ℕ
+eight_bytes n = to_be_bytes w64 n
 
 -- bytes behind their count
 abbrev pub block_bytes : List ℕ → List ℕ
@@ -36,6 +39,7 @@ abbrev pub label_bytes : Label → List ℕ
 label_bytes (Load v) = 1 ∷ value_bytes v
 label_bytes (Start id key input) =
     2 ∷ (text_bytes id ++ (text_bytes key.namespace ++ (text_bytes key.name ++ (text_bytes key.version ++ value_bytes input))))
+label_bytes (Moment moment) = 5 ∷ eight_bytes moment
 label_bytes (Step id strand) = 6 ∷ (text_bytes id ++ strand_bytes strand)
 
 -- labels behind their count
@@ -50,6 +54,7 @@ label_place ls = 4 + length (flat_map label_bytes ls)
 abbrev pub Nests : Label → Type 0
 Nests (Load v) = depth v ≤ 64
 Nests (Start id key input) = depth input ≤ 64
+Nests (Moment moment) = Unit {0}
 Nests (Step id strand) = Unit {0}
 
 -- a text of characters whose bytes four bytes can count
@@ -67,9 +72,14 @@ pub record FitsStrand (s : List ℕ) : Type 0 where
   pub short : length s < 2 ^ 16
   pub small : AllByRecursion (λ n. n < 2 ^ 16) s
 
+-- the last moment
+abbrev pub last_moment : ℕ
+last_moment = 4503599627370495
+
 abbrev pub FieldsFit : Label → Type 0
 FieldsFit (Load v) = FitsValue v
 FieldsFit (Start id key input) = FitsText id × FitsText key.namespace × FitsText key.name × FitsText key.version × FitsValue input
+FieldsFit (Moment moment) = moment ≤ last_moment
 FieldsFit (Step id strand) = FitsText id × FitsStrand strand
 
 -- a label that has bytes

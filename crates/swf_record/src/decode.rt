@@ -1,6 +1,6 @@
 // From bytes to labels.
 ghost use Rattle.std.specs.Prelude.{◌≡◌, ℕ, Ok, Err, IfOk};
-ghost use Rattle.swf_record.specs.Decodes.{load_in, start_in, step_in, label_in, many_in, record_in, decoded};
+ghost use Rattle.swf_record.specs.Decodes.{load_in, start_in, moment_in, step_in, label_in, many_in, record_in, decoded};
 ghost use Rattle.swf_record.specs.Encodes.{Encodes};
 ghost use Rattle.swf_record.specs.Told.{Tells};
 
@@ -8,6 +8,7 @@ use crate::fault::RecordFault;
 use crate::reader::{Reader, Stop};
 use std::alloc::Global;
 use swf_document::DocKey;
+use swf_duration::Moment;
 use swf_meaning::Label;
 
 /// The labels that stand in these bytes. It takes no memory for what the bytes only announce.
@@ -68,6 +69,7 @@ fn read_label(alloc: Global, reader: &mut Reader<'_>) -> Result<Label, Stop>
     match *tag {
         1 => read_load(alloc, reader),
         2 => read_start(alloc, reader),
+        5 => read_moment(reader),
         6 => read_step(alloc, reader),
         _ => {
             reader.rest = field;
@@ -96,6 +98,19 @@ fn read_start(alloc: Global, reader: &mut Reader<'_>) -> Result<Label, Stop>
         version,
     };
     Ok(Label::Start { id, key, input })
+}
+
+fn read_moment(reader: &mut Reader<'_>) -> Result<Label, Stop>
+    ensures { Tells (λ l. l) result reader.new.rest.now (moment_in reader.old.rest.now) }
+{
+    let field = reader.rest;
+    let milliseconds = reader.eight_bytes()?;
+    if milliseconds <= Moment::LAST {
+        Ok(Label::Moment(Moment::new(milliseconds)))
+    } else {
+        reader.rest = field;
+        Err(Stop::Misfit)
+    }
 }
 
 fn read_step(alloc: Global, reader: &mut Reader<'_>) -> Result<Label, Stop>

@@ -2,7 +2,7 @@
 ghost use Rattle.std.specs.Prelude.{◌≡◌, ◌++◌, ◌+◌, ◌^◌, ◌<◌, ◌≤◌, length, IfOk, OnOk};
 ghost use Rattle.std.specs.List.{AllByRecursion};
 ghost use Rattle.swf_value.specs.Value.{depth};
-ghost use Rattle.swf_record.specs.Encodes.{two_bytes, four_bytes, block_bytes, text_bytes, value_bytes, strand_bytes, label_bytes, Nests, FitsText, FitsValue, FitsStrand, Fits, Encodes};
+ghost use Rattle.swf_record.specs.Encodes.{two_bytes, four_bytes, eight_bytes, block_bytes, text_bytes, value_bytes, strand_bytes, label_bytes, Nests, FitsText, FitsValue, FitsStrand, Fits, Encodes};
 
 use std::alloc::{AllocError, Global};
 use swf_document::DocKey;
@@ -41,6 +41,10 @@ fn write_label(alloc: Global, label: &Label, out: &mut Vec<u8>) -> Result<(), Al
             write_text(id, out)?;
             write_key(key, out)?;
             write_value(alloc, input, out)
+        }
+        Label::Moment(moment) => {
+            out.push(5)?;
+            write_eight_bytes(moment.milliseconds(), out)
         }
         Label::Step { id, strand } => {
             out.push(6)?;
@@ -126,6 +130,13 @@ fn write_two_bytes(number: u16, out: &mut Vec<u8>) -> Result<(), AllocError>
 #[tactic(auto, unfolding(crate::specs::Encodes::four_bytes))]
 fn write_four_bytes(number: u32, out: &mut Vec<u8>) -> Result<(), AllocError>
     ensures { OnOk result (out.new.items ≡ out.old.items ++ four_bytes number) }
+{
+    out.extend_from_slice(&number.to_be_bytes())
+}
+
+#[tactic(auto, unfolding(crate::specs::Encodes::eight_bytes))]
+fn write_eight_bytes(number: u64, out: &mut Vec<u8>) -> Result<(), AllocError>
+    ensures { OnOk result (out.new.items ≡ out.old.items ++ eight_bytes number) }
 {
     out.extend_from_slice(&number.to_be_bytes())
 }

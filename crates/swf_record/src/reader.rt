@@ -1,6 +1,6 @@
 // Reading fields from the left.
 ghost use Rattle.std.specs.Prelude.{◌≡◌, IfOk, IsErr, None};
-ghost use Rattle.std.specs.Int.{w16, w32};
+ghost use Rattle.std.specs.Int.{w16, w32, w64};
 ghost use Rattle.std.specs.Result.{result_ok};
 ghost use Rattle.std.specs.Str.{bytes_eq};
 ghost use Rattle.swf_value.specs.Read.{read_within};
@@ -64,6 +64,19 @@ impl<'a> Reader<'a> {
         }
         let number = u32::from_be_bytes([self.rest[0], self.rest[1], self.rest[2], self.rest[3]]);
         self.rest = &self.rest[4..];
+        Ok(number)
+    }
+
+    pub(crate) fn eight_bytes(&mut self) -> Result<u64, Stop>
+        ensures { Tells (λ n. n) result self.new.rest.now (number_in w64 self.old.rest.now) }
+    {
+        if self.rest.len() < 8 {
+            return Err(Stop::Misfit);
+        }
+        let [a, b, c, d] = [self.rest[0], self.rest[1], self.rest[2], self.rest[3]];
+        let [e, f, g, h] = [self.rest[4], self.rest[5], self.rest[6], self.rest[7]];
+        let number = u64::from_be_bytes([a, b, c, d, e, f, g, h]);
+        self.rest = &self.rest[8..];
         Ok(number)
     }
 

@@ -1,6 +1,4 @@
 pub mod StackLemmas
-pub mod HaltLemmas
-pub mod RuleLemmas
-pub mod RaiseLemmas
-pub mod TaskLemmas
-pub mod SightLemmas
+pub mod StrandLemmas
+pub mod PutLemmas
+pub mod AdvanceLemmas

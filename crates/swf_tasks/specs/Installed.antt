@@ -1,19 +1,20 @@
 -- Which tasks stand around the part that takes a step, and what they become.
-use Rattle.std.specs.Prelude.{◌≡◌, List, [], ◌∷◌, ◌++◌, Option, Some, None, option_to_list}
+use Rattle.std.specs.Prelude.{◌≡◌, List, [], ◌∷◌, ◌++◌, Option, Some, None}
 use Rattle.swf_value.specs.Value.{Value}
 use Rattle.swf_document.specs.declared.error.Problem.{Problem}
 use Rattle.swf_meaning.specs.Complete.{Stepped}
 use Rattle.swf_meaning.specs.Local.{local}
 use Rattle.swf_meaning.specs.Node.{Node, Fresh, Live, Done, Fault}
 use Rattle.swf_meaning.specs.Sight.{Sight}
-use Rattle.swf_tasks.specs.Stack.{plug, top_node}
-use Rattle.swf_tasks.specs.declared.made.Frame.{Frame}
-use Rattle.swf_tasks.specs.declared.made.Top.{Top}
-use Rattle.swf_tasks.specs.declared.made.Top.TheVariants as tops
+use Rattle.swf_scene.specs.Stack.{plug, top_node}
+use Rattle.swf_scene.specs.declared.made.Frame.{Frame}
+use Rattle.swf_scene.specs.declared.made.Top.{Top}
+use Rattle.swf_scene.specs.declared.made.Top.TheVariants as tops
 
--- the tasks around: all where the innermost has not begun, and else all but the last
+-- the tasks around: all where the innermost has not begun or waits, and else all but the last
 abbrev pub AreAround : List Frame → Top → List Frame → Type 0
 AreAround fs (tops.Fresh t v) os = fs ≡ os
+AreAround fs (tops.Waiting t v u n m) os = fs ≡ os
 AreAround fs (tops.Done w g) os = (f : Frame) × (fs ≡ os ++ f ∷ [])
 AreAround fs (tops.Fault p) os = (f : Frame) × (fs ≡ os ++ f ∷ [])
 
@@ -23,9 +24,6 @@ put_in os m = record { node = plug os m.node; context = m.context }
 
 abbrev pub IsStep : Sight → List Frame → Top → Stepped → Type 0
 IsStep s fs t m = (os : List Frame) → AreAround fs t os → local s (plug fs (top_node t)) ≡ Some (put_in os m)
-
-abbrev pub IsInstalled : List Frame → Top → Option Frame → List Frame → Type 0
-IsInstalled fs t f new = (os : List Frame) → AreAround fs t os → new ≡ os ++ option_to_list f
 
 -- the output of an instance that is done
 abbrev pub output_in : Node → Option Value

@@ -1,8 +1,3 @@
-pub mod Source
-pub mod TaskRef
-pub mod Stack
-pub mod Halts
-pub mod Goals
-pub mod RaiseParts
 pub mod Installed
-pub mod Taken
+pub mod Strands
+pub mod Views

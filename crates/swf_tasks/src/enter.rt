@@ -5,21 +5,14 @@ ghost use Rattle.swf_document.specs.declared.common.Flow.TheVariants.{Continue};
 ghost use Rattle.swf_meaning.specs.Node.{Done};
 ghost use Rattle.swf_meaning.specs.Complete.{becomes};
 ghost use Rattle.swf_meaning.specs.Enter.{begun, guarded, enter};
-ghost use Rattle.swf_tasks.specs.Halts.{Gives};
-ghost use Rattle.swf_tasks.specs.Stack.{sight_of};
+ghost use Rattle.swf_scene.specs.Halts.{Gives};
+ghost use Rattle.swf_scene.specs.Stack.{sight_of};
 
-use crate::complete::{complete, input_of};
-use crate::halt::{Halt, value_of};
-use crate::lists::comes_to;
-use crate::made::{Made, Top};
-use crate::raise::raising;
-use crate::scene::Scene;
-use crate::sight::within;
-use crate::switch::switched;
-use crate::task::{TaskRef, Work};
 use std::alloc::Global;
 use swf_document::{Flow, Template};
 use swf_jq_builtins::is_true;
+use swf_rules::{comes_to, complete, input_of, looping, raising, switched, waiting};
+use swf_scene::{Halt, Made, Round, Scene, TaskRef, Top, Work, value_of, within};
 use swf_transform::{fill, first};
 use swf_value::Json;
 
@@ -32,7 +25,7 @@ fn set_value(
     input: &Json,
     template: &Template,
 ) -> Result<Made, Halt>
-    ensures { Gives (sight_of scene.now) (begun (sight_of scene.now) task.now raw.now input.now (set template.now)) result }
+    ensures { Gives (sight_of scene.entry.now) (begun (sight_of scene.entry.now) task.now raw.now input.now (set template.now)) result }
 {
     let vars = within(alloc, scene, task, raw, input)?;
     let value = value_of(alloc, task, fill(alloc, template, &vars, input)?)?;
@@ -47,20 +40,26 @@ fn begun(
     raw: &Json,
     input: &Json,
 ) -> Result<Made, Halt>
-    ensures { Gives (sight_of scene.now) (begun (sight_of scene.now) task.now raw.now input.now (kind_of task.now)) result }
+    ensures { Gives (sight_of scene.entry.now) (begun (sight_of scene.entry.now) task.now raw.now input.now (kind_of task.now)) result }
 {
     match task.work() {
-        Work::Do(_) => comes_to(alloc, scene, task, raw, input, 0, input.copy()?),
+        Work::Do(_) => comes_to(alloc, scene, task, raw, input, Round::Seq, 0, input.copy()?),
+        Work::For(spec) => looping(alloc, scene, task, raw, input, spec),
+        Work::Raise(reference) => raising(alloc, scene, task, raw, input, reference),
         Work::Set(template) => set_value(alloc, scene, task, raw, input, template),
         Work::Switch(cases) => switched(alloc, scene, task, raw, input, cases.as_slice()),
-        Work::Raise(reference) => raising(alloc, scene, task, raw, input, reference),
+        Work::Try(_) => {
+            let round = Round::Try { retries: 0 };
+            comes_to(alloc, scene, task, raw, input, round, 0, input.copy()?)
+        }
+        Work::Wait(duration) => waiting(scene, task, raw, input, duration),
         Work::Other => complete(alloc, scene, task, raw, input, input.copy()?),
     }
 }
 
 // A task whose `if` is not true is done with its raw input.
 fn skipped(scene: &Scene, raw: &Json) -> Result<Made, Halt>
-    ensures { Gives (sight_of scene.now) (becomes (sight_of scene.now) (Done raw.now Continue)) result }
+    ensures { Gives (sight_of scene.entry.now) (becomes (sight_of scene.entry.now) (Done raw.now Continue)) result }
 {
     Ok(Made {
         frame: None,
@@ -68,7 +67,7 @@ fn skipped(scene: &Scene, raw: &Json) -> Result<Made, Halt>
             output: raw.copy()?,
             flow: Flow::Continue,
         },
-        context: scene.context.copy()?,
+        context: scene.setting.context.copy()?,
     })
 }
 
@@ -80,7 +79,7 @@ fn guarded(
     raw: &Json,
     input: &Json,
 ) -> Result<Made, Halt>
-    ensures { Gives (sight_of scene.now) (guarded (sight_of scene.now) task.now raw.now input.now (common_of task.now).cond) result }
+    ensures { Gives (sight_of scene.entry.now) (guarded (sight_of scene.entry.now) task.now raw.now input.now (common_of task.now).cond) result }
 {
     let Some(condition) = task.cond() else {
         return begun(alloc, scene, task, raw, input);
@@ -96,7 +95,7 @@ fn guarded(
 
 /// A task that has not begun takes its step.
 pub fn enter(alloc: Global, scene: &Scene, task: &TaskRef, raw: &Json) -> Result<Made, Halt>
-    ensures { Gives (sight_of scene.now) (enter (sight_of scene.now) task.now raw.now) result }
+    ensures { Gives (sight_of scene.entry.now) (enter (sight_of scene.entry.now) task.now raw.now) result }
 {
     let input = input_of(alloc, scene, task, raw)?;
     guarded(alloc, scene, task, raw, &input)

@@ -1,17 +1,10 @@
 //! One instance at work: a stack of tasks that takes one step after another.
 #![tactic(auto)]
 
-mod complete;
 mod enter;
-mod halt;
-mod lists;
 mod machine;
-mod made;
-mod next;
-mod raise;
-mod scene;
-mod sight;
-mod switch;
-mod task;
+mod stack;
+mod view;
 
 pub use machine::{Machine, StepFault};
+pub use view::{InstanceView, Node};

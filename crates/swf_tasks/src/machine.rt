@@ -1,23 +1,31 @@
-// One instance: its scene, and a stack of the tasks that run inside each other.
-ghost use Rattle.std.specs.Prelude.{◌≡◌, ◌↔◌, ◌&&◌, ◌<◌, ◌++◌, ◌∷◌, [], ◌^◌, List, Err, IfOk, OnOk, OnErr, Some, true, false, option_map, option_to_list};
+// One instance: its setting, and a stack of the tasks that run inside each other.
+ghost use Rattle.std.specs.Prelude.{ℕ, if◌then◌else◌, ◌≡◌, ◌↔◌, ◌&&◌, ◌∷◌, [], List, Err, IfOk, OnOk, OnErr, Some, true, false, option_map};
 ghost use Rattle.swf_meaning.specs.Local.{local, is_enabled};
+ghost use Rattle.swf_meaning.specs.Shared.{advanced, is_shared, is_shared_error};
+ghost use Rattle.swf_meaning.specs.Parts.{kind_of};
 ghost use Rattle.swf_meaning.specs.World.{is_root, new_instance, with_step, sight};
-ghost use Rattle.swf_tasks.specs.Stack.{plug, top_node, sight_of, stepped_of};
+ghost use Rattle.swf_meaning.specs.Wake.{until, is_due};
+ghost use Rattle.swf_scene.specs.Stack.{plug, top_node, round_of, setting_sight, stepped_of};
+ghost use Rattle.swf_document.specs.declared.error.Problem.{Problem};
+ghost use Rattle.swf_meaning.specs.Complete.{Stepped};
 ghost use Rattle.swf_meaning.specs.Node.{Fault};
-ghost use Rattle.swf_meaning.specs.Complete.{Stepped, becomes};
-ghost use Rattle.swf_tasks.specs.declared.made.Frame.{Frame};
-ghost use Rattle.swf_tasks.specs.Halts.{Gives};
-ghost use Rattle.swf_tasks.specs.Installed.{IsStep, IsInstalled, output_in, problem_in};
+ghost use Rattle.swf_meaning.specs.Sight.{Sight};
+ghost use Rattle.swf_scene.specs.declared.made.Frame.{Frame as TheFrame};
+ghost use Rattle.swf_scene.specs.Layers.{running};
+ghost use Rattle.swf_scene.specs.Halts.{Gives};
+ghost use Rattle.swf_tasks.specs.Installed.{IsStep, output_in, problem_in};
+ghost use Rattle.swf_tasks.specs.Views.{IsViewOf};
 
 use crate::enter::enter;
-use crate::halt::Halt;
-use crate::made::{Frame, Made, Top};
-use crate::next::moved_on;
-use crate::scene::Scene;
-use crate::task::TaskRef;
+use crate::stack::{Standing, innermost, install, stack_of};
+use crate::view::{InstanceView, Node, copy_running};
 use std::alloc::{AllocError, Global};
 use std::marker::Model;
 use swf_document::Problem;
+use swf_duration::Moment;
+use swf_frames::Forest;
+use swf_rules::{failed, moved_on, woken};
+use swf_scene::{Frame, Halt, Layer, Made, Round, Scene, Setting, TaskRef, Top, Work};
 use swf_text::{Strand, Text};
 use swf_validate::Accepted;
 use swf_value::Json;
@@ -26,12 +34,11 @@ use thiserror::Error;
 /// An instance. Contracts see it as the instance of the definitions.
 #[derive(Drop)]
 pub struct Machine {
-    scene: Scene,
+    setting: Setting,
     /// How many activities it had.
     number: u64,
-    /// The tasks that run, of which the first is the workflow.
-    frames: Vec<Frame>,
-    top: Top,
+    /// Of one strand: the tasks that run, of which the first is the workflow, and at the top what stands innermost.
+    forest: Forest<Layer>,
 }
 
 /// Why a strand takes no step.
@@ -51,9 +58,13 @@ impl Model for Machine {
 
     ghost coded = { instance_code };
 
-    ghost use Rattle.swf_tasks.specs.Stack.{instance_of};
+    ghost use Rattle.swf_scene.specs.Layers.{frames_of, top_of};
+    ghost use Rattle.swf_scene.specs.Stack.{instance_of};
+    ghost use Rattle.swf_tasks.specs.Strands.{layers_in, IsAlone};
 
-    ghost view = { λ m. instance_of m.scene m.frames.items m.top m.number };
+    ghost view = { λ m. instance_of m.setting (frames_of (layers_in m.forest)) (top_of (layers_in m.forest)) m.number };
+
+    ghost invariant = { λ m. IsAlone m.forest };
 }
 
 impl Machine {
@@ -63,15 +74,14 @@ impl Machine {
         id: Text,
         document: Accepted,
         input: Json,
-        started: u64,
+        started: Moment,
     ) -> Result<Machine, AllocError>
-        requires { started < 2 ^ 53 }
         ensures { IfOk result (λ m. m ≡ new_instance id input started document) }
     {
         let task = TaskRef::workflow(document.copy()?);
         let raw = input.copy()?;
         Ok(Machine {
-            scene: Scene {
+            setting: Setting {
                 document,
                 id,
                 started,
@@ -79,8 +89,7 @@ impl Machine {
                 context: Json::null(),
             },
             number: 0,
-            frames: Vec::new(alloc),
-            top: Top::Fresh { task, raw },
+            forest: Forest::new(alloc, Layer::Top(Top::Fresh { task, raw }))?,
         })
     }
 
@@ -89,56 +98,149 @@ impl Machine {
         ensures { IfOk result (λ m. m ≡ self.now) }
     {
         Ok(Machine {
-            scene: self.scene.copy()?,
+            setting: self.setting.copy()?,
             number: self.number,
-            frames: copy_frames(alloc, &self.frames)?,
-            top: self.top.copy()?,
+            forest: self.forest.copy(alloc)?,
         })
     }
 
-    /// Whether it can take a step.
-    pub fn is_enabled(&self) -> bool
-        ensures { result ≡ is_enabled self.now.node }
+    /// Whether it can take a step at a moment.
+    pub fn is_enabled(&self, now: Moment) -> bool
+        ensures { result ≡ is_enabled now self.now.node }
     {
-        match &self.top {
+        let Standing { around, top } = stack_of(&self.forest);
+        match top {
             Top::Fresh { .. } => true,
-            Top::Done { .. } => !self.frames.is_empty(),
-            Top::Fault(_) => !self.frames.is_empty(),
+            Top::Done { .. } => !around.is_empty(),
+            Top::Fault(_) => !around.is_empty(),
+            Top::Waiting { until, .. } => *until <= now.milliseconds(),
         }
     }
 
-    /// Whether a strand can take a step.
-    pub fn enabled(&self, strand: &Strand) -> bool
-        ensures { result ≡ (is_root strand.now && is_enabled self.now.node) }
+    /// Whether a strand can take a step at a moment.
+    pub fn enabled(&self, strand: &Strand, now: Moment) -> bool
+        ensures { result ≡ (is_root strand.now && is_enabled now self.now.node) }
     {
-        strand.as_slice().is_empty() && self.is_enabled()
+        strand.as_slice().is_empty() && self.is_enabled(now)
     }
 
-    /// A strand takes its step.
-    pub fn step(&mut self, alloc: Global, strand: &Strand) -> Result<(), StepFault>
-        ensures ok { OnOk result (option_map (with_step self.old) (local (sight self.old) self.old.node) ≡ Some self.new) }
-        ensures err { OnErr result (self.new ≡ self.old) }
-        ensures not_enabled { (result ≡ Err StepFault.NotEnabled) ↔ ((is_root strand.now && is_enabled self.old.node) ≡ false) }
+    /// The moment that it waits for, in milliseconds, where it waits for one.
+    pub fn until(&self) -> Option<u64>
+        ensures { result ≡ until self.now.node }
     {
-        if !self.enabled(strand) {
+        match stack_of(&self.forest).top {
+            Top::Waiting { until, .. } => Some(*until),
+            _ => None,
+        }
+    }
+
+    /// Whether it waits until a moment, in milliseconds, or one before it.
+    pub fn due(&self, moment: u64) -> bool
+        ensures { result ≡ is_due moment self.now.node }
+    {
+        match self.until() {
+            Some(until) => until <= moment,
+            None => false,
+        }
+    }
+
+    /// What it is, as plain values. It copies no values.
+    pub fn view(&self, alloc: Global) -> Result<InstanceView, AllocError>
+        ensures { IfOk result (λ v. IsViewOf v self.now) }
+    {
+        let Setting {
+            document,
+            id,
+            started,
+            input,
+            context,
+        } = &self.setting;
+        let Standing { around, top } = stack_of(&self.forest);
+        let node = Node {
+            running: copy_running(alloc, around)?,
+            top: top.copy()?,
+        };
+        Ok(InstanceView {
+            id: id.copy()?,
+            key: document.document().key.copy()?,
+            input: input.copy()?,
+            started: *started,
+            context: context.copy()?,
+            node,
+            number: self.number,
+        })
+    }
+
+    /// A strand takes its step at a moment.
+    pub fn step(&mut self, alloc: Global, strand: &Strand, now: Moment) -> Result<(), StepFault>
+        ensures ok { OnOk result (option_map (with_step self.old) (local (sight now self.old) self.old.node) ≡ Some self.new) }
+        ensures err { OnErr result (self.new ≡ self.old) }
+        ensures not_enabled { (result ≡ Err StepFault.NotEnabled) ↔ ((is_root strand.now && is_enabled now self.old.node) ≡ false) }
+    {
+        if !self.enabled(strand, now) {
             return Err(StepFault::NotEnabled);
         }
-        match self.take_step(alloc) {
+        match self.take_step(alloc, now) {
             Ok(()) => Ok(()),
             Err(_) => Err(StepFault::OutOfMemory),
         }
     }
 
+    /// Takes steps of a strand at a moment until the fuel is used, the next step is shared, or there is none. Answers their
+    /// number. After want of memory the steps that were taken stand.
+    pub fn advance(
+        &mut self,
+        alloc: Global,
+        strand: &Strand,
+        fuel: u32,
+        now: Moment,
+    ) -> Result<u32, AllocError>
+        ensures ok { IfOk result (λ steps. (self.new, steps) ≡ advanced now (if is_root strand.now then fuel else 0) self.old) }
+        ensures err { OnErr result ((steps : ℕ) × (advanced now steps self.old ≡ (self.new, steps))) }
+    {
+        if !strand.as_slice().is_empty() {
+            return Ok(0);
+        }
+        let mut steps = 0;
+        while steps < fuel && !self.is_shared() && self.is_enabled(now) {
+            self.take_step(alloc, now)?;
+            steps += 1;
+        }
+        Ok(steps)
+    }
+
+    /// All its strands, ascending.
+    pub fn strands(&self, alloc: Global) -> Result<Vec<Strand>, AllocError>
+        ensures { IfOk result (λ v. v.items ≡ [] ∷ []) }
+    {
+        let mut strands = Vec::new(alloc);
+        strands.push(Strand::root(alloc))?;
+        Ok(strands)
+    }
+
+    // Whether the next step needs more of the world than the instance itself.
+    fn is_shared(&self) -> bool
+        ensures { result ≡ is_shared self.now.node }
+    {
+        let Standing { around, top } = stack_of(&self.forest);
+        match top {
+            Top::Fresh { task, .. } => task.is_shared(),
+            Top::Done { .. } => false,
+            Top::Fault(_) => is_error_shared(around),
+            Top::Waiting { .. } => false,
+        }
+    }
+
     // The part that stands innermost takes its step.
-    fn take_step(&mut self, alloc: Global) -> Result<(), AllocError>
-        requires { is_enabled self.old.node ≡ true }
-        ensures ok { OnOk result (option_map (with_step self.old) (local (sight self.old) self.old.node) ≡ Some self.new) }
+    fn take_step(&mut self, alloc: Global, now: Moment) -> Result<(), AllocError>
+        requires { is_enabled now self.old.node ≡ true }
+        ensures ok { OnOk result (option_map (with_step self.old) (local (sight now self.old) self.old.node) ≡ Some self.new) }
         ensures err { OnErr result (self.new ≡ self.old) }
     {
-        let made = next_of(alloc, &self.scene, &self.frames, &self.top)?;
-        install(&mut self.frames, &self.top, made.frame)?;
-        self.top = made.top;
-        self.scene.context = made.context;
+        let Standing { around, top } = stack_of(&self.forest);
+        let made = next_of(alloc, &self.setting, now, around, top)?;
+        install(alloc, &mut self.forest, made.frame, made.top)?;
+        self.setting.context = made.context;
         Ok(())
     }
 
@@ -146,27 +248,28 @@ impl Machine {
     pub fn id(&self) -> &Text
         ensures { result.now ≡ self.now.id }
     {
-        &self.scene.id
+        &self.setting.id
     }
 
     pub fn document(&self) -> &Accepted
         ensures { result.now ≡ self.now.document }
     {
-        &self.scene.document
+        &self.setting.document
     }
 
     pub fn context(&self) -> &Json
         ensures { result.now ≡ self.now.context }
     {
-        &self.scene.context
+        &self.setting.context
     }
 
     /// Its output, once it is done.
     pub fn output(&self) -> Option<&Json>
         ensures { option_map (λ v. v.now) result ≡ output_in self.now.node }
     {
-        match &self.top {
-            Top::Done { output, .. } if self.frames.is_empty() => Some(output),
+        let Standing { around, top } = stack_of(&self.forest);
+        match top {
+            Top::Done { output, .. } if around.is_empty() => Some(output),
             _ => None,
         }
     }
@@ -175,91 +278,85 @@ impl Machine {
     pub fn problem(&self) -> Option<&Problem>
         ensures { option_map (λ p. p.now) result ≡ problem_in self.now.node }
     {
-        match &self.top {
-            Top::Fault(problem) if self.frames.is_empty() => Some(problem),
+        let Standing { around, top } = stack_of(&self.forest);
+        match top {
+            Top::Fault(problem) if around.is_empty() => Some(problem),
             _ => None,
         }
     }
 }
 
-// The same tasks once more.
-fn copy_frames(alloc: Global, frames: &[Frame]) -> Result<Vec<Frame>, AllocError>
-    ensures { IfOk result (λ copies. copies.items ≡ frames.now) }
+// Whether an error of a task's list may lead to another try.
+fn may_try_again(frame: &Frame) -> bool
+    ensures { result ≡ is_shared_error (round_of frame.now.round) (kind_of frame.now.task) }
 {
-    let mut copies = Vec::new(alloc);
-    for frame in frames {
-        copies.push(frame.copy()?)?;
+    match (&frame.round, frame.task.work()) {
+        (Round::Try { .. }, Work::Try(spec)) => spec.retry.is_some(),
+        _ => false,
     }
-    Ok(copies)
+}
+
+// Whether an error inside these running tasks may lead to another try.
+fn is_error_shared(around: &[Layer]) -> bool
+    ensures { (fs : List TheFrame) (p : Problem) → around.now ≡ running fs → result ≡ is_shared (plug fs (Fault p)) }
+{
+    match around.split_last() {
+        Some((Layer::Running(frame), _)) => may_try_again(frame),
+        Some((Layer::Top(_), _)) => false,
+        None => false,
+    }
 }
 
 // What the step makes of the part that takes it.
-fn next_of(alloc: Global, scene: &Scene, frames: &[Frame], top: &Top) -> Result<Made, AllocError>
-    requires { is_enabled (plug frames.now (top_node top.now)) ≡ true }
-    ensures { IfOk result (λ m. IsStep (sight_of scene.now) frames.now top.now (stepped_of m)) }
+fn next_of(
+    alloc: Global,
+    setting: &Setting,
+    now: Moment,
+    around: &[Layer],
+    top: &Top,
+) -> Result<Made, AllocError>
+    requires { (fs : List TheFrame) × ((around.now ≡ running fs) × (is_enabled now (plug fs (top_node top.now)) ≡ true)) }
+    ensures { IfOk result (λ m. (fs : List TheFrame) → around.now ≡ running fs → IsStep (setting_sight setting.now now) fs top.now (stepped_of m)) }
 {
     match top {
-        Top::Fresh { task, raw } => made(scene, enter(alloc, scene, task, raw)),
-        Top::Done { output, flow } => {
-            let frame = &frames[frames.len() - 1];
-            made(scene, moved_on(alloc, scene, frame, output, flow))
+        Top::Fresh { task, raw } => {
+            let scene = Scene::inside(alloc, setting, now, around)?;
+            made(setting, enter(alloc, &scene, task, raw))
         }
-        Top::Fault(problem) => passed(scene, problem),
+        Top::Waiting {
+            task,
+            raw,
+            input,
+            retries,
+            ..
+        } => {
+            let scene = Scene::inside(alloc, setting, now, around)?;
+            made(setting, woken(alloc, &scene, task, raw, input, *retries))
+        }
+        Top::Done { output, flow } => {
+            let (frame, outer) = innermost(around);
+            let scene = Scene::inside(alloc, setting, now, outer)?;
+            made(setting, moved_on(alloc, &scene, frame, output, flow))
+        }
+        Top::Fault(problem) => {
+            let (frame, outer) = innermost(around);
+            let scene = Scene::inside(alloc, setting, now, outer)?;
+            made(setting, failed(alloc, &scene, frame, problem))
+        }
     }
-}
-
-// An error becomes that of the task around.
-fn passed(scene: &Scene, problem: &Problem) -> Result<Made, AllocError>
-    ensures { IfOk result (λ m. stepped_of m ≡ becomes (sight_of scene.now) (Fault problem.now)) }
-{
-    Ok(Made {
-        frame: None,
-        top: Top::Fault(problem.copy()?),
-        context: scene.context.copy()?,
-    })
 }
 
 // What a rule gives, an error included.
-fn made(scene: &Scene, given: Result<Made, Halt>) -> Result<Made, AllocError>
-    ensures { IfOk result (λ m. (x : Stepped) → Gives (sight_of scene.now) x given → stepped_of m ≡ x) }
+fn made(setting: &Setting, given: Result<Made, Halt>) -> Result<Made, AllocError>
+    ensures { IfOk result (λ m. (s : Sight) (x : Stepped) → s.context ≡ setting.now.context → Gives s x given → stepped_of m ≡ x) }
 {
     match given {
         Ok(made) => Ok(made),
-        Err(Halt::Fault(problem)) => passed(scene, &problem),
+        Err(Halt::Fault(problem)) => Ok(Made {
+            frame: None,
+            top: Top::Fault(problem),
+            context: setting.context.copy()?,
+        }),
         Err(Halt::OutOfMemory) => Err(AllocError),
-    }
-}
-
-// The task that took the step is put back: above the others where it had not begun, else in its place.
-fn install(frames: &mut Vec<Frame>, top: &Top, frame: Option<Frame>) -> Result<(), AllocError>
-    ensures ok { OnOk result (IsInstalled frames.old.items top.now frame frames.new.items) }
-    ensures err { OnErr result (frames.new.items ≡ frames.old.items) }
-{
-    match (top, frame) {
-        (Top::Fresh { .. }, Some(frame)) => {
-            frames.push(frame)?;
-            Ok(())
-        }
-        (Top::Fresh { .. }, None) => Ok(()),
-        (_, frame) => {
-            put_last(frames, frame);
-            Ok(())
-        }
-    }
-}
-
-// The last task is put anew, or dropped.
-fn put_last(frames: &mut Vec<Frame>, frame: Option<Frame>)
-    ensures { (os : List Frame) (f : Frame) → frames.old.items ≡ os ++ f ∷ [] → frames.new.items ≡ os ++ option_to_list frame }
-{
-    let count = frames.len();
-    if count == 0 {
-        return;
-    }
-    match frame {
-        Some(frame) => frames[count - 1] = frame,
-        None => {
-            let _ = frames.pop();
-        }
     }
 }

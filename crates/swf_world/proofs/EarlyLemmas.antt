@@ -1,8 +1,8 @@
 -- The place of a refusal is that of a used key.
-use Rattle.std.proofs.Common.{◌≡◌, subst, cond, ℕ, ◌≤◌, List, [], ◌∷◌, Bool, true, false, Option, Some, None, refl}
+use Rattle.std.proofs.Common.{◌≡◌, subst, cond, ℕ, ◌≤◌, List, [], ◌∷◌, nat_le, Bool, true, false, Option, Some, None, refl}
 use Rattle.std.specs.List.{AllByRecursion}
 use Rattle.swf_meaning.specs.declared.label.Label.{Label}
-use Rattle.swf_meaning.specs.declared.label.Label.TheVariants.{Load, Start, Step}
+use Rattle.swf_meaning.specs.declared.label.Label.TheVariants.{Load, Start, Moment, Step}
 use Rattle.swf_document.specs.declared.document.Document.{Document}
 use Rattle.swf_document.specs.declared.fault.Fault.{Fault}
 use Rattle.swf_meaning.specs.After.{accepted, load_faults, document_at}
@@ -10,7 +10,7 @@ use Rattle.swf_meaning.specs.Answer.{instance_at}
 use Rattle.swf_meaning.specs.Keys.{Key, Document as OfDocument, Instance as OfInstance, same_key}
 use Rattle.swf_meaning.specs.World.{World, Instance}
 use Rattle.swf_world.specs.declared.refusal.Refusal.{Refusal}
-use Rattle.swf_world.specs.declared.refusal.Refusal.TheVariants.{Refused, Duplicate, UnknownDocument, UnknownInstance, Full, NotEnabled}
+use Rattle.swf_world.specs.declared.refusal.Refusal.TheVariants.{Refused, Duplicate, UnknownDocument, UnknownInstance, Full, Past, NotEnabled}
 use Rattle.swf_world.specs.Early.{IsEarly, IsEarlyRefusal}
 use Rattle.swf_world.specs.Fields.{most_labels}
 use Rattle.swf_world.specs.Refusals.{duplicate, cause, refusal_of_load, refusal_of_start, refusal_of_step, refusal}
@@ -57,9 +57,9 @@ start_early : (w : World) (o : Option Document) → Early (refusal_of_start w o)
 start_early w None = one_early UnknownDocument tt
 start_early w (Some d) = cause_early _ Full None tt none_early
 
-step_early : (strand : List ℕ) (o : Option Instance) → Early (refusal_of_step strand o)
-step_early strand None = one_early UnknownInstance tt
-step_early strand (Some i) = by _
+step_early : (now : ℕ) (strand : List ℕ) (o : Option Instance) → Early (refusal_of_step now strand o)
+step_early now strand None = one_early UnknownInstance tt
+step_early now strand (Some i) = by _
   where
     by : (b : Bool) → Early (cond b None (Some NotEnabled))
     by true = none_early
@@ -70,4 +70,5 @@ pub refusal_early : (w : World) (l : Label) (r : Refusal) → AllByRecursion IsE
 unfolding Early
 refusal_early w (Load v) r a e = load_early w (load_faults v) (accepted v) a r e
 refusal_early w (Start id key input) r a e = duplicate_early (OfInstance id) w.keys _ a (start_early w (document_at key w.documents)) r e
-refusal_early w (Step id strand) r a e = step_early strand (instance_at id w.instances) r e
+refusal_early w (Moment moment) r a e = cause_early (nat_le moment w.now) (Past w.now) None tt none_early r e
+refusal_early w (Step id strand) r a e = step_early w.now strand (instance_at id w.instances) r e

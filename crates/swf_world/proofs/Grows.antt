@@ -1,28 +1,34 @@
 -- The maps stand for the world that a change makes, and go on to agree with each other.
-use Rattle.std.proofs.Common.{◌≡◌, ◌∙◌, ap, sym, refl, subst, cond, ℕ, zero, suc, ◌+◌, ◌<◌, ◌==◌, ◌||◌, ◌⊎◌, inl, inr, List, [], ◌∷◌, ◌++◌, length, Bool, true, false, is_some, Option, Some, None, option_and_then, slice_get, arith, length-append}
-use Rattle.std.proofs.lemmas.List.{map-append, length-map}
+use Rattle.std.proofs.Common.{◌≡◌, ◌∙◌, ap, sym, refl, subst, cond, ℕ, zero, suc, ◌+◌, ◌<◌, ◌==◌, ◌&&◌, ◌||◌, ◌⊎◌, inl, inr, List, [], ◌∷◌, ◌++◌, length, Bool, true, false, is_some, Option, Some, None, option_and_then, slice_get, arith, length-append}
+use Rattle.std.proofs.lemmas.List.{map-append}
 use Rattle.std.proofs.lemmas.List.Folds.{list_any-append}
-use Rattle.std.proofs.lemmas.Bool.{or_parts, eqb-true}
+use Rattle.std.proofs.lemmas.Bool.{or_parts, or_from, ne_eqb}
 use Rattle.std.proofs.lemmas.Bool.Decides.{Decides-eqb}
 use Rattle.std.specs.List.{AllByRecursion, list_any}
 use Rattle.std.specs.Map.{lookup, keys_of}
+use Rattle.std.specs.BinaryHeap.{IsHeap}
 use Rattle.swf_text.specs.Same.{same}
 use Rattle.swf_document.specs.declared.document.DocKey.{DocKey}
-use Rattle.swf_meaning.specs.Keys.{Key as WorldKey, Document as OfDocument, Instance as OfInstance, same_doc, same_key}
+use Rattle.swf_meaning.specs.Keys.{Key as WorldKey, Document as OfDocument, Instance as OfInstance, Moment as OfMoment, same_doc, same_key}
+use Rattle.swf_meaning.specs.Wake.{until}
 use Rattle.swf_meaning.specs.World.{Instance}
 use Rattle.swf_meaning.specs.After.{is_used}
 use Rattle.swf_world.specs.declared.key.Key.{Key}
-use Rattle.swf_world.specs.declared.key.Key.TheVariants.{Document, Instance as InstanceKey}
+use Rattle.swf_world.specs.declared.key.Key.TheVariants.{Document, Instance as InstanceKey, Moment}
 use Rattle.swf_world.specs.declared.world.Loaded.{Loaded}
 use Rattle.swf_world.specs.Held.{Held}
 use Rattle.swf_world.specs.contracts.key.KeyPartialEq.TheImpl.{ghosts}
 use Rattle.swf_world.specs.UsedKey.{key_of, docs_alike, doc_eq, keys_alike}
 use Rattle.swf_world.specs.Fields.{instances_in, keys_in, world_of, most_labels}
 use Rattle.swf_world.specs.Early.{IsEarly}
-use Rattle.swf_world.specs.Kept.{Kept, IsNamed, IsPlaced}
+use Rattle.swf_world.specs.Kept.{Kept, New, IsNamed, IsPlaced}
 use Rattle.swf_world.specs.Queued.{Queued, is_among, enabled_at}
+use Rattle.swf_world.specs.Line.{Line}
+use Rattle.swf_world.specs.Waits.{above, is_at, is_set, timer_cmp}
 use Rattle.swf_world.specs.Changes.{stepped_one, put_at}
-use Rattle.swf_world.proofs.MachineLemmas.{step_enabled, enabled_put, length_put}
+use Rattle.swf_world.specs.declared.timers.Timer.{Timer}
+use Rattle.swf_world.proofs.MachineLemmas.{step_enabled, enabled_put, enabled_within, length_put}
+use Rattle.swf_world.proofs.WaitLemmas.{awake_at, wait_put, wait_pushed}
 
 -- what holds of each also holds with one more of which it holds
 all_pushed : {A : Type 0} (P : A → Type 0) (xs : List A) (x : A) → AllByRecursion P xs → P x → AllByRecursion P (xs ++ x ∷ [])
@@ -70,34 +76,58 @@ not_among k ks used n h =
 early_pushed : (ks : List (Key × ℕ)) (k : Key) (n : ℕ) → AllByRecursion IsEarly (keys_in ks) → n < most_labels → AllByRecursion IsEarly (keys_in (ks ++ (k, n) ∷ []))
 early_pushed ks k n early few = subst (AllByRecursion IsEarly) (sym (keys_pushed ks k n)) (all_pushed IsEarly (keys_in ks) (key_of k, n) early (omega arith))
 
-pub kept_loaded : (ds : List (DocKey × Loaded)) (is : List (List ℕ × Instance)) (ks : List (Key × ℕ)) (queue : List ℕ) (n : ℕ) (key : DocKey) (used : Key) (l : Loaded) →
-    Kept ds is ks queue n → IsNamed (key, l) → used ≡ Document l.document.key → n < most_labels →
-    Kept (ds ++ (key, l) ∷ []) is (ks ++ (used, n) ∷ []) queue (n + 1)
-kept_loaded ds is ks queue n key used l kept named e few = record {
-  named = all_pushed IsNamed ds (key, l) kept.named named;
-  placed = kept.placed;
-  new_document = λ k h.
+-- a key that is neither among those nor the one more
+still_not : (k : WorldKey) (ks : List (Key × ℕ)) (used : Key) (n : ℕ) → list_any (λ p. same_key k p.0) (keys_in ks) ≡ false → same_key k (key_of used) ≡ false → list_any (λ p. same_key k p.0) (keys_in (ks ++ (used, n) ∷ [])) ≡ false
+still_not k ks used n h e =
+    ap (list_any (λ p. same_key k p.0)) (keys_pushed ks used n) ∙ list_any-append (λ p. same_key k p.0) (keys_in ks) ((key_of used, n) ∷ [])
+    ∙ or_from (list_any (λ p. same_key k p.0) (keys_in ks)) (same_key k (key_of used) || false) h (or_from (same_key k (key_of used)) false e refl)
+
+new_loaded : (ds : List (DocKey × Loaded)) (is : List (List ℕ × Instance)) (ks : List (Key × ℕ)) (now n : ℕ) (key : DocKey) (used : Key) (l : Loaded) → New ds is ks now → IsNamed (key, l) → used ≡ Document l.document.key → New (ds ++ (key, l) ∷ []) is (ks ++ (used, n) ∷ []) now
+new_loaded ds is ks now n key used l new named e = record {
+  document = λ k h.
       let p = not_among (OfDocument k) ks used n h in
       let q : same_doc k l.document.key ≡ false = ap (λ x. same_key (OfDocument k) (key_of x)) (sym e) ∙ p.1 in
-      none_pushed (doc_eq k) ds key l (kept.new_document k p.0) (ap (doc_eq k) named ∙ sym (docs_alike k l.document.key) ∙ q);
-  new_instance = λ id h. kept.new_instance id (not_among (OfInstance id) ks used n h).0;
-  turns = kept.turns;
+      none_pushed (doc_eq k) ds key l (new.document k p.0) (ap (doc_eq k) named ∙ sym (docs_alike k l.document.key) ∙ q);
+  instance = λ id h. new.instance id (not_among (OfInstance id) ks used n h).0;
+  moment = λ m w. still_not (OfMoment m) ks used n (new.moment m w) (ap (λ x. same_key (OfMoment m) (key_of x)) e);
+}
+
+new_started : (ds : List (DocKey × Loaded)) (is : List (List ℕ × Instance)) (ks : List (Key × ℕ)) (now n : ℕ) (id : List ℕ) (used : Key) (i : Instance) → New ds is ks now → used ≡ InstanceKey id → New ds (is ++ (id, i) ∷ []) (ks ++ (used, n) ∷ []) now
+new_started ds is ks now n id used i new e = record {
+  document = λ k h. new.document k (not_among (OfDocument k) ks used n h).0;
+  instance = λ k h.
+      let p = not_among (OfInstance k) ks used n h in
+      none_pushed (same k) is id i (new.instance k p.0) (ap (λ x. same_key (OfInstance k) (key_of x)) (sym e) ∙ p.1);
+  moment = λ m w. still_not (OfMoment m) ks used n (new.moment m w) (ap (λ x. same_key (OfMoment m) (key_of x)) e);
+}
+
+new_reached : (ds : List (DocKey × Loaded)) (is : List (List ℕ × Instance)) (ks : List (Key × ℕ)) (now n moment : ℕ) → New ds is ks now → now < moment → New ds is (ks ++ (Moment moment, n) ∷ []) moment
+new_reached ds is ks now n moment new later = record {
+  document = λ k h. new.document k (not_among (OfDocument k) ks (Moment moment) n h).0;
+  instance = λ k h. new.instance k (not_among (OfInstance k) ks (Moment moment) n h).0;
+  moment = λ m w. still_not (OfMoment m) ks (Moment moment) n (new.moment m (omega arith)) (ne_eqb m moment (λ e. omega arith));
+}
+
+pub kept_loaded : (ds : List (DocKey × Loaded)) (is : List (List ℕ × Instance)) (ks : List (Key × ℕ)) (now n : ℕ) (turns : Line) (timers : List Timer) (key : DocKey) (used : Key) (l : Loaded) →
+    Kept ds is ks now n turns timers → IsNamed (key, l) → used ≡ Document l.document.key → n < most_labels →
+    Kept (ds ++ (key, l) ∷ []) is (ks ++ (used, n) ∷ []) now (n + 1) turns timers
+kept_loaded ds is ks now n turns timers key used l kept named e few = record {
+  named = all_pushed IsNamed ds (key, l) kept.named named;
+  placed = kept.placed;
+  new = new_loaded ds is ks now n key used l kept.new named e;
+  waiting = kept.waiting;
   early = early_pushed ks used n kept.early few;
   few = omega arith;
 }
 
-enabled_pushed : (xs : List Instance) (x : Instance) (m : ℕ) → enabled_at (xs ++ x ∷ []) m ≡ true → (enabled_at xs m ≡ true) ⊎ (m ≡ length xs)
-enabled_pushed [] x zero e = inr refl
-enabled_pushed [] x (suc m) e = cc
-enabled_pushed (y ∷ ys) x zero e = inl e
-enabled_pushed (y ∷ ys) x (suc m) e = elim (enabled_pushed ys x m e) [ inl h ↦ inl h | inr h ↦ inr (ap suc h) ]
+enabled_pushed : (now : ℕ) (xs : List Instance) (x : Instance) (m : ℕ) → enabled_at now (xs ++ x ∷ []) m ≡ true → (enabled_at now xs m ≡ true) ⊎ (m ≡ length xs)
+enabled_pushed now [] x zero e = inr refl
+enabled_pushed now [] x (suc m) e = cc
+enabled_pushed now (y ∷ ys) x zero e = inl e
+enabled_pushed now (y ∷ ys) x (suc m) e = elim (enabled_pushed now ys x m e) [ inl h ↦ inl h | inr h ↦ inr (ap suc h) ]
 
 among_pushed : (m n : ℕ) (queue : List ℕ) → is_among m (queue ++ n ∷ []) ≡ (is_among m queue || ((m == n) || false))
 among_pushed m n queue = list_any-append (λ k. m == k) queue (n ∷ [])
-
-or_true : (a b : Bool) → (a || b) ≡ true → (a ≡ true) ⊎ (b ≡ true)
-or_true true b e = inl refl
-or_true false b e = inr e
 
 or_first : (a b : Bool) → a ≡ true → (a || b) ≡ true
 or_first true b e = refl
@@ -107,53 +137,77 @@ or_second : (a b : Bool) → b ≡ true → (a || b) ≡ true
 or_second true b e = refl
 or_second false b e = e
 
--- a new instance waits behind all others
-queued_pushed : (xs : List Instance) (x : Instance) (queue : List ℕ) (n : ℕ) → n ≡ length xs → Queued xs queue → Queued (xs ++ x ∷ []) (queue ++ n ∷ [])
-queued_pushed xs x queue n e q = record {
+-- a new instance stands behind all others, and does not wait
+queued_pushed : (now : ℕ) (xs : List Instance) (x : Instance) (queue : List ℕ) (timers : List Timer) (n : ℕ) → n ≡ length xs → until x.node ≡ None → Queued now xs queue timers → Queued now (xs ++ x ∷ []) (queue ++ n ∷ []) timers
+queued_pushed now xs x queue timers n e awake q = record {
   all = λ m h. among_pushed m n queue
-      ∙ elim (enabled_pushed xs x m h) [
+      ∙ elim (enabled_pushed now xs x m h) [
         | inl g ↦ or_first (is_among m queue) ((m == n) || false) (q.all m g)
         | inr g ↦ or_second (is_among m queue) ((m == n) || false) (or_first (m == n) false ((Decides-eqb m n).1 (g ∙ sym e)))
       ];
-  numbers = λ m h. elim (or_true (is_among m queue) ((m == n) || false) (sym (among_pushed m n queue) ∙ h)) [
-    | inl g ↦ omega (arith, q.numbers m g, length-append xs (x ∷ []))
-    | inr g ↦ elim (or_true (m == n) false g) [
-      | inl f ↦ omega (arith, eqb-true m n f, length-append xs (x ∷ []))
-      | inr f ↦ cc
-    ]
-  ];
+  waits = λ k m. q.waits k m ∙ ap (is_at m) (sym (wait_pushed now xs x k awake));
 }
 
-pub kept_started : (ds : List (DocKey × Loaded)) (is : List (List ℕ × Instance)) (ks : List (Key × ℕ)) (queue : List ℕ) (n : ℕ) (id : List ℕ) (used : Key) (i : Instance) (number : ℕ) →
-    Kept ds is ks queue n → IsPlaced (id, i) → used ≡ InstanceKey id → n < most_labels → number ≡ length is →
-    Kept ds (is ++ (id, i) ∷ []) (ks ++ (used, n) ∷ []) (queue ++ number ∷ []) (n + 1)
-kept_started ds is ks queue n id used i number kept placed e few at = record {
+pub kept_started : (ds : List (DocKey × Loaded)) (is : List (List ℕ × Instance)) (ks : List (Key × ℕ)) (now n : ℕ) (turns next : Line) (timers : List Timer) (id : List ℕ) (used : Key) (i : Instance) →
+    Kept ds is ks now n turns timers → IsPlaced (id, i) → used ≡ InstanceKey id → until i.node ≡ None → n < most_labels → next.numbers ≡ turns.numbers ++ turns.count ∷ [] → next.count ≡ turns.count + 1 →
+    Kept ds (is ++ (id, i) ∷ []) (ks ++ (used, n) ∷ []) now (n + 1) next timers
+kept_started ds is ks now n turns next timers id used i kept placed e awake few numbers count =
+    let all : instances_in (is ++ (id, i) ∷ []) ≡ instances_in is ++ i ∷ [] = map-append (λ e. e.1) is ((id, i) ∷ []) in
+    record {
+      named = kept.named;
+      placed = all_pushed IsPlaced is (id, i) kept.placed placed;
+      new = new_started ds is ks now n id used i kept.new e;
+      waiting = record {
+        queued = subst (λ xs. Queued now xs next.numbers timers) (sym all) (subst (λ q. Queued now (instances_in is ++ i ∷ []) q timers) (sym numbers)
+            (queued_pushed now (instances_in is) i turns.numbers timers turns.count kept.waiting.count awake kept.waiting.queued));
+        count = count ∙ ap (λ n. n + 1) kept.waiting.count ∙ sym (length-append (instances_in is) (i ∷ [])) ∙ sym (ap length all);
+        order = kept.waiting.order;
+      };
+      early = early_pushed ks used n kept.early few;
+      few = omega arith;
+    }
+
+-- a moment that was reached
+pub kept_reached : (ds : List (DocKey × Loaded)) (is : List (List ℕ × Instance)) (ks : List (Key × ℕ)) (now n moment used : ℕ) (turns next : Line) (timers left : List Timer) →
+    Kept ds is ks now n turns timers → used ≡ moment → now < moment → n < most_labels → Queued moment (instances_in is) next.numbers left → next.count ≡ turns.count → IsHeap timer_cmp left →
+    Kept ds is (ks ++ (Moment used, n) ∷ []) moment (n + 1) next left
+kept_reached ds is ks now n moment used turns next timers left kept same later few queued count order = record {
   named = kept.named;
-  placed = all_pushed IsPlaced is (id, i) kept.placed placed;
-  new_document = λ k h. kept.new_document k (not_among (OfDocument k) ks used n h).0;
-  new_instance = λ k h.
-      let p = not_among (OfInstance k) ks used n h in
-      none_pushed (same k) is id i (kept.new_instance k p.0) (ap (λ x. same_key (OfInstance k) (key_of x)) (sym e) ∙ p.1);
-  turns = subst (λ xs. Queued xs (queue ++ number ∷ [])) (sym (map-append (λ e. e.1) is ((id, i) ∷ [])))
-      (queued_pushed (instances_in is) i queue number (at ∙ sym (length-map is (λ e. e.1))) kept.turns);
-  early = early_pushed ks used n kept.early few;
+  placed = kept.placed;
+  new = subst (λ m. New ds is (ks ++ (Moment m, n) ∷ []) moment) (sym same) (new_reached ds is ks now n moment kept.new later);
+  waiting = record { queued = queued; count = count ∙ kept.waiting.count; order = order };
+  early = early_pushed ks (Moment used) n kept.early few;
   few = omega arith;
 }
 
-pub kept_stepped : (ds : List (DocKey × Loaded)) (is js : List (List ℕ × Instance)) (ks : List (Key × ℕ)) (queue : List ℕ) (n number : ℕ) (j : Instance) →
-    Kept ds is ks queue n → option_and_then stepped_one (slice_get (instances_in is) number) ≡ Some j → n < most_labels →
+-- an instance took its step, and its timer was set
+queued_stepped : (now : ℕ) (is : List Instance) (queue : List ℕ) (timers next : List Timer) (n : ℕ) (j : Instance) → Queued now is queue timers → enabled_at now is n ≡ true →
+    ((k m : ℕ) → is_set k m next ≡ (((k == n) && is_at m (above now (until j.node))) || is_set k m timers)) → Queued now (put_at n j is) queue next
+queued_stepped now is queue timers next n j q can set = record {
+  all = λ m h. q.all m (enabled_put now is n m j can h);
+  waits = λ k m. set k m ∙ ap (λ b. ((k == n) && is_at m (above now (until j.node))) || b) (q.waits k m)
+      ∙ sym (wait_put now is n k m j (enabled_within now is n can) (awake_at now is n can));
+}
+
+pub kept_stepped : (ds : List (DocKey × Loaded)) (is js : List (List ℕ × Instance)) (ks : List (Key × ℕ)) (now n : ℕ) (turns : Line) (timers next : List Timer) (number : ℕ) (j : Instance) →
+    Kept ds is ks now n turns timers → option_and_then (stepped_one now) (slice_get (instances_in is) number) ≡ Some j → n < most_labels →
     instances_in js ≡ put_at number j (instances_in is) → AllByRecursion IsPlaced js → keys_of js ≡ keys_of is →
-    Kept ds js ks queue (n + 1)
-kept_stepped ds is js ks queue n number j kept suits few stepped placed ids =
-    let can : enabled_at (instances_in is) number ≡ true = step_enabled (instances_in is) number j suits in
+    ((k m : ℕ) → is_set k m next ≡ (((k == number) && is_at m (above now (until j.node))) || is_set k m timers)) → IsHeap timer_cmp next →
+    Kept ds js ks now (n + 1) turns next
+kept_stepped ds is js ks now n turns timers next number j kept suits few stepped placed ids set order =
+    let can : enabled_at now (instances_in is) number ≡ true = step_enabled now (instances_in is) number j suits in
     record {
       named = kept.named;
       placed = placed;
-      new_document = kept.new_document;
-      new_instance = λ id h. none_again (same id) is js ids (kept.new_instance id h);
-      turns = record {
-        all = λ m h. kept.turns.all m (enabled_put (instances_in is) number m j can (subst (λ xs. enabled_at xs m ≡ true) stepped h));
-        numbers = λ m h. omega (arith, kept.turns.numbers m h, ap length stepped, length_put (instances_in is) number j);
+      new = record {
+        document = kept.new.document;
+        instance = λ id h. none_again (same id) is js ids (kept.new.instance id h);
+        moment = kept.new.moment;
+      };
+      waiting = record {
+        queued = subst (λ xs. Queued now xs turns.numbers next) (sym stepped) (queued_stepped now (instances_in is) turns.numbers timers next number j kept.waiting.queued can set);
+        count = kept.waiting.count ∙ sym (length_put (instances_in is) number j) ∙ sym (ap length stepped);
+        order = order;
       };
       early = kept.early;
       few = omega arith;
@@ -171,9 +225,9 @@ no_key E alike k (x ∷ xs) h =
 
 -- a key that was not used is not in the map of keys
 pub new_key : (k : Key) (ks : List (Key × ℕ)) → list_any (λ p. same_key (key_of k) p.0) (keys_in ks) ≡ false → lookup (key_eq k) ks ≡ None
-new_key k ks h = no_key key_eq (keys_alike key_eq docs_alike (λ a b. refl) (λ a b. refl) (λ a b. refl)) k ks h
+new_key k ks h = no_key key_eq (keys_alike key_eq (record { documents = docs_alike; instances = λ a b. refl; moments = λ a b. refl; document_instance = λ a b. (refl, refl); document_moment = λ a b. (refl, refl); instance_moment = λ a b. (refl, refl) })) k ks h
 
 -- what suits the world that the maps stand for suits the maps
-pub new_in_view : (ds : List (DocKey × Loaded)) (is : List (List ℕ × Instance)) (ks : List (Key × ℕ)) (n r : ℕ) (h : Held) (used : Key) (k : WorldKey) →
-    record { world = world_of ds is ks n; room = r } ≡ h → key_of used ≡ k → is_used k h.world ≡ false → list_any (λ p. same_key (key_of used) p.0) (keys_in ks) ≡ false
-new_in_view ds is ks n r h used k view e new = ap (λ k. list_any (λ p. same_key k p.0) (keys_in ks)) e ∙ ap (λ h. is_used k h.world) view ∙ new
+pub new_in_view : (ds : List (DocKey × Loaded)) (is : List (List ℕ × Instance)) (ks : List (Key × ℕ)) (now n r : ℕ) (h : Held) (used : Key) (k : WorldKey) →
+    record { world = world_of ds is ks now n; room = r } ≡ h → key_of used ≡ k → is_used k h.world ≡ false → list_any (λ p. same_key (key_of used) p.0) (keys_in ks) ≡ false
+new_in_view ds is ks now n r h used k view e new = ap (λ k. list_any (λ p. same_key k p.0) (keys_in ks)) e ∙ ap (λ h. is_used k h.world) view ∙ new

@@ -1,8 +1,11 @@
 pub mod MachineLemmas
+pub mod WaitLemmas
+pub mod TimerLemmas
+pub mod TurnLemmas
 pub mod BuiltLemmas
 pub mod ReportLemmas
 pub mod Lookups
-pub mod Steps
+pub mod StepLemmas
 pub mod Grows
 pub mod RefusalLaws
 pub mod Checks

@@ -52,10 +52,10 @@ instance_lookup id (e ∷ es) placed =
     ∙ ap (cond (same id e.0) (Some e.1)) (instance_lookup id es placed.1)
 
 -- the instance of a number
-pub enabled_there : (is : List (List ℕ × Instance)) (n : ℕ) (v : Instance) → slice_get (values_of is) n ≡ Some v → enabled_at (instances_in is) n ≡ is_enabled v.node
-enabled_there [] n v e = cc
-enabled_there (x ∷ xs) zero v e = ap (λ i. is_enabled i.node) (same_Some x.1 v e)
-enabled_there (x ∷ xs) (suc n) v e = enabled_there xs n v e
+pub enabled_there : (now : ℕ) (is : List (List ℕ × Instance)) (n : ℕ) (v : Instance) → slice_get (values_of is) n ≡ Some v → enabled_at now (instances_in is) n ≡ is_enabled now v.node
+enabled_there now [] n v e = cc
+enabled_there now (x ∷ xs) zero v e = ap (λ i. is_enabled now i.node) (same_Some x.1 v e)
+enabled_there now (x ∷ xs) (suc n) v e = enabled_there now xs n v e
 
 pub instance_there : (is : List (List ℕ × Instance)) (n : ℕ) (v : Instance) → slice_get (values_of is) n ≡ Some v → slice_get (instances_in is) n ≡ Some v
 instance_there [] n v e = cc
@@ -67,17 +67,17 @@ stepped_first i j is None e = cc
 stepped_first i j is (Some m) e = ap (λ j. Some (j ∷ is)) (same_Some (with_step i m) j e)
 
 -- the first instance of an id takes the step
-pub stepped_there : (id : List ℕ) (is : List (List ℕ × Instance)) (n : ℕ) (j : Instance) → AllByRecursion IsPlaced is → position_or_len (same id) (keys_of is) ≡ n → n < length is →
-    option_and_then stepped_one (slice_get (instances_in is) n) ≡ Some j → stepped id (instances_in is) ≡ Some (put_at n j (instances_in is))
-stepped_there id [] n j placed p w e = absurd (omega arith)
-stepped_there id (x ∷ xs) n j placed p w e =
-    ap (λ b. cond b (option_map (λ m. with_step x.1 m ∷ instances_in xs) (local (sight x.1) x.1.node)) (option_map (λ js. x.1 ∷ js) (stepped id (instances_in xs)))) (ap (same id) (sym placed.0))
-    ∙ by (same id x.0) n p w e (λ m. stepped_there id xs m j placed.1)
+pub stepped_there : (now : ℕ) (id : List ℕ) (is : List (List ℕ × Instance)) (n : ℕ) (j : Instance) → AllByRecursion IsPlaced is → position_or_len (same id) (keys_of is) ≡ n → n < length is →
+    option_and_then (stepped_one now) (slice_get (instances_in is) n) ≡ Some j → stepped now id (instances_in is) ≡ Some (put_at n j (instances_in is))
+stepped_there now id [] n j placed p w e = absurd (omega arith)
+stepped_there now id (x ∷ xs) n j placed p w e =
+    ap (λ b. cond b (option_map (λ m. with_step x.1 m ∷ instances_in xs) (local (sight now x.1) x.1.node)) (option_map (λ js. x.1 ∷ js) (stepped now id (instances_in xs)))) (ap (same id) (sym placed.0))
+    ∙ by (same id x.0) n p w e (λ m. stepped_there now id xs m j placed.1)
   where
-    by : (b : Bool) (n : ℕ) → cond (not b) (1 + position_or_len (same id) (keys_of xs)) 0 ≡ n → n < length (x ∷ xs) → option_and_then stepped_one (slice_get (instances_in (x ∷ xs)) n) ≡ Some j →
-        ((m : ℕ) → position_or_len (same id) (keys_of xs) ≡ m → m < length xs → option_and_then stepped_one (slice_get (instances_in xs) m) ≡ Some j → stepped id (instances_in xs) ≡ Some (put_at m j (instances_in xs))) →
-        cond b (option_map (λ m. with_step x.1 m ∷ instances_in xs) (local (sight x.1) x.1.node)) (option_map (λ js. x.1 ∷ js) (stepped id (instances_in xs))) ≡ Some (put_at n j (instances_in (x ∷ xs)))
-    by true zero p w e rest = stepped_first x.1 j (instances_in xs) (local (sight x.1) x.1.node) e
+    by : (b : Bool) (n : ℕ) → cond (not b) (1 + position_or_len (same id) (keys_of xs)) 0 ≡ n → n < length (x ∷ xs) → option_and_then (stepped_one now) (slice_get (instances_in (x ∷ xs)) n) ≡ Some j →
+        ((m : ℕ) → position_or_len (same id) (keys_of xs) ≡ m → m < length xs → option_and_then (stepped_one now) (slice_get (instances_in xs) m) ≡ Some j → stepped now id (instances_in xs) ≡ Some (put_at m j (instances_in xs))) →
+        cond b (option_map (λ m. with_step x.1 m ∷ instances_in xs) (local (sight now x.1) x.1.node)) (option_map (λ js. x.1 ∷ js) (stepped now id (instances_in xs))) ≡ Some (put_at n j (instances_in (x ∷ xs)))
+    by true zero p w e rest = stepped_first x.1 j (instances_in xs) (local (sight now x.1) x.1.node) e
     by true (suc n) p w e rest = absurd (omega arith)
     by false zero p w e rest = absurd (omega arith)
     by false (suc n) p w e rest = ap (option_map (λ js. x.1 ∷ js)) (rest n (omega arith) (omega arith) e)

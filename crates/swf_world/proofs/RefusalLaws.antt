@@ -5,14 +5,15 @@ use Rattle.swf_text.specs.Same.{same}
 use Rattle.swf_document.specs.declared.document.Document.{Document}
 use Rattle.swf_document.specs.declared.fault.Fault.{Fault}
 use Rattle.swf_meaning.specs.declared.label.Label.{Label}
-use Rattle.swf_meaning.specs.declared.label.Label.TheVariants.{Load, Start, Step}
+use Rattle.swf_meaning.specs.declared.label.Label.TheVariants.{Load, Start, Moment, Step}
 use Rattle.swf_meaning.specs.Local.{local, is_enabled}
 use Rattle.swf_meaning.specs.Keys.{Document as OfDocument, Instance as OfInstance}
 use Rattle.swf_meaning.specs.World.{World, Instance, sight, with_step, new_instance, is_root}
 use Rattle.swf_meaning.specs.Answer.{instance_at}
 use Rattle.swf_meaning.specs.After.{after, loaded, load_faults, accepted, document_at, most_documents, most_instances, with_document, with_instance, stepped, with_instances}
 use Rattle.swf_world.specs.declared.refusal.Refusal.{Refusal}
-use Rattle.swf_world.specs.declared.refusal.Refusal.TheVariants.{Full, NotEnabled}
+use Rattle.swf_world.specs.declared.refusal.Refusal.TheVariants.{Full, Past, NotEnabled}
+use Rattle.swf_world.specs.Changes.{with_moment}
 use Rattle.swf_world.specs.UsedKey.{used_at}
 use Rattle.swf_world.specs.Refusals.{refusal, refusal_of_load, refusal_of_start, refusal_of_step, duplicate, cause}
 use Rattle.swf_world.proofs.Lookups.{used_some}
@@ -41,27 +42,27 @@ start_agrees w f None (Some d) = by (nat_le most_instances (length w.instances))
     by false = refl
 
 -- the instance can take a step
-abbrev can_go : Option Instance → Bool
-can_go None = false
-can_go (Some i) = is_enabled i.node
+abbrev can_go : ℕ → Option Instance → Bool
+can_go now None = false
+can_go now (Some i) = is_enabled now i.node
 
 -- the instance of an id takes a step where it can
-stepped_some : (id : List ℕ) (is : List Instance) → is_some (stepped id is) ≡ can_go (instance_at id is)
-stepped_some id [] = refl
-stepped_some id (i ∷ is) = by (same id i.id) (stepped_some id is)
+stepped_some : (now : ℕ) (id : List ℕ) (is : List Instance) → is_some (stepped now id is) ≡ can_go now (instance_at id is)
+stepped_some now id [] = refl
+stepped_some now id (i ∷ is) = by (same id i.id) (stepped_some now id is)
   where
-    by : (b : Bool) → is_some (stepped id is) ≡ can_go (instance_at id is) →
-        is_some (cond b (option_map (λ m. with_step i m ∷ is) (local (sight i) i.node)) (option_map (λ js. i ∷ js) (stepped id is))) ≡ can_go (cond b (Some i) (instance_at id is))
-    by true h = some_mapped (λ m. with_step i m ∷ is) (local (sight i) i.node) ∙ local_enabled (sight i) i.node
-    by false h = some_mapped (λ js. i ∷ js) (stepped id is) ∙ h
+    by : (b : Bool) → is_some (stepped now id is) ≡ can_go now (instance_at id is) →
+        is_some (cond b (option_map (λ m. with_step i m ∷ is) (local (sight now i) i.node)) (option_map (λ js. i ∷ js) (stepped now id is))) ≡ can_go now (cond b (Some i) (instance_at id is))
+    by true h = some_mapped (λ m. with_step i m ∷ is) (local (sight now i) i.node) ∙ local_enabled (sight now i) i.node
+    by false h = some_mapped (λ js. i ∷ js) (stepped now id is) ∙ h
 
-step_agrees : {A : Type 0} (strand : List ℕ) (s : Option A) (o : Option Instance) → is_some s ≡ can_go o → Agree (cond (is_root strand) s None) (refusal_of_step strand o)
-step_agrees strand s None e = by (is_root strand)
+step_agrees : {A : Type 0} (now : ℕ) (strand : List ℕ) (s : Option A) (o : Option Instance) → is_some s ≡ can_go now o → Agree (cond (is_root strand) s None) (refusal_of_step now strand o)
+step_agrees now strand s None e = by (is_root strand)
   where
     by : (b : Bool) → is_some (cond b s None) ≡ false
     by true = e
     by false = refl
-step_agrees strand s (Some i) e = by (is_root strand) (is_enabled i.node) e
+step_agrees now strand s (Some i) e = by (is_root strand) (is_enabled now i.node) e
   where
     by : (b t : Bool) → is_some s ≡ t → is_some (cond b s None) ≡ not (is_some (cond (b && t) None (Some NotEnabled)))
     by true true e = e
@@ -79,9 +80,14 @@ agree w (Load v) = by (load_faults v) (accepted v)
 agree w (Start id key input) =
     ap (λ b. is_some (cond (b || nat_le most_instances (length w.instances)) None (option_map (λ d. with_instance w (new_instance id input w.now d)) (document_at key w.documents)))) (sym (used_some (OfInstance id) w.keys))
     ∙ start_agrees w (λ d. with_instance w (new_instance id input w.now d)) (used_at (OfInstance id) w.keys) (document_at key w.documents)
+agree w (Moment moment) = by (nat_le moment w.now)
+  where
+    by : (b : Bool) → Agree (cond b None (Some (with_moment w moment))) (cause b (Past w.now) None)
+    by true = refl
+    by false = refl
 agree w (Step id strand) =
-    step_agrees strand (option_map (with_instances w) (stepped id w.instances)) (instance_at id w.instances)
-    (some_mapped (with_instances w) (stepped id w.instances) ∙ stepped_some id w.instances)
+    step_agrees w.now strand (option_map (with_instances w) (stepped w.now id w.instances)) (instance_at id w.instances)
+    (some_mapped (with_instances w) (stepped w.now id w.instances) ∙ stepped_some w.now id w.instances)
 
 -- a label that is refused leads nowhere
 pub refused_nowhere : (w : World) (l : Label) (r : Refusal) → refusal w l ≡ Some r → after w l ≡ None

@@ -2,7 +2,7 @@
 use Rattle.std.specs.Prelude.{ℕ, ◌≤◌}
 use Rattle.swf_meaning.specs.Keys.{Key}
 use Rattle.swf_world.specs.declared.refusal.Refusal.{Refusal}
-use Rattle.swf_world.specs.declared.refusal.Refusal.TheVariants.{Refused, Duplicate, UnknownDocument, UnknownInstance, Full, NotEnabled}
+use Rattle.swf_world.specs.declared.refusal.Refusal.TheVariants.{Refused, Duplicate, UnknownDocument, UnknownInstance, Full, Past, NotEnabled}
 use Rattle.swf_world.specs.Fields.{most_labels}
 
 -- a key was used at a place that a world has
@@ -16,4 +16,5 @@ IsEarlyRefusal (Duplicate place) = place ≤ most_labels
 IsEarlyRefusal UnknownDocument = Unit {0}
 IsEarlyRefusal UnknownInstance = Unit {0}
 IsEarlyRefusal Full = Unit {0}
+IsEarlyRefusal (Past now) = Unit {0}
 IsEarlyRefusal NotEnabled = Unit {0}

@@ -6,19 +6,19 @@ use Rattle.swf_meaning.specs.Local.{is_enabled}
 use Rattle.swf_meaning.specs.World.{World, Instance}
 use Rattle.swf_meaning.specs.After.{after}
 
-abbrev pub strands_of : List Instance → List (List ℕ × List ℕ)
-strands_of [] = []
-strands_of (i ∷ is) = if is_enabled i.node then (i.id, []) ∷ strands_of is else strands_of is
+abbrev pub strands_of : ℕ → List Instance → List (List ℕ × List ℕ)
+strands_of now [] = []
+strands_of now (i ∷ is) = if is_enabled now i.node then (i.id, []) ∷ strands_of now is else strands_of now is
 
 -- the strand of the instance of that number, where it can take a step
-abbrev pub strand_at : List Instance → ℕ → List (List ℕ × List ℕ)
-strand_at [] n = []
-strand_at (i ∷ is) zero = if is_enabled i.node then (i.id, []) ∷ [] else []
-strand_at (i ∷ is) (suc n) = strand_at is n
+abbrev pub strand_at : ℕ → List Instance → ℕ → List (List ℕ × List ℕ)
+strand_at now [] n = []
+strand_at now (i ∷ is) zero = if is_enabled now i.node then (i.id, []) ∷ [] else []
+strand_at now (i ∷ is) (suc n) = strand_at now is n
 
 -- every enabled strand with the id of its instance, in start order
 abbrev pub enabled_strands : World → List (List ℕ × List ℕ)
-enabled_strands w = strands_of w.instances
+enabled_strands w = strands_of w.now w.instances
 
 -- a step outside every branch that some instance can take now
 pub record CanGo (w : World) (l : Label) : Type 0 where

@@ -19,14 +19,14 @@ instances_in is = map (λ e. e.1) is
 abbrev pub keys_in : List (Key × ℕ) → List (WorldKey × ℕ)
 keys_in ks = map (λ e. (key_of e.0, e.1)) ks
 
--- the world of these documents, instances and used keys after that many labels
-abbrev pub world_of : List (DocKey × Loaded) → List (List ℕ × WorldInstance) → List (Key × ℕ) → ℕ → World
-world_of ds is ks n = record { documents = loaded_in ds; instances = instances_in is; keys = keys_in ks; now = 0; outbox = []; count = n }
+-- the world of these documents, instances and used keys at a moment after that many labels
+abbrev pub world_of : List (DocKey × Loaded) → List (List ℕ × WorldInstance) → List (Key × ℕ) → ℕ → ℕ → World
+world_of ds is ks now n = record { documents = loaded_in ds; instances = instances_in is; keys = keys_in ks; now = now; outbox = []; count = n }
 
 -- how many labels a world takes
 abbrev pub most_labels : ℕ
 most_labels = 2 ^ 40
 
--- how many changes fit where that much fits in each map and the queue
-abbrev pub room_of : ℕ → ℕ → ℕ → ℕ → ℕ → ℕ
-room_of ds is ks queue n = min (min ds is) (min (min ks queue) (most_labels - n))
+-- how many changes fit where that much fits in each map, the queue beside all that wait, and the timers
+abbrev pub room_of : ℕ → ℕ → ℕ → ℕ → ℕ → ℕ → ℕ
+room_of ds is ks turns timers n = min (min ds is) (min (min ks (min turns timers)) (most_labels - n))

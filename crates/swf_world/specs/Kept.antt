@@ -1,15 +1,19 @@
 -- What holds of the maps of every world in memory.
-use Rattle.std.specs.Prelude.{◌≡◌, ◌≤◌, ℕ, List, false, None}
+use Rattle.std.specs.Prelude.{◌≡◌, ◌≤◌, ◌<◌, ℕ, List, false, None, length}
 use Rattle.std.specs.List.{AllByRecursion, list_any}
 use Rattle.std.specs.Map.{lookup}
+use Rattle.std.specs.BinaryHeap.{IsHeap}
 use Rattle.swf_text.specs.Same.{same}
 use Rattle.swf_document.specs.declared.document.DocKey.{DocKey}
-use Rattle.swf_meaning.specs.Keys.{Document as OfDocument, Instance as OfInstance, same_key}
+use Rattle.swf_meaning.specs.Keys.{Document as OfDocument, Instance as OfInstance, Moment as OfMoment, same_key}
 use Rattle.swf_world.specs.declared.key.Key.{Key}
 use Rattle.swf_meaning.specs.World.{Instance}
+use Rattle.swf_world.specs.declared.timers.Timer.{Timer}
 use Rattle.swf_world.specs.declared.world.Loaded.{Loaded}
 use Rattle.swf_world.specs.UsedKey.{doc_eq}
+use Rattle.swf_world.specs.Waits.{timer_cmp}
 use Rattle.swf_world.specs.Queued.{Queued}
+use Rattle.swf_world.specs.Line.{Line}
 use Rattle.swf_world.specs.Early.{IsEarly}
 use Rattle.swf_world.specs.Fields.{keys_in, instances_in, most_labels}
 
@@ -21,13 +25,23 @@ IsNamed e = e.0 ≡ e.1.document.key
 abbrev pub IsPlaced : List ℕ × Instance → Type 0
 IsPlaced e = e.0 ≡ e.1.id
 
--- the maps agree with each other, and with the queue
-pub record Kept (ds : List (DocKey × Loaded)) (is : List (List ℕ × Instance)) (ks : List (Key × ℕ)) (queue : List ℕ) (n : ℕ) : Type 0 where
+-- what is kept has a used key, and no moment above now has one
+pub record New (ds : List (DocKey × Loaded)) (is : List (List ℕ × Instance)) (ks : List (Key × ℕ)) (now : ℕ) : Type 0 where
+  pub document : (k : DocKey) → list_any (λ p. same_key (OfDocument k) p.0) (keys_in ks) ≡ false → lookup (doc_eq k) ds ≡ None
+  pub instance : (id : List ℕ) → list_any (λ p. same_key (OfInstance id) p.0) (keys_in ks) ≡ false → lookup (same id) is ≡ None
+  pub moment : (m : ℕ) → now < m → list_any (λ p. same_key (OfMoment m) p.0) (keys_in ks) ≡ false
+
+-- the queue and the timers agree with the instances
+pub record Waiting (is : List Instance) (now : ℕ) (turns : Line) (timers : List Timer) : Type 0 where
+  pub queued : Queued now is turns.numbers timers
+  pub count : turns.count ≡ length is
+  pub order : IsHeap timer_cmp timers
+
+-- the maps agree with each other, with the queue and with the timers
+pub record Kept (ds : List (DocKey × Loaded)) (is : List (List ℕ × Instance)) (ks : List (Key × ℕ)) (now n : ℕ) (turns : Line) (timers : List Timer) : Type 0 where
   pub named : AllByRecursion IsNamed ds
   pub placed : AllByRecursion IsPlaced is
-  -- what is kept has a used key
-  pub new_document : (k : DocKey) → list_any (λ p. same_key (OfDocument k) p.0) (keys_in ks) ≡ false → lookup (doc_eq k) ds ≡ None
-  pub new_instance : (id : List ℕ) → list_any (λ p. same_key (OfInstance id) p.0) (keys_in ks) ≡ false → lookup (same id) is ≡ None
-  pub turns : Queued (instances_in is) queue
+  pub new : New ds is ks now
+  pub waiting : Waiting (instances_in is) now turns timers
   pub early : AllByRecursion IsEarly (keys_in ks)
   pub few : n ≤ most_labels

@@ -1,7 +1,9 @@
 pub mod UsedKey
 pub mod Held
 pub mod Fields
+pub mod Waits
 pub mod Queued
+pub mod Line
 pub mod Early
 pub mod Kept
 pub mod Refusals

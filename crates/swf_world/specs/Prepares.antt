@@ -19,8 +19,8 @@ abbrev pub load_of : Value → Document → ChangeKind
 load_of v d = Load d.key (DocumentKey d.key) (record { value = v; document = d })
 
 -- the change that adds an instance which has not begun
-abbrev pub start_of : List ℕ → Document → Value → ChangeKind
-start_of id d input = Start id (InstanceKey id) (new_instance id input 0 d)
+abbrev pub start_of : List ℕ → Document → Value → ℕ → ChangeKind
+start_of id d input now = Start id (InstanceKey id) (new_instance id input now d)
 
 -- what was made, or want of memory
 abbrev pub or_memory : {E : Type 0} → Result Change E → Result Change PrepareFault

@@ -1,19 +1,26 @@
--- Which instances wait for a turn, by their numbers.
-use Rattle.std.specs.Prelude.{◌≡◌, ◌<◌, ◌==◌, ℕ, zero, suc, List, [], ◌∷◌, length, Bool, true, false}
+-- Which instances stand in the queue and wait, by their numbers.
+use Rattle.std.specs.Prelude.{◌≡◌, ◌<◌, ◌==◌, ℕ, zero, suc, List, [], ◌∷◌, length, Bool, true, false, slice_index_or}
 use Rattle.std.specs.List.{list_any}
 use Rattle.swf_meaning.specs.Local.{is_enabled}
 use Rattle.swf_meaning.specs.World.{Instance}
+use Rattle.swf_world.specs.declared.timers.Timer.{Timer}
+use Rattle.swf_world.specs.Waits.{wait_at, is_at, is_set}
 
 abbrev pub is_among : ℕ → List ℕ → Bool
 is_among n ns = list_any (λ m. n == m) ns
 
 -- the instance of that number can take a step
-abbrev pub enabled_at : List Instance → ℕ → Bool
-enabled_at [] n = false
-enabled_at (i ∷ is) zero = is_enabled i.node
-enabled_at (i ∷ is) (suc n) = enabled_at is n
+abbrev pub enabled_at : ℕ → List Instance → ℕ → Bool
+enabled_at now [] n = false
+enabled_at now (i ∷ is) zero = is_enabled now i.node
+enabled_at now (i ∷ is) (suc n) = enabled_at now is n
 
--- every enabled instance is in the queue, and nothing else than instances is
-pub record Queued (is : List Instance) (queue : List ℕ) : Type 0 where
-  pub all : (n : ℕ) → enabled_at is n ≡ true → is_among n queue ≡ true
-  pub numbers : (n : ℕ) → is_among n queue ≡ true → n < length is
+-- every enabled instance is in the queue, and the timers are of those that wait, each with its moment
+pub record Queued (now : ℕ) (is : List Instance) (queue : List ℕ) (timers : List Timer) : Type 0 where
+  pub all : (n : ℕ) → enabled_at now is n ≡ true → is_among n queue ≡ true
+  pub waits : (n m : ℕ) → is_set n m timers ≡ is_at m (wait_at now is n)
+
+-- a number whose flag is set is in the queue, and each that is there has a flag
+pub record AreFlagged (queue : List ℕ) (flags : List Bool) : Type 0 where
+  pub there : (n : ℕ) → slice_index_or flags n false ≡ true → is_among n queue ≡ true
+  pub known : (n : ℕ) → is_among n queue ≡ true → n < length flags

@@ -3,7 +3,7 @@ use Rattle.std.specs.Prelude.{◌&&◌, ℕ, List, Bool, nat_le, length, Option,
 use Rattle.swf_document.specs.declared.fault.Fault.{Fault}
 use Rattle.swf_document.specs.declared.document.Document.{Document}
 use Rattle.swf_meaning.specs.declared.label.Label.{Label}
-use Rattle.swf_meaning.specs.declared.label.Label.TheVariants.{Load, Start, Step}
+use Rattle.swf_meaning.specs.declared.label.Label.TheVariants.{Load, Start, Moment, Step}
 use Rattle.swf_meaning.specs.Keys.{Key, Document as OfDocument, Instance as OfInstance}
 use Rattle.swf_meaning.specs.World.{World, Instance, is_root}
 use Rattle.swf_meaning.specs.Local.{is_enabled}
@@ -11,7 +11,7 @@ use Rattle.swf_meaning.specs.Answer.{instance_at}
 use Rattle.swf_meaning.specs.After.{document_at, most_documents, most_instances, load_faults, accepted}
 use Rattle.swf_world.specs.UsedKey.{used_at}
 use Rattle.swf_world.specs.declared.refusal.Refusal.{Refusal}
-use Rattle.swf_world.specs.declared.refusal.Refusal.TheVariants.{Refused, Duplicate, UnknownDocument, UnknownInstance, Full, NotEnabled}
+use Rattle.swf_world.specs.declared.refusal.Refusal.TheVariants.{Refused, Duplicate, UnknownDocument, UnknownInstance, Full, Past, NotEnabled}
 
 -- the place at which a key was used
 abbrev pub place_of : Key → World → ℕ
@@ -36,15 +36,20 @@ abbrev pub refusal_of_start : World → Option Document → Option Refusal
 refusal_of_start w None = Some UnknownDocument
 refusal_of_start w (Some d) = cause (nat_le most_instances (length w.instances)) Full None
 
+-- a moment is refused that is not above the one that was reached
+abbrev pub refusal_of_moment : World → ℕ → Option Refusal
+refusal_of_moment w moment = cause (nat_le moment w.now) (Past w.now) None
+
 -- a step is refused where there is no such instance, or its strand can take none
-abbrev pub refusal_of_step : List ℕ → Option Instance → Option Refusal
-refusal_of_step strand None = Some UnknownInstance
-refusal_of_step strand (Some i) = if is_root strand && is_enabled i.node then None else Some NotEnabled
+abbrev pub refusal_of_step : ℕ → List ℕ → Option Instance → Option Refusal
+refusal_of_step now strand None = Some UnknownInstance
+refusal_of_step now strand (Some i) = if is_root strand && is_enabled now i.node then None else Some NotEnabled
 
 abbrev pub refusal : World → Label → Option Refusal
 refusal w (Load v) = refusal_of_load w (load_faults v) (accepted v)
 refusal w (Start id key input) = duplicate (used_at (OfInstance id) w.keys) (refusal_of_start w (document_at key w.documents))
-refusal w (Step id strand) = refusal_of_step strand (instance_at id w.instances)
+refusal w (Moment moment) = refusal_of_moment w moment
+refusal w (Step id strand) = refusal_of_step w.now strand (instance_at id w.instances)
 
 -- the cause that an answer gives, where it is no success
 abbrev pub refused_by : {T : Type 0} → Result T Refusal → Option Refusal
@@ -54,4 +59,5 @@ refused_by (Err r) = Some r
 abbrev pub IsLoad : Label → Type 0
 IsLoad (Load v) = Unit {0}
 IsLoad (Start id key input) = ⊥
+IsLoad (Moment moment) = ⊥
 IsLoad (Step id strand) = ⊥

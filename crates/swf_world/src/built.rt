@@ -11,19 +11,19 @@ fn is_built(kind: &Kind) -> bool
     ensures { result ≡ is_built (kind_of kind.now) }
 {
     match kind {
-        Kind::Do(_) | Kind::Raise(_) | Kind::Set(_) | Kind::Switch(_) => true,
-        Kind::Call(_)
-        | Kind::Emit(_)
+        Kind::Do(_)
         | Kind::For(_)
-        | Kind::Fork(_)
-        | Kind::Listen(_)
-        | Kind::Run(_)
+        | Kind::Raise(_)
+        | Kind::Set(_)
+        | Kind::Switch(_)
         | Kind::Try(_)
-        | Kind::Wait(_) => false,
+        | Kind::Wait(_) => true,
+        Kind::Call(_) | Kind::Emit(_) | Kind::Fork(_) | Kind::Listen(_) | Kind::Run(_) => false,
     }
 }
 
-// The place of the first task of a kind that is not built, a task before those in it.
+// The place of the first task of a kind that is not built: a task before those in it, and a handler before the list whose
+// errors it handles.
 #[cycle(unbuilt)]
 fn unbuilt(tasks: &[Named]) -> Option<&Place>
     ensures { option_map (λ p. p.now) result ≡ unbuilt (tasks_of tasks.now) }
@@ -46,6 +46,16 @@ fn unbuilt_task(task: &Task) -> Option<&Place>
     }
     match &task.kind {
         Kind::Do(tasks) => unbuilt(tasks.as_slice()),
+        Kind::For(spec) => unbuilt(spec.tasks.as_slice()),
+        Kind::Try(spec) => {
+            if let Some(handler) = &spec.handler {
+                let place = unbuilt(handler.as_slice());
+                if place.is_some() {
+                    return place;
+                }
+            }
+            unbuilt(spec.tasks.as_slice())
+        }
         _ => None,
     }
 }

@@ -1,17 +1,19 @@
 // Changes of the world, and how they are made.
-ghost use Rattle.std.specs.Prelude.{◌≡◌, ◌≤◌, ◌<◌, ◌^◌, ◌++◌, ◌∷◌, [], None, Some, option_and_then, slice_get};
+ghost use Rattle.std.specs.Prelude.{◌≡◌, ◌≤◌, ◌<◌, ◌^◌, ◌++◌, ◌∷◌, [], None, Some, option_map, slice_get};
 ghost use Rattle.std.specs.List.{AllByRecursion};
 ghost use Rattle.indexmap.specs.IndexMap.{get, keys, spare};
 ghost use Rattle.swf_meaning.specs.After.{with_document, with_instance, with_instances};
 ghost use Rattle.swf_world.specs.Fields.{instances_in};
 ghost use Rattle.swf_world.specs.Kept.{IsPlaced};
-ghost use Rattle.swf_world.specs.Changes.{Suits, SuitsLoad, SuitsStart, SuitsStep, stepped_one, put_at, changed};
+ghost use Rattle.swf_world.specs.Changes.{Suits, SuitsLoad, SuitsStart, SuitsMoment, SuitsStep, put_at, with_moment, changed};
 
 use crate::key::Key;
+use crate::timers::{set_timer, wake};
 use crate::world::{Loaded, World};
 use indexmap::IndexMap;
 use std::hash::Hash;
 use swf_document::DocKey;
+use swf_duration::Moment;
 use swf_tasks::Machine;
 use swf_text::Text;
 
@@ -37,6 +39,8 @@ pub enum ChangeKind {
         used: Key,
         instance: Machine,
     },
+    /// The moment that is reached, in milliseconds.
+    Moment(u64),
     /// The instance of that number after its step.
     Step {
         number: usize,
@@ -64,6 +68,7 @@ impl World {
         match change.kind {
             ChangeKind::Load { key, used, loaded } => self.install_load(key, used, loaded),
             ChangeKind::Start { id, used, instance } => self.install_start(id, used, instance),
+            ChangeKind::Moment(moment) => self.install_moment(moment),
             ChangeKind::Step { number, instance } => self.install_step(number, instance),
         }
         Installed { place, taken: 0 }
@@ -84,11 +89,22 @@ impl World {
         requires room { 0 < self.old.room }
         ensures { self.new.world ≡ with_instance self.old.world instance }
     {
-        let number = self.instances.len();
-        let place = self.count;
         add(&mut self.instances, id, instance);
-        add(&mut self.keys, used, place);
-        self.queue.push_back(number).unwrap();
+        add(&mut self.keys, used, self.count);
+        self.turns.add();
+        self.count += 1;
+    }
+
+    // The instances whose wait is over get turns.
+    fn install_moment(&mut self, milliseconds: u64)
+        requires suits { SuitsMoment self.old.world milliseconds }
+        requires room { 0 < self.old.room }
+        ensures { self.new.world ≡ with_moment self.old.world milliseconds }
+    {
+        let moment = Moment::new(milliseconds);
+        wake(&mut self.timers, &mut self.turns, moment);
+        add(&mut self.keys, Key::Moment(milliseconds), self.count);
+        self.moment = moment;
         self.count += 1;
     }
 
@@ -97,15 +113,16 @@ impl World {
         requires room { 0 < self.old.room }
         ensures { self.new.world ≡ with_instances self.old.world (put_at number instance self.old.world.instances) }
     {
+        set_timer(&mut self.timers, number, instance.until(), self.moment);
         go_on(&mut self.instances, number, instance);
         self.count += 1;
     }
 }
 
-// The instance of a number is now this one.
+// The instance of a number is now this one, of the same id.
 fn go_on(instances: &mut IndexMap<Text, Machine>, number: usize, instance: Machine)
     requires placed { AllByRecursion IsPlaced instances.old.entries }
-    requires suits { option_and_then stepped_one (slice_get (instances_in instances.old.entries) number) ≡ Some instance }
+    requires same { option_map (λ i. i.id) (slice_get (instances_in instances.old.entries) number) ≡ Some instance.id }
     ensures stepped { instances_in instances.new.entries ≡ put_at number instance (instances_in instances.old.entries) }
     ensures placed { AllByRecursion IsPlaced instances.new.entries }
     ensures ids { keys instances.new ≡ keys instances.old }

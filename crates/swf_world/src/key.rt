@@ -9,11 +9,12 @@ use std::hash::Hash;
 use swf_document::DocKey;
 use swf_text::{Text, same_texts};
 
-/// The key of a document, or the id of an instance.
+/// The key of a document, the id of an instance, or a moment in milliseconds.
 #[derive(PartialEq, Eq, Hash, Drop)]
 pub enum Key {
     Document(DocKey),
     Instance(Text),
+    Moment(u64),
 }
 
 /// A key that is looked up.
@@ -28,7 +29,7 @@ impl<'a> Equivalent<Key> for Sought<'a> {
 
     ghost respects_hash = { hashed_alike ⟦<Sought<'a> as Hash>⟧.hash_input ⟦<Key as Hash>⟧.hash_input (sought_alike ⟦<Sought<'a> as Hash>⟧.hash_input ⟦<Key as Hash>⟧.hash_input (λ k. refl) (λ id. refl)) };
 
-    ghost respects_eq = { stands_alike ⟦<Key as PartialEq>⟧.eq (keys_alike ⟦<Key as PartialEq>⟧.eq docs_alike (λ a b. refl) (λ a b. refl) (λ a b. refl)) };
+    ghost respects_eq = { stands_alike ⟦<Key as PartialEq>⟧.eq (keys_alike ⟦<Key as PartialEq>⟧.eq (record { documents = docs_alike; instances = λ a b. refl; moments = λ a b. refl; document_instance = λ a b. (refl, refl); document_moment = λ a b. (refl, refl); instance_moment = λ a b. (refl, refl) })) };
 
     fn equivalent(&self, key: &Key) -> bool {
         match (*self, key) {

@@ -20,6 +20,7 @@ impl World {
                 let key = self.resolved(key)?;
                 Ok(Label::Start { id, key, input })
             }
+            Outcome::Moment(moment) => Ok(Label::Moment(moment)),
         }
     }
 

@@ -10,6 +10,8 @@ mod prepare;
 mod query;
 mod refusal;
 mod reports;
+mod steps;
+mod timers;
 mod turns;
 mod world;
 

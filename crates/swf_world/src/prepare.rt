@@ -9,7 +9,7 @@ ghost use Rattle.swf_meaning.specs.After.{after, accepted, document_at, load_fau
 ghost use Rattle.std.specs.List.{AllByRecursion};
 ghost use Rattle.swf_world.specs.Early.{IsEarly, IsEarlyRefusal};
 ghost use Rattle.swf_world.specs.Changes.{Suits, SuitsStep, stepped_one, put_at, changed};
-ghost use Rattle.swf_world.specs.Refusals.{refusal, refusal_of_load, refusal_of_start, refusal_of_step, duplicate, refused_by, IsLoad};
+ghost use Rattle.swf_world.specs.Refusals.{refusal, refusal_of_load, refusal_of_start, refusal_of_moment, refusal_of_step, duplicate, refused_by, IsLoad};
 ghost use Rattle.swf_world.specs.Queued.{enabled_at};
 ghost use Rattle.swf_world.specs.UsedKey.{used_at};
 ghost use Rattle.swf_world.specs.Prepares.{Prepares, load_of, start_of, or_memory};
@@ -21,6 +21,7 @@ use crate::refusal::{PrepareFault, Refusal};
 use crate::world::{Loaded, World};
 use std::alloc::{AllocError, Global};
 use swf_document::DocKey;
+use swf_duration::Moment;
 use swf_meaning::Label;
 use swf_reader::ReadFault;
 use swf_tasks::Machine;
@@ -49,6 +50,7 @@ impl World {
                 Ok(_) => Ok(()),
                 Err(refusal) => Err(refusal),
             },
+            Label::Moment(moment) => self.reachable(*moment),
             Label::Step { id, strand } => match self.steppable(id, strand) {
                 Ok(_) => Ok(()),
                 Err(refusal) => Err(refusal),
@@ -70,11 +72,12 @@ impl World {
         match label {
             Label::Load(value) => self.prepare_load(value),
             Label::Start { id, key, input } => self.prepare_start(id, key, input),
+            Label::Moment(moment) => self.prepare_moment(*moment),
             Label::Step { id, strand } => self.prepare_step(id, strand),
         }
     }
 
-    // Makes room for one change more.
+    // Makes room for one change more. A moment may give each that waits a turn.
     fn make_room(&mut self) -> Result<(), AllocError>
         ensures same { self.new.world ≡ self.old.world }
         ensures room { OnOk result (0 < self.new.room) }
@@ -86,7 +89,8 @@ impl World {
         self.documents.reserve(1)?;
         self.instances.reserve(1)?;
         self.keys.reserve(1)?;
-        self.queue.reserve(1)
+        self.timers.reserve(1)?;
+        self.turns.reserve(self.timers.len() + 1)
     }
 
     fn prepare_load(&self, value: &Json) -> Result<Change, PrepareFault>
@@ -110,7 +114,7 @@ impl World {
     {
         match self.startable(id, key) {
             Err(refusal) => Err(PrepareFault::Refused(refusal)),
-            Ok(loaded) => ready(start_change(self.alloc, id, &loaded.document, input)),
+            Ok(loaded) => ready(start_change(self.alloc, id, &loaded.document, input, self.moment)),
         }
     }
 
@@ -119,7 +123,21 @@ impl World {
     {
         match self.steppable(id, strand) {
             Err(refusal) => Err(PrepareFault::Refused(refusal)),
-            Ok(number) => ready(step_change(self.alloc, number, &self.instances[number], strand)),
+            Ok(number) => {
+                let instance = &self.instances[number];
+                ready(step_change(self.alloc, number, instance, strand, self.moment))
+            }
+        }
+    }
+
+    fn prepare_moment(&self, moment: Moment) -> Result<Change, PrepareFault>
+        ensures { Prepares self.now.world (Label.Moment moment) result }
+    {
+        match self.reachable(moment) {
+            Err(refusal) => Err(PrepareFault::Refused(refusal)),
+            Ok(()) => Ok(Change {
+                kind: ChangeKind::Moment(moment.milliseconds()),
+            }),
         }
     }
 
@@ -153,15 +171,25 @@ impl World {
         Ok(loaded)
     }
 
+    // Whether a moment is above the one that was reached.
+    fn reachable(&self, moment: Moment) -> Result<(), Refusal>
+        ensures { refused_by result ≡ refusal_of_moment self.now.world moment }
+    {
+        if moment.milliseconds() <= self.moment.milliseconds() {
+            return Err(Refusal::Past { now: self.moment });
+        }
+        Ok(())
+    }
+
     // The number of the instance that can take a step, or why it cannot.
     fn steppable(&self, id: &Text, strand: &Strand) -> Result<usize, Refusal>
-        ensures refused { refused_by result ≡ refusal_of_step strand.now (instance_at id.now self.now.world.instances) }
-        ensures found { IfOk result (λ n. (enabled_at self.now.world.instances n ≡ true) × (is_root strand.now ≡ true) × ((m : WorldInstance) → SuitsStep self.now.world n m → stepped id.now self.now.world.instances ≡ Some (put_at n m self.now.world.instances))) }
+        ensures refused { refused_by result ≡ refusal_of_step self.now.world.now strand.now (instance_at id.now self.now.world.instances) }
+        ensures found { IfOk result (λ n. (enabled_at self.now.world.now self.now.world.instances n ≡ true) × (is_root strand.now ≡ true) × ((m : WorldInstance) → SuitsStep self.now.world n m → stepped self.now.world.now id.now self.now.world.instances ≡ Some (put_at n m self.now.world.instances))) }
     {
         let Some(number) = self.instances.get_index_of(id) else {
             return Err(Refusal::UnknownInstance);
         };
-        if self.instances[number].enabled(strand) {
+        if self.instances[number].enabled(strand, self.moment) {
             Ok(number)
         } else {
             Err(Refusal::NotEnabled)
@@ -214,11 +242,12 @@ fn start_change(
     id: &Text,
     document: &Accepted,
     input: &Json,
+    now: Moment,
 ) -> Result<Change, AllocError>
-    ensures { IfOk result (λ c. c ≡ record { kind = start_of id.now document.now input.now }) }
+    ensures { IfOk result (λ c. c ≡ record { kind = start_of id.now document.now input.now now }) }
 {
     let used = Key::Instance(id.copy()?);
-    let instance = Machine::begin(alloc, id.copy()?, document.copy()?, input.copy()?, 0)?;
+    let instance = Machine::begin(alloc, id.copy()?, document.copy()?, input.copy()?, now)?;
     Ok(Change {
         kind: ChangeKind::Start {
             id: id.copy()?,
@@ -234,11 +263,12 @@ fn step_change(
     number: usize,
     instance: &Machine,
     strand: &Strand,
+    now: Moment,
 ) -> Result<Change, AllocError>
-    ensures { IfOk result (λ c. (i : WorldInstance) × (c ≡ record { kind = ChangeKind.Step number i }) × (stepped_one instance.now ≡ Some i)) }
+    ensures { IfOk result (λ c. (i : WorldInstance) × (c ≡ record { kind = ChangeKind.Step number i }) × (stepped_one now instance.now ≡ Some i)) }
 {
     let mut instance = instance.copy(alloc)?;
-    match instance.step(alloc, strand) {
+    match instance.step(alloc, strand, now) {
         Ok(()) => Ok(Change {
             kind: ChangeKind::Step { number, instance },
         }),

@@ -12,6 +12,7 @@ use crate::reports::report;
 use crate::world::World;
 use indexmap::IndexMap;
 use std::alloc::{AllocError, Global};
+use swf_duration::Moment;
 use swf_meaning::{Answer, Query};
 use swf_tasks::Machine;
 use swf_text::{Strand, Text};
@@ -45,7 +46,7 @@ impl World {
         let Some(instance) = self.instances.get(id) else {
             return Err(QueryFault::UnknownInstance);
         };
-        match report(self.alloc, instance) {
+        match report(self.alloc, instance, self.moment) {
             Ok(value) => Ok(Answer::Status(value)),
             Err(_) => Err(QueryFault::OutOfMemory),
         }
@@ -57,7 +58,13 @@ impl World {
     {
         let mut strands = Vec::new(self.alloc);
         for number in 0..self.instances.len() {
-            push_enabled(self.alloc, &mut strands, &self.instances, number)?;
+            push_enabled(
+                self.alloc,
+                &mut strands,
+                &self.instances,
+                number,
+                self.moment,
+            )?;
         }
         Ok(strands)
     }
@@ -69,12 +76,13 @@ fn push_enabled(
     strands: &mut Vec<(Text, Strand)>,
     instances: &IndexMap<Text, Machine>,
     number: usize,
+    now: Moment,
 ) -> Result<(), AllocError>
     requires { AllByRecursion IsPlaced instances.now.entries }
-    ensures { OnOk result (strands.new.items ≡ strands.old.items ++ strand_at (instances_in instances.now.entries) number) }
+    ensures { OnOk result (strands.new.items ≡ strands.old.items ++ strand_at now (instances_in instances.now.entries) number) }
 {
     if let Some((id, instance)) = instances.get_index(number) {
-        if instance.is_enabled() {
+        if instance.is_enabled(now) {
             strands.push((id.copy()?, Strand::root(alloc)))?;
         }
     }

@@ -1,5 +1,6 @@
 // Why a label is not taken.
 use swf_document::Faults;
+use swf_duration::Moment;
 
 /// Why a label is not taken, by the first cause.
 #[derive(Drop)]
@@ -14,6 +15,8 @@ pub enum Refusal {
     UnknownInstance,
     /// There are as many documents, or instances, as there may be.
     Full,
+    /// The moment is not above the one that was reached.
+    Past { now: Moment },
     /// The strand cannot take a step.
     NotEnabled,
 }

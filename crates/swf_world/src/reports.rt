@@ -7,16 +7,18 @@ ghost use Rattle.swf_meaning.specs.Answer.{report, status_of, with_error, with_o
 
 use std::alloc::{AllocError, Global};
 use swf_document::problem_value;
+use swf_duration::Moment;
 use swf_tasks::Machine;
 use swf_text::word;
 use swf_value::{Json, Member, member};
 
-/// The report of an instance: its context, its error where it ended in one, its id, its output where it is done, and its status.
-pub fn report(alloc: Global, instance: &Machine) -> Result<Json, AllocError>
-    ensures { IfOk result (λ v. v ≡ report instance.now) }
+/// The report of an instance: its context, its error where it ended in one, its id, its output where it is done, and its status at a
+/// moment.
+pub fn report(alloc: Global, instance: &Machine, now: Moment) -> Result<Json, AllocError>
+    ensures { IfOk result (λ v. v ≡ report now instance.now) }
 {
     let mut members = Vec::new(alloc);
-    let status = word(alloc, status(instance))?;
+    let status = word(alloc, status(instance, now))?;
     lead(alloc, "status", Json::text(status), &mut members)?;
     lead_output(alloc, instance, &mut members)?;
     lead(alloc, "id", Json::text(instance.id().copy()?), &mut members)?;
@@ -63,16 +65,18 @@ fn lead_error(
     }
 }
 
-// Completed, faulted, or else running: what can take no step has ended.
-fn status(instance: &Machine) -> &'static str
+// Completed, faulted, running where it can take a step, or else waiting.
+fn status(instance: &Machine, now: Moment) -> &'static str
     ensures ascii { IsTrue (is_ascii result.now) }
-    ensures is { result.now ≡ status_of instance.now.node }
+    ensures is { result.now ≡ status_of now instance.now.node }
 {
     if instance.output().is_some() {
         "completed"
     } else if instance.problem().is_some() {
         "faulted"
-    } else {
+    } else if instance.is_enabled(now) {
         "running"
+    } else {
+        "waiting"
     }
 }

@@ -1,84 +1,106 @@
-// Whose turn it is: the enabled instances take steps in turn.
-ghost use Rattle.std.specs.Prelude.{◌≡◌, ◌<◌, Ok, None, true, IfOk, IfSome, IfNone, [], length};
-ghost use Rattle.std.specs.List.{AllByRecursion};
-ghost use Rattle.swf_meaning.specs.Runs.{is_quiet};
-ghost use Rattle.swf_meaning.specs.World.{World as TheWorld};
-ghost use Rattle.swf_world.specs.Enabled.{CanGo};
-ghost use Rattle.swf_world.specs.Fields.{instances_in};
-ghost use Rattle.swf_world.specs.Kept.{IsPlaced};
-ghost use Rattle.swf_world.specs.Queued.{enabled_at, Queued};
+// The order of turns.
+ghost use Rattle.std.specs.Prelude.{◌≡◌, ◌<◌, ◌≤◌, ◌+◌, ◌++◌, ◌∷◌, ◌||◌, ◌==◌, ℕ, [], length, drop, take, slice_get, OnOk, OnErr};
+ghost use Rattle.swf_world.specs.Queued.{is_among};
 
-use crate::world::World;
-use indexmap::IndexMap;
 use std::alloc::{AllocError, Global};
 use std::collections::VecDeque;
-use swf_meaning::Label;
-use swf_tasks::Machine;
-use swf_text::{Strand, Text};
+use std::marker::Model;
 
-impl World {
-    /// The next step that can be taken, where there is one. The instance that takes it has its next turn after all others.
-    pub fn next_step(&mut self) -> Result<Option<Label>, AllocError>
-        ensures same { self.new.world ≡ self.old.world }
-        ensures none { result ≡ Ok None → is_quiet self.new.world ≡ true }
-        ensures some { IfOk result (λ o. IfSome o (CanGo self.new.world)) }
-    {
-        let Some(number) = first_enabled(&mut self.queue, &self.instances) else {
-            return Ok(None);
-        };
-        let label = step_label(self.alloc, &self.instances, number)?;
-        self.queue.rotate_left(1);
-        Ok(Some(label))
-    }
-
-    /// Whether no strand can take a step.
-    pub fn is_quiet(&mut self) -> bool
-        ensures same { self.new.world ≡ self.old.world }
-        ensures quiet { result ≡ is_quiet self.new.world }
-    {
-        first_enabled(&mut self.queue, &self.instances).is_none()
-    }
+/// The numbers of the instances that may be enabled, in the order of their turns. None stands there twice. Contracts see the
+/// numbers, how many instances there are, and how many more fit.
+#[derive(Drop)]
+pub struct Turns {
+    queue: VecDeque<usize>,
+    /// Whether the instance of a number stands in the queue.
+    queued: Vec<bool>,
 }
 
-// The number of the first instance in the queue that can take a step. Those before it leave the queue.
-fn first_enabled(queue: &mut VecDeque<usize>, instances: &IndexMap<Text, Machine>) -> Option<usize>
-    requires { Queued (instances_in instances.now.entries) queue.old.items }
-    ensures turns { Queued (instances_in instances.now.entries) queue.new.items }
-    ensures none { IfNone result (queue.new.items ≡ []) }
-    ensures some { IfSome result (λ n. (enabled_at (instances_in instances.now.entries) n ≡ true) × (0 < length queue.new.items)) }
-{
-    while let Some(number) = queue.front() {
-        let number = *number;
-        if is_enabled(instances, number) {
-            return Some(number);
+impl Model for Turns {
+    ghost use Rattle.std.specs.Prelude.{◌-◌, min, length};
+    ghost use Rattle.std.specs.VecDeque.{deque_len, deque_capacity};
+    ghost use Rattle.std.specs.Vec.{vec_len, vec_capacity};
+    ghost use Rattle.swf_world.specs.Line.{Line, line_code};
+
+    ghost Value = { Line };
+
+    ghost coded = { line_code };
+
+    ghost use Rattle.swf_world.specs.Queued.{AreFlagged};
+
+    ghost view = { λ t. record { numbers = t.queue.items; count = length t.queued.items; room = min (deque_capacity t.queue - deque_len t.queue) (vec_capacity t.queued - vec_len t.queued) } };
+
+    ghost invariant = { λ t. AreFlagged t.queue.items t.queued.items };
+}
+
+impl Turns {
+    /// Of no instance.
+    pub fn new(alloc: Global) -> Turns
+        ensures numbers { result.numbers ≡ [] }
+        ensures count { result.count ≡ 0 }
+    {
+        Turns {
+            queue: VecDeque::new(alloc),
+            queued: Vec::new(alloc),
         }
-        queue.pop_front();
     }
-    None
-}
 
-// Whether the instance of a number can take a step.
-fn is_enabled(instances: &IndexMap<Text, Machine>, number: usize) -> bool
-    ensures { result ≡ enabled_at (instances_in instances.now.entries) number }
-{
-    match instances.get_index(number) {
-        Some((_, instance)) => instance.is_enabled(),
-        None => false,
+    /// Makes room for so many numbers more.
+    pub fn reserve(&mut self, additional: usize) -> Result<(), AllocError>
+        ensures numbers { self.new.numbers ≡ self.old.numbers }
+        ensures count { self.new.count ≡ self.old.count }
+        ensures room { OnOk result (additional ≤ self.new.room) }
+    {
+        self.queue.reserve(additional)?;
+        self.queued.reserve(additional)
     }
-}
 
-// The step of the instance of a number.
-fn step_label(
-    alloc: Global,
-    instances: &IndexMap<Text, Machine>,
-    number: usize,
-) -> Result<Label, AllocError>
-    requires placed { AllByRecursion IsPlaced instances.now.entries }
-    requires enabled { enabled_at (instances_in instances.now.entries) number ≡ true }
-    ensures { IfOk result (λ l. (w : TheWorld) → w.instances ≡ instances_in instances.now.entries → CanGo w l) }
-{
-    let (id, _) = instances.get_index(number).unwrap();
-    let id = id.copy()?;
-    let strand = Strand::root(alloc);
-    Ok(Label::Step { id, strand })
+    /// Puts the number of a new instance behind all others.
+    pub fn add(&mut self)
+        requires { 0 < self.old.room }
+        ensures numbers { self.new.numbers ≡ self.old.numbers ++ self.old.count ∷ [] }
+        ensures count { self.new.count ≡ self.old.count + 1 }
+    {
+        self.queue.push_back(self.queued.len()).unwrap();
+        self.queued.push(true).unwrap();
+    }
+
+    /// Puts a number behind all others, where it does not stand there.
+    pub fn put(&mut self, number: usize)
+        requires known { number < self.old.count }
+        requires room { 0 < self.old.room }
+        ensures among { (n : ℕ) → is_among n self.new.numbers ≡ (is_among n self.old.numbers || (n == number)) }
+        ensures count { self.new.count ≡ self.old.count }
+        ensures room { self.old.room ≤ self.new.room + 1 }
+    {
+        if !self.queued[number] {
+            self.queue.push_back(number).unwrap();
+            self.queued[number] = true;
+        }
+    }
+
+    /// The number whose turn it is.
+    pub fn first(&self) -> Option<usize>
+        ensures { result ≡ slice_get self.now.numbers 0 }
+    {
+        self.queue.front().copied()
+    }
+
+    /// The number whose turn it is leaves.
+    pub fn leave(&mut self)
+        ensures numbers { self.new.numbers ≡ drop 1 self.old.numbers }
+        ensures count { self.new.count ≡ self.old.count }
+    {
+        if let Some(number) = self.queue.pop_front() {
+            self.queued[number] = false;
+        }
+    }
+
+    /// The number whose turn it is goes behind all others.
+    pub fn turn(&mut self)
+        requires { 0 < length self.old.numbers }
+        ensures numbers { self.new.numbers ≡ drop 1 self.old.numbers ++ take 1 self.old.numbers }
+        ensures count { self.new.count ≡ self.old.count }
+    {
+        self.queue.rotate_left(1);
+    }
 }

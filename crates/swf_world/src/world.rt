@@ -1,13 +1,17 @@
 // All instances and documents, by maps that equal the lists of the definitions.
 ghost use Rattle.std.specs.Prelude.{◌≡◌, slice_get, option_map};
 ghost use Rattle.swf_meaning.specs.World.{empty};
+ghost use Rattle.swf_world.specs.Waits.{is_due};
 
 use crate::key::Key;
+use crate::timers::Timer;
+use crate::turns::Turns;
 use indexmap::IndexMap;
 use std::alloc::Global;
-use std::collections::VecDeque;
+use std::collections::BinaryHeap;
 use std::marker::Model;
 use swf_document::DocKey;
+use swf_duration::Moment;
 use swf_tasks::Machine;
 use swf_text::Text;
 use swf_validate::Accepted;
@@ -29,15 +33,18 @@ pub struct World {
     pub(crate) instances: IndexMap<Text, Machine>,
     /// Every used key with its place.
     pub(crate) keys: IndexMap<Key, u64>,
-    /// The numbers of the instances that may be enabled, in the order of their turns.
-    pub(crate) queue: VecDeque<usize>,
+    pub(crate) turns: Turns,
+    /// Of the instances that wait until a moment above now.
+    pub(crate) timers: BinaryHeap<Timer>,
+    /// The one that was reached last.
+    pub(crate) moment: Moment,
     /// How many labels came.
     pub(crate) count: u64,
 }
 
 impl Model for World {
     ghost use Rattle.std.specs.Prelude.{◌-◌};
-    ghost use Rattle.std.specs.VecDeque.{deque_len, deque_capacity};
+    ghost use Rattle.std.specs.BinaryHeap.{heap_items, heap_len, heap_capacity};
     ghost use Rattle.indexmap.specs.IndexMap.{spare};
     ghost use Rattle.swf_world.specs.Held.{Held, held_code};
 
@@ -48,9 +55,9 @@ impl Model for World {
     ghost use Rattle.swf_world.specs.Fields.{world_of, room_of};
     ghost use Rattle.swf_world.specs.Kept.{Kept};
 
-    ghost view = { λ w. record { world = world_of w.documents.entries w.instances.entries w.keys.entries w.count; room = room_of (spare w.documents) (spare w.instances) (spare w.keys) (deque_capacity w.queue - deque_len w.queue) w.count } };
+    ghost view = { λ w. record { world = world_of w.documents.entries w.instances.entries w.keys.entries w.moment w.count; room = room_of (spare w.documents) (spare w.instances) (spare w.keys) (w.turns.room - heap_len w.timers) (heap_capacity w.timers - heap_len w.timers) w.count } };
 
-    ghost invariant = { λ w. Kept w.documents.entries w.instances.entries w.keys.entries w.queue.items w.count };
+    ghost invariant = { λ w. Kept w.documents.entries w.instances.entries w.keys.entries w.moment w.count w.turns (heap_items w.timers) };
 }
 
 impl World {
@@ -63,8 +70,27 @@ impl World {
             documents: IndexMap::new(alloc),
             instances: IndexMap::new(alloc),
             keys: IndexMap::new(alloc),
-            queue: VecDeque::new(alloc),
+            turns: Turns::new(alloc),
+            timers: BinaryHeap::new(alloc),
+            moment: Moment::new(0),
             count: 0,
+        }
+    }
+
+    /// The moment that was reached last. It takes no memory.
+    pub fn now(&self) -> Moment
+        ensures { result ≡ self.now.world.now }
+    {
+        self.moment
+    }
+
+    /// Whether some instance that waits now waits no more at that moment, in milliseconds. It takes no memory.
+    pub fn due(&self, moment: u64) -> bool
+        ensures { result ≡ is_due self.now.world moment }
+    {
+        match self.timers.peek() {
+            Some(timer) => timer.until.0 <= moment,
+            None => false,
         }
     }
 

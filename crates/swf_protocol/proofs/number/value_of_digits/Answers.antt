@@ -1,4 +1,4 @@
-use Rattle.std.proofs.Common.{◌≡◌, ◌∙◌, ◌+◌, ◌-◌, ◌*◌, ◌≤◌, ap, sym, ℕ, List, [], drop, fold, get_or, length, arith}
+use Rattle.std.proofs.Common.{◌≡◌, ◌∙◌, ◌+◌, ◌-◌, ◌*◌, ap, sym, ℕ, List, drop, fold, get_or, arith}
 use Rattle.std.proofs.lemmas.List.{drop_all}
 use Rattle.swf_protocol.specs.Number.{value_of_digits}
 use Rattle.swf_protocol.proofs.NumberLemmas.{next_digit, fold_grows, fold_next}

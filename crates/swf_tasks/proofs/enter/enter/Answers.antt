@@ -1,5 +1,5 @@
-use Rattle.swf_tasks.specs.Stack.{sight_of}
-use Rattle.swf_tasks.proofs.HaltLemmas.{Gives-passed}
+use Rattle.swf_scene.specs.Stack.{sight_of}
+use Rattle.swf_scene.proofs.HaltLemmas.{Gives-passed}
 use Rattle.swf_tasks.proofs.enter.enter.Goals as goal
 
 pub returns-in_err-input : goal.returns-in_err-input

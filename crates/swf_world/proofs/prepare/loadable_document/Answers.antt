@@ -2,7 +2,6 @@ use Rattle.std.proofs.Common.{◌≡◌, ◌≢◌, ◌∙◌, ap, sym, refl, Li
 use Rattle.swf_document.specs.declared.document.Document.{Document}
 use Rattle.swf_document.specs.declared.fault.Fault.{Fault}
 use Rattle.swf_reader.specs.Reads.{document_of}
-use Rattle.swf_validate.specs.Accepts.{faults}
 use Rattle.swf_meaning.specs.Built.{not_built}
 use Rattle.swf_meaning.specs.After.{if_none, load_faults, or_not_built}
 use Rattle.swf_world.proofs.prepare.loadable_document.Goals as goal

@@ -1,17 +1,18 @@
 use Rattle.std.proofs.Common.{◌≡◌, ◌∙◌, ap, None}
 use Rattle.swf_meaning.specs.World.{Instance}
 use Rattle.swf_tasks.specs.Installed.{problem_in}
-use Rattle.swf_tasks.specs.Stack.{plug, top_node}
+use Rattle.swf_scene.specs.Stack.{plug, top_node}
 use Rattle.swf_tasks.proofs.StackLemmas.{problem-none, problem-around}
+use Rattle.swf_tasks.proofs.StrandLemmas.{node-is, length_running}
 use Rattle.swf_tasks.proofs.machine.Machine.problem.Goals as goal
 use Rattle.swf_tasks.proofs.machine.Machine.problem.Goals.{in_default-via-in-Fault+else-is_empty, in_default-via-in_default}
 
 pub returns-in_default : goal.returns-in_default
 returns-in_default c =
-    let fs = c.self.inside.frames in
-    let t = c.self.inside.top in
-    let none : None ≡ problem_in (plug fs.items (top_node t)) = elim c.in_default.branch [
-      | in_default-via-in-Fault+else-is_empty w ↦ problem-around fs.items t fs.len w.is_empty.result fs.ok.0 w.is_empty.ensures w.if-is_empty.false
-      | in_default-via-in_default w ↦ problem-none fs.items t w.in_default.not-Fault
+    let s = c.stack_of.ensures in
+    let t = c.stack_of.result.top.now in
+    let none : None ≡ problem_in (plug s.0 (top_node t)) = elim c.in_default.branch [
+      | in_default-via-in-Fault+else-is_empty w ↦ problem-around s.0 t _ w.is_empty.result (length_running s.0 c.stack_of.result.around.now s.1.0) w.is_empty.ensures w.if-is_empty.false
+      | in_default-via-in_default w ↦ problem-none s.0 t w.in_default.not-Fault
     ] in
-    none ∙ ap (λ (i : Instance). problem_in i.node) c.self.view_is
+    none ∙ ap problem_in (node-is c.self.inside.forest s.0 _ s.1.1) ∙ ap (λ (i : Instance). problem_in i.node) c.self.view_is

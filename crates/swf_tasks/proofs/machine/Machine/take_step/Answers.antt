@@ -1,20 +1,43 @@
-use Rattle.std.proofs.Common.{◌≡◌, ◌∙◌, ap, refl, subst, true, Some}
-use Rattle.std.specs.Prelude.{option_map}
+use Rattle.std.proofs.Common.{◌≡◌, ◌∙◌, ◌++◌, ap, subst, sym, true, Some}
+use Rattle.std.specs.Prelude.{option_map, option_to_list}
 use Rattle.swf_meaning.specs.Local.{local, is_enabled}
 use Rattle.swf_meaning.specs.World.{Instance, sight, with_step}
-use Rattle.swf_tasks.specs.Installed.{IsStep}
-use Rattle.swf_tasks.specs.Stack.{instance_of, plug, sight_of, stepped_of, top_node}
+use Rattle.swf_scene.specs.Layers.{frames_of, top_of, stacked}
+use Rattle.swf_scene.specs.Stack.{instance_of, plug, top_node}
+use Rattle.swf_tasks.specs.Strands.{layers_in, IsAlone}
 use Rattle.swf_tasks.proofs.StackLemmas.{stepped}
+use Rattle.swf_tasks.proofs.StrandLemmas.{node-is, holds-layers}
 use Rattle.swf_tasks.proofs.machine.Machine.take_step.Goals as goal
+
+pub next_of-requires : goal.next_of-requires
+next_of-requires c =
+    let s = c.stack_of.ensures in
+    (s.0, (s.1.0, ap (is_enabled c.args.now) (node-is c.self.inside.forest s.0 _ s.1.1) ∙ ap (λ (i : Instance). is_enabled c.args.now i.node) c.self.view_is ∙ c.requires))
+
+pub invariant_of-self : goal.invariant_of-self
+invariant_of-self c = subst IsAlone (sym c.in_err-install.ensures.err) c.self.invariant
 
 pub returns-clause-ok : goal.returns-clause-ok
 returns-clause-ok c =
-    let fs = c.self.inside.frames.items in
-    let top = c.self.inside.top in
+    let s = c.stack_of.ensures in
+    let top = c.stack_of.result.top.now in
     let made = c.in_ok-made.made in
-    let old : Instance = instance_of c.self.inside.scene fs top c.self.inside.number in
-    let new : Instance = record old { node = plug c.install.new.frames.items (top_node made.top); context = made.context } in
-    let enabled : is_enabled old.node ≡ true = ap (λ (i : Instance). is_enabled i.node) c.self.view_is ∙ c.requires in
-    subst (λ (i : Instance). option_map (with_step i) (local (sight i) i.node) ≡ Some new) c.self.view_is
-    (stepped old fs c.install.new.frames.items top made refl enabled
-    (subst (λ gs. IsStep (sight_of c.self.inside.scene) gs top (stepped_of made)) c.deref.ensures.value c.in_ok-made.ensures) c.in_ok-install.ensures.ok)
+    let forest = c.self.inside.forest in
+    let old : Instance = instance_of c.self.inside.setting (frames_of (layers_in forest)) (top_of (layers_in forest)) c.self.inside.number in
+    let enabled : is_enabled c.args.now old.node ≡ true = ap (λ (i : Instance). is_enabled c.args.now i.node) c.self.view_is ∙ c.requires in
+    let st = stepped c.args.now old s.0 top made (sym (node-is forest s.0 top s.1.1)) enabled (c.in_ok-made.ensures s.0 s.1.0) in
+    let fs = st.0 ++ option_to_list made.frame in
+    let layers = holds-layers c.install.new.forest (stacked fs made.top) (c.in_ok-install.ensures.ok s.0 st.0 top s.1.1 st.1.0) in
+    subst (λ (i : Instance). option_map (with_step i) (local (sight c.args.now i) i.node) ≡ Some (record old { node = plug (frames_of (layers_in c.install.new.forest)) (top_node (top_of (layers_in c.install.new.forest))); context = made.context })) c.self.view_is
+    (st.1.1 ∙ ap (λ n. Some (record old { node = n; context = made.context })) (node-is c.install.new.forest fs made.top layers))
+
+pub invariant_of-self-2 : goal.invariant_of-self-2
+invariant_of-self-2 c =
+    let s = c.stack_of.ensures in
+    let top = c.stack_of.result.top.now in
+    let made = c.in_ok-made.made in
+    let forest = c.self.inside.forest in
+    let old : Instance = instance_of c.self.inside.setting (frames_of (layers_in forest)) (top_of (layers_in forest)) c.self.inside.number in
+    let enabled : is_enabled c.args.now old.node ≡ true = ap (λ (i : Instance). is_enabled c.args.now i.node) c.self.view_is ∙ c.requires in
+    let st = stepped c.args.now old s.0 top made (sym (node-is forest s.0 top s.1.1)) enabled (c.in_ok-made.ensures s.0 s.1.0) in
+    (st.0 ++ option_to_list made.frame, (made.top, c.in_ok-install.ensures.ok s.0 st.0 top s.1.1 st.1.0))

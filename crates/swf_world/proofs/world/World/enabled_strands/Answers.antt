@@ -6,5 +6,5 @@ use Rattle.swf_world.proofs.world.World.enabled_strands.Goals as goal
 
 pub loop-number-preserved : goal.loop-number-preserved
 loop-number-preserved c =
-    c.in_ok-push_enabled.ensures ∙ ap (λ xs. xs ++ strand_at (instances_in c.self.inside.instances.entries) c.loop-number.number) c.loop-number.invariant
-    ∙ sym (more_strands (instances_in c.self.inside.instances.entries) c.loop-number.number)
+    c.in_ok-push_enabled.ensures ∙ ap (λ xs. xs ++ strand_at c.self.inside.moment (instances_in c.self.inside.instances.entries) c.loop-number.number) c.loop-number.invariant
+    ∙ sym (more_strands c.self.inside.moment (instances_in c.self.inside.instances.entries) c.loop-number.number)

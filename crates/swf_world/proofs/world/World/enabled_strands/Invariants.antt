@@ -5,4 +5,4 @@ use Rattle.swf_world.proofs.world.World.enabled_strands.Given as goal
 
 -- the strands of the instances so far
 abbrev pub invariant-loop-number : goal.invariant-loop-number
-invariant-loop-number l = l.strands.items ≡ strands_of (take l.number (instances_in l.self-inside.instances.entries))
+invariant-loop-number l = l.strands.items ≡ strands_of l.self-inside.moment (take l.number (instances_in l.self-inside.instances.entries))

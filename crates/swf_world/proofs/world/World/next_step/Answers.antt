@@ -1,15 +1,29 @@
-use Rattle.std.proofs.Common.{ap, sym, subst, not}
+use Rattle.std.proofs.Common.{◌∙◌, ap, sym, subst, not}
+use Rattle.std.specs.BinaryHeap.{heap_items}
 use Rattle.swf_world.specs.Fields.{instances_in}
 use Rattle.swf_world.specs.Queued.{Queued}
+use Rattle.swf_world.proofs.StepLemmas.{entry_within}
 use Rattle.swf_world.proofs.Waiting.{quiet_without, queued_turned, kept_turned}
 use Rattle.swf_world.proofs.world.World.next_step.Goals as goal
 
 pub returns-in_default-clause-none : goal.returns-in_default-clause-none
 returns-in_default-clause-none c = λ _. ap not
-    (quiet_without (instances_in c.self.inside.instances.entries) (subst (Queued (instances_in c.self.inside.instances.entries)) c.in_default.ensures.none c.first_enabled.ensures.turns))
+    (quiet_without c.self.inside.moment (instances_in c.self.inside.instances.entries) (heap_items c.self.inside.timers)
+    (subst (λ queue. Queued c.self.inside.moment (instances_in c.self.inside.instances.entries) queue (heap_items c.self.inside.timers)) c.in_default.ensures.none
+    (c.first_enabled.ensures.turns (heap_items c.self.inside.timers) c.self.invariant.waiting.queued)))
+
+pub step_label-requires-clause-known : goal.step_label-requires-clause-known
+step_label-requires-clause-known c = entry_within c.self.inside.moment c.self.inside.instances.entries c.in-Some.number c.in-Some.ensures.some.0
+
+pub invariant_of-self : goal.invariant_of-self
+invariant_of-self c =
+    kept_turned c.self.inside.documents.entries c.self.inside.instances.entries c.self.inside.keys.entries c.self.inside.moment c.self.inside.count c.self.inside.turns c.first_enabled.new.turns (heap_items c.self.inside.timers)
+    c.self.invariant c.first_enabled.ensures.count (c.first_enabled.ensures.turns (heap_items c.self.inside.timers) c.self.invariant.waiting.queued)
 
 pub invariant_of-self-2 : goal.invariant_of-self-2
 invariant_of-self-2 c =
-    kept_turned c.self.inside.documents.entries c.self.inside.instances.entries c.self.inside.keys.entries c.self.inside.queue.items c.rotate_left.new.self.items c.self.inside.count c.self.invariant
-    (subst (Queued (instances_in c.self.inside.instances.entries)) (sym c.rotate_left.ensures.items)
-    (queued_turned (instances_in c.self.inside.instances.entries) c.first_enabled.new.queue.items c.in-Some.ensures.some.1 c.first_enabled.ensures.turns))
+    kept_turned c.self.inside.documents.entries c.self.inside.instances.entries c.self.inside.keys.entries c.self.inside.moment c.self.inside.count c.self.inside.turns c.turn.new.self (heap_items c.self.inside.timers)
+    c.self.invariant (c.turn.ensures.count ∙ c.first_enabled.ensures.count)
+    (subst (λ queue. Queued c.self.inside.moment (instances_in c.self.inside.instances.entries) queue (heap_items c.self.inside.timers)) (sym c.turn.ensures.numbers)
+    (queued_turned c.self.inside.moment (instances_in c.self.inside.instances.entries) (heap_items c.self.inside.timers) c.first_enabled.new.turns.numbers c.in-Some.ensures.some.1
+    (c.first_enabled.ensures.turns (heap_items c.self.inside.timers) c.self.invariant.waiting.queued)))

@@ -1,5 +1,5 @@
 use Rattle.std.proofs.Common.{subst}
-use Rattle.swf_meaning.specs.declared.label.Label.TheVariants.{Load, Start, Step}
+use Rattle.swf_meaning.specs.declared.label.Label.TheVariants.{Load, Start, Moment, Step}
 use Rattle.swf_world.specs.Prepares.{Prepares}
 use Rattle.swf_world.proofs.Checks.{refused_from}
 use Rattle.swf_world.proofs.EarlyLemmas.{refusal_early}
@@ -27,3 +27,13 @@ returns-in-Start-clause-early c = λ r is.
     let w = c.make_room.new.self.world in
     let label = Start c.in-Start.id c.in-Start.key c.in-Start.input in
     refusal_early w label r c.make_room.ensures.early (subst (Prepares w label) is c.prepare_start.ensures)
+
+pub returns-in-Moment-clause-refused : goal.returns-in-Moment-clause-refused
+returns-in-Moment-clause-refused c =
+    refused_from c.make_room.new.self.world c.args.self.now.world (Moment c.in-Moment.moment) c.args.label.now c.prepare_moment.result c.make_room.ensures.same c.in-Moment.is c.prepare_moment.ensures
+
+pub returns-in-Moment-clause-early : goal.returns-in-Moment-clause-early
+returns-in-Moment-clause-early c = λ r is.
+    let w = c.make_room.new.self.world in
+    let label = Moment c.in-Moment.moment in
+    refusal_early w label r c.make_room.ensures.early (subst (Prepares w label) is c.prepare_moment.ensures)

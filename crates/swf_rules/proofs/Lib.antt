@@ -1,0 +1,3 @@
+pub mod RuleLemmas
+pub mod RaiseLemmas
+pub mod AskLemmas

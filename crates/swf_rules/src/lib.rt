@@ -1,0 +1,19 @@
+//! The rules of the tasks: what each kind of task does, and where control goes.
+#![tactic(auto)]
+
+mod completion;
+mod for_;
+mod lists;
+mod next;
+mod raise;
+mod switch;
+mod try_;
+mod wait;
+
+pub use completion::{complete, input_of};
+pub use for_::looping;
+pub use lists::comes_to;
+pub use next::{failed, moved_on};
+pub use raise::raising;
+pub use switch::switched;
+pub use wait::{waiting, woken};

@@ -1,0 +1,152 @@
+// How a list of tasks runs (DSL 1.0.0, "Do" and "Flow directives"; reference, "For").
+ghost use Rattle.std.specs.Prelude.{◌≡◌};
+ghost use Rattle.swf_meaning.specs.Lists.{comes_to, list_ended, turn, turn_guarded, turn_begins, guard_in};
+ghost use Rattle.swf_meaning.specs.Parts.{kind_of};
+ghost use Rattle.swf_scene.specs.Halts.{Gives};
+ghost use Rattle.swf_scene.specs.Stack.{sight_of, round_of};
+
+use crate::completion::complete;
+use std::alloc::Global;
+use swf_document::Flow;
+use swf_jq_builtins::is_true;
+use swf_scene::{Frame, Halt, Made, Round, Scene, TaskRef, Top, Turn, value_of, within};
+use swf_transform::first;
+use swf_value::{Json, JsonList};
+
+// So many turns have numbers.
+const MOST_TURNS: u64 = 1 << 53;
+
+/// Control comes to a place of a task's list with a value; past the last task the list ends.
+pub fn comes_to(
+    alloc: Global,
+    scene: &Scene,
+    task: &TaskRef,
+    raw: &Json,
+    input: &Json,
+    round: Round,
+    place: usize,
+    value: Json,
+) -> Result<Made, Halt>
+    ensures { Gives (sight_of scene.entry.now) (comes_to (sight_of scene.entry.now) task.now raw.now input.now (round_of round) place value) result }
+{
+    let Some(child) = task.child(&round, place)? else {
+        return list_ended(alloc, scene, task, raw, input, round, value);
+    };
+    let frame = Frame {
+        task: task.copy()?,
+        raw: raw.copy()?,
+        input: input.copy()?,
+        round,
+        place,
+    };
+    Ok(Made {
+        frame: Some(frame),
+        top: Top::Fresh {
+            task: child,
+            raw: value,
+        },
+        context: scene.setting.context.copy()?,
+    })
+}
+
+/// A task's list has ended with a value: a `for` goes on to its next turn, and any other task is complete.
+pub fn list_ended(
+    alloc: Global,
+    scene: &Scene,
+    task: &TaskRef,
+    raw: &Json,
+    input: &Json,
+    round: Round,
+    value: Json,
+) -> Result<Made, Halt>
+    ensures { Gives (sight_of scene.entry.now) (list_ended (sight_of scene.entry.now) task.now raw.now input.now (round_of round) value) result }
+{
+    match round {
+        Round::Each(Turn { items, number }) => {
+            turn(alloc, scene, task, raw, input, items, number + 1, value)
+        }
+        _ => complete(alloc, scene, task, raw, input, value),
+    }
+}
+
+/// The turn of a number begins with a value, unless no item is left.
+pub fn turn(
+    alloc: Global,
+    scene: &Scene,
+    task: &TaskRef,
+    raw: &Json,
+    input: &Json,
+    items: JsonList,
+    number: u64,
+    value: Json,
+) -> Result<Made, Halt>
+    ensures { Gives (sight_of scene.entry.now) (turn (sight_of scene.entry.now) task.now raw.now input.now items number value) result }
+{
+    if number as usize >= items.as_slice().len() {
+        return complete(alloc, scene, task, raw, input, value);
+    }
+    if number >= MOST_TURNS {
+        return Err(Halt::OutOfMemory);
+    }
+    let round = Round::Each(Turn { items, number });
+    turn_guarded(alloc, scene, task, raw, input, round, value)
+}
+
+// `while` is asked before a turn.
+fn turn_guarded(
+    alloc: Global,
+    scene: &Scene,
+    task: &TaskRef,
+    raw: &Json,
+    input: &Json,
+    round: Round,
+    value: Json,
+) -> Result<Made, Halt>
+    ensures { Gives (sight_of scene.entry.now) (turn_guarded (sight_of scene.entry.now) task.now raw.now input.now (round_of round) value (guard_in (kind_of task.now))) result }
+{
+    let Some(condition) = task.guard() else {
+        return turn_begins(scene, task, raw, input, round, value);
+    };
+    let vars = within(alloc, &scene.seen(alloc, task, &round)?, task, raw, input)?;
+    let goes_on = value_of(alloc, task, first(alloc, condition, &vars, &value)?)?;
+    if is_true(&goes_on) {
+        turn_begins(scene, task, raw, input, round, value)
+    } else {
+        complete(alloc, scene, task, raw, input, value)
+    }
+}
+
+// A turn begins with the first task of the list.
+fn turn_begins(
+    scene: &Scene,
+    task: &TaskRef,
+    raw: &Json,
+    input: &Json,
+    round: Round,
+    value: Json,
+) -> Result<Made, Halt>
+    ensures { Gives (sight_of scene.entry.now) (turn_begins (sight_of scene.entry.now) task.now raw.now input.now (round_of round) value) result }
+{
+    let top = match task.child(&round, 0)? {
+        Some(child) => Top::Fresh {
+            task: child,
+            raw: value,
+        },
+        None => Top::Done {
+            output: value,
+            flow: Flow::Continue,
+        },
+    };
+    let frame = Frame {
+        task: task.copy()?,
+        raw: raw.copy()?,
+        input: input.copy()?,
+        round,
+        place: 0,
+    };
+    Ok(Made {
+        frame: Some(frame),
+        top,
+        context: scene.setting.context.copy()?,
+    })
+}

@@ -1,0 +1,117 @@
+// Where control goes after a task of a list (DSL 1.0.0, "Flow directives").
+ghost use Rattle.std.specs.Prelude.{◌≡◌, ◌<◌, ◌-◌, ◌^◌};
+ghost use Rattle.swf_document.specs.TaskNode.{tasks_of};
+ghost use Rattle.swf_meaning.specs.Next.{place_from, next, ended};
+ghost use Rattle.swf_meaning.specs.Local.{moved_on, failed};
+ghost use Rattle.swf_rules.specs.Goals.{goal_of};
+ghost use Rattle.swf_scene.specs.Halts.{Gives};
+ghost use Rattle.swf_scene.specs.Stack.{sight_of, round_of};
+
+use crate::completion::{finished, output_of};
+use crate::lists::{comes_to, list_ended};
+use crate::try_::caught;
+use std::alloc::Global;
+use swf_document::{Flow, Named, Problem};
+use swf_scene::{Frame, Halt, Made, Round, Scene, TaskRef, Work};
+use swf_text::{Text, same_texts};
+use swf_value::Json;
+
+/// What comes after a place of a list.
+#[derive(Clone, Copy, Debug, PartialEq, Eq)]
+pub enum Goal {
+    Place(usize),
+    ListEnd,
+    WorkflowEnd,
+}
+
+// The place of the task of a name.
+fn place_of(name: &Text, tasks: &[Named]) -> Option<usize>
+    ensures { result ≡ place_from 0 name.now (tasks_of tasks.now) }
+{
+    for (place, named) in tasks.iter().enumerate() {
+        if same_texts(&named.name, name) {
+            return Some(place);
+        }
+    }
+    None
+}
+
+// What comes after a place by a flow.
+fn next(tasks: &[Named], place: usize, flow: &Flow) -> Goal
+    requires { place < 2 ^ 64 - 1 }
+    ensures { goal_of result ≡ next (tasks_of tasks.now) place flow.now }
+{
+    match flow {
+        Flow::Continue => Goal::Place(place + 1),
+        Flow::Exit => Goal::ListEnd,
+        Flow::End => Goal::WorkflowEnd,
+        Flow::Task(name) => match place_of(name, tasks) {
+            Some(place) => Goal::Place(place),
+            None => Goal::ListEnd,
+        },
+    }
+}
+
+// `end` passes over the tasks around; of the workflow `output.as` is applied.
+fn ended(
+    alloc: Global,
+    scene: &Scene,
+    task: &TaskRef,
+    raw: &Json,
+    input: &Json,
+    output: Json,
+) -> Result<Made, Halt>
+    ensures { Gives (sight_of scene.entry.now) (ended (sight_of scene.entry.now) task.now raw.now input.now output) result }
+{
+    if task.is_workflow() {
+        let output = output_of(alloc, scene, task, raw, input, output)?;
+        return Ok(finished(output, Flow::End, scene.setting.context.copy()?));
+    }
+    Ok(finished(output, Flow::End, scene.setting.context.copy()?))
+}
+
+/// A task of a running task's list is done.
+pub fn moved_on(
+    alloc: Global,
+    scene: &Scene,
+    frame: &Frame,
+    output: &Json,
+    flow: &Flow,
+) -> Result<Made, Halt>
+    ensures { Gives (sight_of scene.entry.now) (moved_on (sight_of scene.entry.now) frame.now.task frame.now.raw frame.now.input (round_of frame.now.round) frame.now.place output.now flow.now) result }
+{
+    let Frame {
+        task,
+        raw,
+        input,
+        round,
+        place,
+    } = frame;
+    let output = output.copy()?;
+    match next(task.named(round), *place, flow) {
+        Goal::Place(place) => {
+            comes_to(alloc, scene, task, raw, input, round.copy()?, place, output)
+        }
+        Goal::ListEnd => list_ended(alloc, scene, task, raw, input, round.copy()?, output),
+        Goal::WorkflowEnd => ended(alloc, scene, task, raw, input, output),
+    }
+}
+
+/// A task of a running task's list ended in an error: a `try` may catch it, and it ends any other task.
+pub fn failed(alloc: Global, scene: &Scene, frame: &Frame, problem: &Problem) -> Result<Made, Halt>
+    ensures { Gives (sight_of scene.entry.now) (failed (sight_of scene.entry.now) frame.now.task frame.now.raw frame.now.input (round_of frame.now.round) problem.now) result }
+{
+    let Frame {
+        task,
+        raw,
+        input,
+        round,
+        ..
+    } = frame;
+    match (round, task.work()) {
+        (Round::Try { retries }, Work::Try(spec)) => {
+            caught(alloc, scene, task, raw, input, *retries, problem, spec)
+        }
+        _ => Err(Halt::Fault(problem.copy()?)),
+    }
+}

@@ -1,0 +1,5 @@
+pub mod TaskLemmas
+pub mod SightLemmas
+pub mod RoundLemmas
+pub mod HaltLemmas
+pub mod LayerLemmas

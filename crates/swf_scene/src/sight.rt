@@ -1,0 +1,289 @@
+// The variables that a task's expressions see (DSL 1.0.0, "Runtime expression arguments").
+ghost use Rattle.std.specs.Prelude.{◌≡◌, ◌++◌, ◌<◌, ◌^◌, pos, IfOk, IsTrue, if◌then◌else◌};
+ghost use Rattle.swf_text.specs.Same.{is_ascii};
+ghost use Rattle.swf_value.specs.Value.{int};
+ghost use Rattle.swf_meaning.specs.Sight.{variable, epoch, workflow_value, last_part, task_value, of_workflow, with_context, of_task, before, within, behind, is_workflow};
+ghost use Rattle.swf_meaning.specs.Around.{round_variables};
+ghost use Rattle.swf_meaning.specs.Parts.{kind_of};
+ghost use Rattle.swf_meaning.specs.Try.{catching, retrying};
+ghost use Rattle.swf_scene.specs.Stack.{sight_of, round_of};
+ghost use Rattle.swf_scene.specs.TaskRef.{loop_variables};
+
+use crate::made::{Round, Turn};
+use crate::scene::Scene;
+use crate::task::{TaskRef, Work};
+use std::alloc::{AllocError, Global};
+use swf_document::{ForSpec, Problem, problem_value};
+use swf_duration::Moment;
+use swf_jq_eval::{Variable, Vars};
+use swf_text::{Place, Text, pointer_text, word};
+use swf_value::{Json, member};
+
+// A variable whose name is an ASCII word.
+fn variable(alloc: Global, name: &str, value: Json) -> Result<Variable, AllocError>
+    requires { IsTrue (is_ascii name.now) }
+    ensures { IfOk result (λ x. x ≡ variable name.now value) }
+{
+    let name = word(alloc, name)?;
+    Ok(Variable { name, value })
+}
+
+// The same variable once more.
+fn copy_variable(variable: &Variable) -> Result<Variable, AllocError>
+    ensures { IfOk result (λ x. x ≡ variable.now) }
+{
+    Ok(Variable {
+        name: variable.name.copy()?,
+        value: variable.value.copy()?,
+    })
+}
+
+// Adds these variables.
+fn push_variables(variables: &mut Vec<Variable>, more: &[Variable]) -> Result<(), AllocError>
+    ensures { IfOk result (λ _. variables.new.items ≡ variables.old.items ++ more.now) }
+{
+    for one in more {
+        variables.push(copy_variable(one)?)?;
+    }
+    Ok(())
+}
+
+/// The same variables once more. It copies no values.
+pub fn copy_variables(alloc: Global, variables: &[Variable]) -> Result<Vec<Variable>, AllocError>
+    ensures { IfOk result (λ xs. xs.items ≡ variables.now) }
+{
+    let mut copies = Vec::new(alloc);
+    push_variables(&mut copies, variables)?;
+    Ok(copies)
+}
+
+// The position of an item as a value.
+fn position(number: u64) -> Json
+    requires { number < 2 ^ 53 }
+    ensures { result ≡ int (pos number) }
+{
+    Json::int(number as i64)
+}
+
+// Adds the item of a turn and its position.
+fn push_turn(variables: &mut Vec<Variable>, spec: &ForSpec, turn: &Turn) -> Result<(), AllocError>
+    ensures { IfOk result (λ _. variables.new.items ≡ variables.old.items ++ loop_variables spec.now turn.now) }
+{
+    let items = turn.items.as_slice();
+    let place = turn.number as usize;
+    if place >= items.len() {
+        return Ok(());
+    }
+    variables.push(Variable {
+        name: spec.each.copy()?,
+        value: items[place].copy()?,
+    })?;
+    variables.push(Variable {
+        name: spec.at.copy()?,
+        value: position(turn.number),
+    })?;
+    Ok(())
+}
+
+/// Adds what the tasks see that run in a round of a task.
+pub fn push_seen(
+    alloc: Global,
+    variables: &mut Vec<Variable>,
+    task: &TaskRef,
+    round: &Round,
+) -> Result<(), AllocError>
+    ensures { IfOk result (λ _. variables.new.items ≡ variables.old.items ++ round_variables (kind_of task.now) (round_of round.now)) }
+{
+    match (task.work(), round) {
+        (Work::For(spec), Round::Each(turn)) => push_turn(variables, spec, turn),
+        (Work::Try(spec), Round::Catch(problem)) => {
+            let value = problem_value(alloc, problem)?;
+            let name = spec.name.copy()?;
+            variables.push(Variable { name, value })?;
+            Ok(())
+        }
+        _ => Ok(()),
+    }
+}
+
+// A moment as an object.
+fn epoch(alloc: Global, moment: Moment) -> Result<Json, AllocError>
+    ensures { IfOk result (λ v. v ≡ epoch moment) }
+{
+    let mut inner = Vec::new(alloc);
+    inner.push(member(
+        alloc,
+        "milliseconds",
+        Json::int(moment.milliseconds() as i64),
+    )?)?;
+    let inner = Json::object(alloc, inner)?;
+    let mut members = Vec::new(alloc);
+    members.push(member(alloc, "epoch", inner)?)?;
+    Json::object(alloc, members)
+}
+
+// `$workflow`.
+fn workflow_value(alloc: Global, scene: &Scene) -> Result<Json, AllocError>
+    ensures { IfOk result (λ v. v ≡ workflow_value (sight_of scene.entry.now)) }
+{
+    let mut members = Vec::new(alloc);
+    members.push(member(alloc, "id", Json::text(scene.setting.id.copy()?))?)?;
+    members.push(member(alloc, "input", scene.setting.input.copy()?)?)?;
+    members.push(member(alloc, "startedAt", epoch(alloc, scene.setting.started)?)?)?;
+    Json::object(alloc, members)
+}
+
+// The name of a task, which is the last part of its place.
+#[tactic(auto, using(crate::proofs::SightLemmas::last_part_is))]
+fn name_at(alloc: Global, place: &Place) -> Result<Text, AllocError>
+    ensures { IfOk result (λ t. t ≡ last_part place.now) }
+{
+    match place.as_slice().split_last() {
+        Some((name, _)) => Ok(name.copy()?),
+        None => word(alloc, ""),
+    }
+}
+
+// `$task`.
+fn task_value(alloc: Global, task: &TaskRef, raw: &Json) -> Result<Json, AllocError>
+    ensures { IfOk result (λ v. v ≡ task_value task.now raw.now) }
+{
+    let place = task.place(alloc)?;
+    let mut members = Vec::new(alloc);
+    members.push(member(alloc, "input", raw.copy()?)?)?;
+    members.push(member(alloc, "name", Json::text(name_at(alloc, &place)?))?)?;
+    members.push(member(alloc, "reference", Json::text(pointer_text(alloc, &place)?))?)?;
+    Json::object(alloc, members)
+}
+
+fn of_workflow(alloc: Global, scene: &Scene) -> Result<Vec<Variable>, AllocError>
+    ensures { IfOk result (λ xs. xs.items ≡ of_workflow (sight_of scene.entry.now)) }
+{
+    let mut variables = Vec::new(alloc);
+    variables.push(variable(alloc, "workflow", workflow_value(alloc, scene)?)?)?;
+    Ok(variables)
+}
+
+fn with_context(alloc: Global, scene: &Scene) -> Result<Vec<Variable>, AllocError>
+    ensures { IfOk result (λ xs. xs.items ≡ with_context (sight_of scene.entry.now)) }
+{
+    let mut variables = of_workflow(alloc, scene)?;
+    variables.push(variable(alloc, "context", scene.setting.context.copy()?)?)?;
+    Ok(variables)
+}
+
+fn of_task(
+    alloc: Global,
+    scene: &Scene,
+    task: &TaskRef,
+    raw: &Json,
+) -> Result<Vec<Variable>, AllocError>
+    ensures { IfOk result (λ xs. xs.items ≡ of_task (sight_of scene.entry.now) task.now raw.now) }
+{
+    let mut variables = with_context(alloc, scene)?;
+    variables.push(variable(alloc, "task", task_value(alloc, task, raw)?)?)?;
+    push_variables(&mut variables, &scene.around)?;
+    Ok(variables)
+}
+
+/// What `input.from` sees.
+pub fn before(alloc: Global, scene: &Scene, task: &TaskRef, raw: &Json) -> Result<Vars, AllocError>
+    ensures { IfOk result (λ r. r ≡ before (sight_of scene.entry.now) task.now raw.now) }
+{
+    if task.is_workflow() {
+        Ok(Vars::of(of_workflow(alloc, scene)?))
+    } else {
+        Ok(Vars::of(of_task(alloc, scene, task, raw)?))
+    }
+}
+
+// What all but `input.from` see besides the values of the task itself.
+fn around(
+    alloc: Global,
+    scene: &Scene,
+    task: &TaskRef,
+    raw: &Json,
+) -> Result<Vec<Variable>, AllocError>
+    ensures { IfOk result (λ xs. xs.items ≡ (if is_workflow task.now then with_context (sight_of scene.entry.now) else of_task (sight_of scene.entry.now) task.now raw.now)) }
+{
+    if task.is_workflow() {
+        with_context(alloc, scene)
+    } else {
+        of_task(alloc, scene, task, raw)
+    }
+}
+
+// What `if`, a task's own definition and `output.as` see, as a list that may grow.
+fn inside(
+    alloc: Global,
+    scene: &Scene,
+    task: &TaskRef,
+    raw: &Json,
+    input: &Json,
+) -> Result<Vec<Variable>, AllocError>
+    ensures { IfOk result (λ xs. xs.items ≡ within (sight_of scene.entry.now) task.now raw.now input.now) }
+{
+    let mut variables = around(alloc, scene, task, raw)?;
+    variables.push(variable(alloc, "input", input.copy()?)?)?;
+    Ok(variables)
+}
+
+/// What `if`, a task's own definition and `output.as` see, on the transformed input.
+pub fn within(
+    alloc: Global,
+    scene: &Scene,
+    task: &TaskRef,
+    raw: &Json,
+    input: &Json,
+) -> Result<Vars, AllocError>
+    ensures { IfOk result (λ r. r ≡ within (sight_of scene.entry.now) task.now raw.now input.now) }
+{
+    Ok(Vars::of(inside(alloc, scene, task, raw, input)?))
+}
+
+/// What `export.as` sees, on the transformed output.
+pub fn behind(
+    alloc: Global,
+    scene: &Scene,
+    task: &TaskRef,
+    raw: &Json,
+    input: &Json,
+    output: &Json,
+) -> Result<Vars, AllocError>
+    ensures { IfOk result (λ r. r ≡ behind (sight_of scene.entry.now) task.now raw.now input.now output.now) }
+{
+    let mut variables = inside(alloc, scene, task, raw, input)?;
+    variables.push(variable(alloc, "output", output.copy()?)?)?;
+    Ok(Vars::of(variables))
+}
+
+/// What the conditions of a `catch` see.
+pub fn catching(
+    alloc: Global,
+    scene: &Scene,
+    task: &TaskRef,
+    raw: &Json,
+    problem: &Problem,
+) -> Result<Vars, AllocError>
+    ensures { IfOk result (λ r. r ≡ catching (sight_of scene.entry.now) task.now raw.now problem.now) }
+{
+    let round = Round::Catch(problem.copy()?);
+    let scene = scene.seen(alloc, task, &round)?;
+    Ok(Vars::of(of_task(alloc, &scene, task, raw)?))
+}
+
+/// What the conditions of a policy see that has a name in the document.
+pub fn retrying(
+    alloc: Global,
+    scene: &Scene,
+    task: &TaskRef,
+    raw: &Json,
+    problem: &Problem,
+) -> Result<Vars, AllocError>
+    ensures { IfOk result (λ r. r ≡ retrying (sight_of scene.entry.now) task.now raw.now problem.now) }
+{
+    let scene = scene.alone(alloc);
+    let mut variables = of_task(alloc, &scene, task, raw)?;
+    variables.push(variable(alloc, "error", problem_value(alloc, problem)?)?)?;
+    Ok(Vars::of(variables))
+}

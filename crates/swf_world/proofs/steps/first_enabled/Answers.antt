@@ -1,0 +1,11 @@
+use Rattle.std.proofs.Common.{◌∙◌, sym}
+use Rattle.swf_world.specs.Fields.{instances_in}
+use Rattle.swf_world.proofs.Waiting.{queued_left}
+use Rattle.swf_world.proofs.steps.first_enabled.Goals as goal
+
+pub loop-number-preserved : goal.loop-number-preserved
+loop-number-preserved c = record {
+  turns = λ timers h. queued_left c.args.now (instances_in c.args.instances.now.entries) timers c.loop-number.turns.numbers c.leave.new.self.numbers c.in-Some.number
+      (sym c.in-Some.ensures) c.leave.ensures.numbers (sym c.is_enabled.ensures ∙ c.if-is_enabled.false) (c.loop-number.invariant.turns timers h);
+  count = c.leave.ensures.count ∙ c.loop-number.invariant.count;
+}

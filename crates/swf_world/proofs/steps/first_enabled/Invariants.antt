@@ -1,0 +1,16 @@
+use Rattle.std.proofs.Common.{◌≡◌, List, length}
+use Rattle.swf_world.specs.declared.timers.Timer.{Timer}
+use Rattle.swf_world.specs.Fields.{instances_in}
+use Rattle.swf_world.specs.Queued.{Queued}
+use Rattle.swf_world.proofs.steps.first_enabled.Given as goal
+
+abbrev pub invariant-loop-number : goal.invariant-loop-number
+invariant-loop-number l =
+    let is = instances_in l.instances.entries in
+    record {
+      turns : (timers : List Timer) → Queued l.now is l.fn.turns.numbers timers → Queued l.now is l.turns.numbers timers;
+      count : l.turns.count ≡ l.fn.turns.count;
+    }
+
+abbrev pub decreases-loop-number : goal.decreases-loop-number
+decreases-loop-number l = length l.turns.numbers

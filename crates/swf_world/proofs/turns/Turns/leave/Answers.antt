@@ -1,0 +1,10 @@
+use Rattle.std.proofs.Common.{arith}
+use Rattle.swf_world.proofs.TurnLemmas.{first_flagged, flagged_left}
+use Rattle.swf_world.proofs.turns.Turns.leave.Goals as goal
+
+pub index_mut-requires : goal.index_mut-requires
+index_mut-requires c =
+    omega (arith, c.self.inside.queued.ok.0, first_flagged c.self.inside.queue.items c.pop_front.new.self.items c.self.inside.queued.items c.in-Some.number c.in-Some.ensures.items c.self.invariant)
+
+pub invariant_of-self : goal.invariant_of-self
+invariant_of-self c = flagged_left c.self.inside.queue.items c.pop_front.new.self.items c.self.inside.queued.items c.in-Some.number c.in-Some.ensures.items c.self.invariant

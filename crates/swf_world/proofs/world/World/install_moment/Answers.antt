@@ -1,0 +1,24 @@
+use Rattle.std.proofs.Common.{◌<◌, ap, sym, arith}
+use Rattle.std.specs.BinaryHeap.{heap_items}
+use Rattle.swf_world.specs.declared.key.Key.TheVariants.{Moment}
+use Rattle.swf_world.specs.Fields.{instances_in}
+use Rattle.swf_world.proofs.Grows.{kept_reached, new_key}
+use Rattle.swf_world.proofs.TimerLemmas.{set_known}
+use Rattle.swf_world.proofs.world.World.install_moment.Goals as goal
+
+pub wake-requires-clause-numbers : goal.wake-requires-clause-numbers
+wake-requires-clause-numbers c = set_known c.self.inside.moment (instances_in c.self.inside.instances.entries) c.self.inside.turns (heap_items c.self.inside.timers) c.self.invariant.waiting
+
+pub add-requires-clause-new : goal.add-requires-clause-new
+add-requires-clause-new c =
+    new_key (Moment c.args.milliseconds) c.self.inside.keys.entries
+    (c.self.invariant.new.moment c.args.milliseconds (omega (arith, c.requires.suits.later, ap (λ h. h.world.now) c.self.view_is)))
+
+pub invariant_of-self : goal.invariant_of-self
+invariant_of-self c =
+    let later : c.self.inside.moment < c.new-moment.result = omega (arith, c.requires.suits.later, ap (λ h. h.world.now) c.self.view_is, c.new-moment.ensures) in
+    rw c.add.ensures
+    (kept_reached c.self.inside.documents.entries c.self.inside.instances.entries c.self.inside.keys.entries c.self.inside.moment c.self.inside.count c.new-moment.result c.args.milliseconds
+    c.self.inside.turns c.wake.new.turns (heap_items c.self.inside.timers) (heap_items c.wake.new.timers)
+    c.self.invariant (sym c.new-moment.ensures) later (omega (arith, ap (λ h. h.room) c.self.view_is))
+    (c.wake.ensures.queued c.self.inside.moment (instances_in c.self.inside.instances.entries) (omega arith) c.self.invariant.waiting.queued) c.wake.ensures.count c.wake.ensures.order)
