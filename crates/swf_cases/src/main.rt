@@ -4,11 +4,13 @@
 //! A line of documents.txt is a document, and is followed by what `check` prints. The sessions of sessions.txt and script.txt
 //! have empty lines between them; each line is a command, followed by its reply, or begins with `!` (`src/session.rt` has the
 //! words), and `! reopen` ends the input and opens the store again. A line of faults.txt names a call that fails or the calls
-//! before a stop (`src/faults.rt`). A line that begins with `#` names what follows, and stands in the transcript as it is.
+//! before a stop (`src/faults.rt`). A session of stops.txt is stopped after each call of its store, and given once more.
+//! A line that begins with `#` names what follows, and stands in the transcript as it is.
 #![tactic(auto)]
 
 mod faults;
 mod session;
+mod stops;
 
 use std::alloc::{AllocError, Global};
 use std::fs;
@@ -148,6 +150,8 @@ fn main(rt: HostRuntime) -> io::Result<()> {
     }
     let faults = fs::read_to_string(&rt, "faults.txt")?;
     faults::add_faults(alloc, &mut transcript, faults.as_str())?;
+    let stops = fs::read_to_string(&rt, "stops.txt")?;
+    stops::add_stops(alloc, &mut transcript, stops.as_str())?;
     match String::from_utf8(transcript) {
         Ok(text) => print!(rt; "{text}"),
         Err(_) => Err(io::Error::from(ErrorKind::InvalidData)),

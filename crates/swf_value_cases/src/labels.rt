@@ -7,6 +7,7 @@ use crate::{bytes_of, no_row, number_of, split};
 use std::alloc::{AllocError, Global};
 use std::io;
 use swf_document::DocKey;
+use swf_duration::Moment;
 use swf_meaning::Label;
 use swf_record::{RecordFault, decode_labels, encode_labels};
 use swf_text::{Strand, Text};
@@ -17,6 +18,7 @@ pub(crate) fn told(alloc: Global, word: &str, rest: &str) -> io::Result<String> 
     match word {
         "load" => spelled(alloc, Label::Load(value_of(alloc, rest)?)),
         "start" => spelled(alloc, start(alloc, rest)?),
+        "moment" => spelled(alloc, moment(rest)?),
         "step" => spelled(alloc, step(alloc, rest)?),
         "again" => again(alloc, &bytes_of(alloc, rest)?),
         "decode" => Ok(decoded(alloc, &bytes_of(alloc, rest)?)?),
@@ -32,6 +34,7 @@ fn nests(label: &Label) -> bool
     match label {
         Label::Load(document) => depth(document) <= 64,
         Label::Start { input, .. } => depth(input) <= 64,
+        Label::Moment(_) => true,
         Label::Step { .. } => true,
     }
 }
@@ -73,6 +76,16 @@ fn start(alloc: Global, row: &str) -> io::Result<Label> {
     Ok(Label::Start { id, key, input })
 }
 
+/// The label of a moment, in milliseconds.
+fn moment(row: &str) -> io::Result<Label> {
+    match row.parse::<u64>() {
+        Ok(milliseconds) if milliseconds <= Moment::LAST => {
+            Ok(Label::Moment(Moment::new(milliseconds)))
+        }
+        _ => Err(no_row()),
+    }
+}
+
 /// The label of a step: an id, and the branches of a strand, which have commas between them.
 fn step(alloc: Global, row: &str) -> io::Result<Label> {
     let (id, branches) = row.split_once(' ').unwrap_or((row, ""));
@@ -99,11 +112,12 @@ fn again(alloc: Global, bytes: &[u8]) -> io::Result<String> {
     Ok(format!(in alloc; "{is_again}")?)
 }
 
-/// A label in words: of a load the depth of its document, of a step its id.
+/// A label in words: of a load the depth of its document, of a moment its milliseconds, of the others the id.
 fn words(alloc: Global, label: &Label) -> Result<String, AllocError> {
     match label {
         Label::Load(document) => format!(in alloc; "load {}", depth(document)),
         Label::Start { id, .. } => format!(in alloc; "start {}", id.as_str()),
+        Label::Moment(moment) => format!(in alloc; "moment {}", moment.milliseconds()),
         Label::Step { id, .. } => format!(in alloc; "step {}", id.as_str()),
     }
 }

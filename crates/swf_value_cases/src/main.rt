@@ -54,7 +54,7 @@ fn told(alloc: Global, rt: &impl Threads, row: &str) -> io::Result<String> {
     let (word, rest) = row.split_once(' ').unwrap_or((row, ""));
     match word {
         "threads" => depths(alloc, rt, rest),
-        "load" | "start" | "step" | "decode" | "again" | "levels" => {
+        "load" | "start" | "moment" | "step" | "decode" | "again" | "levels" => {
             labels::told(alloc, word, rest)
         }
         _ => values::told(alloc, word, rest),
