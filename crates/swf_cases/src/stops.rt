@@ -14,12 +14,10 @@ struct Session<'a> {
 
 impl<'a> Session<'a> {
     fn new(alloc: Global, block: &'a str) -> Result<Session<'a>, AllocError> {
-        let mut name = "";
+        let (name, rest) = block.split_once('\n').unwrap_or((block, ""));
         let mut lines = Vec::new(alloc);
-        for line in block.split('\n') {
-            if line.starts_with('#') {
-                name = line;
-            } else if !line.is_empty() {
+        for line in rest.split('\n') {
+            if !line.is_empty() {
                 lines.push(line)?;
             }
         }
