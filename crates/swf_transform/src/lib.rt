@@ -1,10 +1,14 @@
-//! Templates: what they give on an input, and within which limits.
+//! Templates: what they give on an input, and within which limits. Filters: which events they take, and what these agree in.
 #![tactic(auto)]
 
+mod correlation;
 mod filling;
+mod filter;
 mod got;
 mod telling;
 
+pub use correlation::correlate;
 pub use filling::{fill, first, is_within, transform};
+pub use filter::filter_matches;
 pub use got::Got;
 pub use telling::message;

@@ -1,0 +1,4 @@
+pub mod HeaderCode
+pub mod Headers
+pub mod Reply
+pub mod Codes
