@@ -1,5 +1,5 @@
 -- In a legal run no key is used twice.
-use Rattle.std.proofs.Common.{arith, ◌⊎◌, inl, inr, ⊎_elim, ◌≡◌, ◌∙◌, ap, sym, refl, subst, ℕ, List, [], ◌∷◌, ◌++◌, Bool, true, false, not, ◌&&◌, ◌||◌, ◌≤◌, ◌==◌, if◌then◌else◌, is_some, Option, Some, None, option_map, option_and_then, unwrap_or, codes, nat_le, length}
+use Rattle.std.proofs.Common.{arith, ◌+◌, ◌⊎◌, inl, inr, ⊎_elim, ◌≡◌, ◌∙◌, ap, sym, refl, subst, ℕ, List, [], ◌∷◌, ◌++◌, Bool, true, false, not, ◌&&◌, ◌||◌, ◌≤◌, ◌==◌, if◌then◌else◌, is_some, Option, Some, None, option_map, option_and_then, unwrap_or, codes, nat_le, length}
 use Rattle.std.specs.List.{list_any, filter_map, cons_option}
 use Rattle.std.proofs.lemmas.Bool.{and_parts, or_parts, or_left, or_right, or_from, and_from, not_from_false, false_from_ne_true, both_ways, leb-false, eqb-true, eq-eqb}
 use Rattle.std.proofs.lemmas.Option.{cond_some, option_and_then_some, same_Some}
@@ -12,10 +12,13 @@ use Rattle.swf_document.specs.declared.document.DocKey.{DocKey}
 use Rattle.swf_document.specs.declared.document.Document.{Document}
 use Rattle.swf_document.specs.declared.fault.Fault.{Fault}
 use Rattle.swf_meaning.specs.declared.label.Label.{Label}
-use Rattle.swf_meaning.specs.declared.label.Label.TheVariants.{Load, Start, Moment, Step}
-use Rattle.swf_meaning.specs.Keys.{Key, Document as OfDocument, Instance as OfInstance, Moment as OfMoment, same_key, doc_key, key_of, are_distinct, Once}
+use Rattle.swf_meaning.specs.declared.label.Label.TheVariants.{Load, Start, Event as Told, Reply, Moment, Step}
+use Rattle.swf_cloudevents.specs.declared.event.Event.{Event}
+use Rattle.swf_meaning.specs.Keys.{same_key, doc_key, key_of, are_distinct, Once}
+use Rattle.swf_meaning.specs.declared.key.Key.{Key}
+use Rattle.swf_meaning.specs.declared.key.Key.TheVariants.{Document as OfDocument, Instance as OfInstance, Event as OfEvent, Activity as OfActivity, Moment as OfMoment}
 use Rattle.swf_meaning.specs.World.{World, empty, new_instance, is_root}
-use Rattle.swf_meaning.specs.After.{is_used, with_document, loaded, load_faults, if_none, accepted, most_documents, document_at, with_instance, most_instances, stepped, with_instances, counted, started, reached, after}
+use Rattle.swf_meaning.specs.After.{is_used, with_document, loaded, load_faults, if_none, accepted, most_documents, document_at, with_instance, most_instances, with_event, told, stepped, sent, with_instances, counted, started, reached, after}
 use Rattle.swf_meaning.specs.Runs.{run_from, Legal}
 
 -- what is mapped to a value is a value
@@ -43,6 +46,12 @@ same_key_true (OfDocument a) (OfDocument b) e =
     let version = same_true a.version b.version p.1 in
     λ i. OfDocument (record { namespace = namespace i; name = name i; version = version i })
 same_key_true (OfInstance a) (OfInstance b) e = ap OfInstance (same_true a b e)
+same_key_true (OfEvent s a) (OfEvent t b) e =
+    let p = and_parts (same s t) (same a b) e in
+    let source = same_true s t p.0 in
+    let id = same_true a b p.1 in
+    λ i. OfEvent (source i) (id i)
+same_key_true (OfActivity a) (OfActivity b) e = ap OfActivity (same_true a b e)
 same_key_true (OfMoment a) (OfMoment b) e = ap OfMoment (eqb-true a b e)
 same_key_true a b e = cc
 
@@ -53,6 +62,8 @@ same_key_refl (OfDocument d) =
     (and_from (same d.namespace d.namespace) (same d.name d.name) (same_refl d.namespace) (same_refl d.name))
     (same_refl d.version)
 same_key_refl (OfInstance id) = same_refl id
+same_key_refl (OfEvent s id) = and_from (same s s) (same id id) (same_refl s) (same_refl id)
+same_key_refl (OfActivity a) = same_refl a
 same_key_refl (OfMoment m) = eq-eqb m m refl
 
 -- a value that can be loaded is its document
@@ -85,6 +96,15 @@ Timed w = (t : ℕ) → is_used (OfMoment t) w ≡ true → t ≤ w.now
 not_reached : (w : World) (t : ℕ) → Timed w → nat_le t w.now ≡ false → is_used (OfMoment t) w ≡ false
 not_reached w t timed p = false_from_ne_true (is_used (OfMoment t) w) (λ u. omega (arith, timed t u, leb-false t w.now p))
 
+-- what goes out uses no key and takes no time
+sent_keys : (w : World) (o : Option Event) → (sent w o).keys ≡ w.keys
+sent_keys w None = refl
+sent_keys w (Some e) = refl
+
+sent_now : (w : World) (o : Option Event) → (sent w o).now ≡ w.now
+sent_now w None = refl
+sent_now w (Some e) = refl
+
 -- a label that has a key asks for a new one, which it uses
 after_grown : (w m : World) (l : Label) → Timed w → after w l ≡ Some m → Grown (key_of l) w m
 after_grown w m (Load v) timed e = option_and_then_some (loaded w v) (accepted v) m e
@@ -92,12 +112,16 @@ after_grown w m (Load v) timed e = option_and_then_some (loaded w v) (accepted v
 after_grown w m (Start id key input) timed e =
     let h = refused_some (is_used (OfInstance id) w || nat_le most_instances (length w.instances)) (option_map (λ d. with_instance w (new_instance id input w.now d)) (document_at key w.documents)) m e in
     ((or_parts (is_used (OfInstance id) w) (nat_le most_instances (length w.instances)) h.0).0, mapped_some (λ d. with_instance w (new_instance id input w.now d)) (document_at key w.documents) m h.1 (λ d p q. ap (λ u. u.keys) (sym q)))
+after_grown w m (Told x) timed e =
+    let h = refused_some (is_used (OfEvent x.source x.id) w) (Some (with_event w x)) m e in
+    (h.0, ap (λ u. u.keys) (sym (same_Some (with_event w x) m h.1)))
+after_grown w m (Reply a x) timed e = cc
 after_grown w m (Moment t) timed e =
     let h = refused_some (nat_le t w.now) (Some (record (counted (OfMoment t) w) { now = t })) m e in
     (not_reached w t timed h.0, ap (λ u. u.keys) (sym (same_Some (record (counted (OfMoment t) w) { now = t }) m h.1)))
 after_grown w m (Step id strand) timed e =
     let h = chosen_some (is_root strand) (option_map (with_instances w) (stepped w.now id w.instances)) m e in
-    mapped_some (with_instances w) (stepped w.now id w.instances) m h (λ is p q. ap (λ u. u.keys) (sym q))
+    mapped_some (with_instances w) (stepped w.now id w.instances) m h (λ x p q. ap (λ u. u.keys) (sym q) ∙ sent_keys (record w { instances = x.0; count = w.count + 1 }) x.1)
 
 -- a key that is used after a label was used before it, or is the label's
 used_before : (o : Option Key) (w m : World) (k : Key) → Grown o w m → is_used k m ≡ true → (is_used k w ≡ true) ⊎ (o ≡ Some k)
@@ -125,13 +149,17 @@ later w m (Load v) e = option_and_then_some (loaded w v) (accepted v) m e
 later w m (Start id key input) e =
     let h = refused_some (is_used (OfInstance id) w || nat_le most_instances (length w.instances)) (option_map (λ d. with_instance w (new_instance id input w.now d)) (document_at key w.documents)) m e in
     same_now (Start id key input) w m (mapped_some (λ d. with_instance w (new_instance id input w.now d)) (document_at key w.documents) m h.1 (λ d p q. ap (λ u. u.now) (sym q))) (λ t k. cc)
+later w m (Told x) e =
+    let h = refused_some (is_used (OfEvent x.source x.id) w) (Some (with_event w x)) m e in
+    same_now (Told x) w m (ap (λ u. u.now) (sym (same_Some (with_event w x) m h.1))) (λ t k. cc)
+later w m (Reply a x) e = cc
 later w m (Moment t) e =
     let h = refused_some (nat_le t w.now) (Some (record (counted (OfMoment t) w) { now = t })) m e in
     let n : t ≡ m.now = ap (λ u. u.now) (same_Some (record (counted (OfMoment t) w) { now = t }) m h.1) in
     (omega (arith, n, leb-false t w.now h.0), λ u k. let same : t ≡ u = cc in omega (arith, n, same))
 later w m (Step id strand) e =
     let h = chosen_some (is_root strand) (option_map (with_instances w) (stepped w.now id w.instances)) m e in
-    same_now (Step id strand) w m (mapped_some (with_instances w) (stepped w.now id w.instances) m h (λ is p q. ap (λ u. u.now) (sym q))) (λ t k. cc)
+    same_now (Step id strand) w m (mapped_some (with_instances w) (stepped w.now id w.instances) m h (λ x p q. ap (λ u. u.now) (sym q) ∙ sent_now (record w { instances = x.0; count = w.count + 1 }) x.1)) (λ t k. cc)
 
 timed_after : (w m : World) (l : Label) → Timed w → after w l ≡ Some m → Timed m
 timed_after w m l timed e t u =

@@ -2,17 +2,22 @@
 use Rattle.std.specs.Prelude.{◌+◌, ◌||◌, ℕ, List, [], ◌∷◌, ◌++◌, Bool, true, false, length, nat_le, Option, Some, None, option_map, option_and_then, if◌then◌else◌}
 use Rattle.std.specs.List.{list_any}
 use Rattle.swf_value.specs.Value.{Value, null}
+use Rattle.swf_calls.specs.declared.reply.CallReply.{CallReply}
+use Rattle.swf_cloudevents.specs.declared.event.Event.{Event}
 use Rattle.swf_text.specs.Same.{same}
 use Rattle.swf_reader.specs.Reads.{document_of}
 use Rattle.swf_validate.specs.Accepts.{faults}
 use Rattle.swf_document.specs.declared.document.DocKey.{DocKey}
 use Rattle.swf_document.specs.declared.document.Document.{Document}
 use Rattle.swf_meaning.specs.declared.label.Label.{Label}
-use Rattle.swf_meaning.specs.declared.label.Label.TheVariants.{Load, Start, Moment, Step}
+use Rattle.swf_meaning.specs.declared.label.Label.TheVariants.{Load, Start, Event as Told, Reply, Moment, Step}
 use Rattle.swf_document.specs.declared.fault.Fault.{Fault}
 use Rattle.swf_meaning.specs.Built.{not_built}
 use Rattle.swf_meaning.specs.Local.{local}
-use Rattle.swf_meaning.specs.Keys.{Key, Document as OfDocument, Instance as OfInstance, Moment as OfMoment, same_doc, same_key}
+use Rattle.swf_meaning.specs.Keys.{same_doc, same_key}
+use Rattle.swf_meaning.specs.Offer.{offered_all, takers}
+use Rattle.swf_meaning.specs.declared.key.Key.{Key}
+use Rattle.swf_meaning.specs.declared.key.Key.TheVariants.{Document as OfDocument, Instance as OfInstance, Event as OfEvent, Moment as OfMoment}
 use Rattle.swf_meaning.specs.World.{Instance, Loaded, World, sight, new_instance, with_step, is_root}
 
 abbrev pub most_documents : ℕ
@@ -67,18 +72,48 @@ started w id key input = if is_used (OfInstance id) w || nat_le most_instances (
 abbrev pub reached : World → ℕ → Option World
 reached w moment = if nat_le moment w.now then None else Some (record (counted (OfMoment moment) w) { now = moment })
 
--- the instances after the one of that id took a step at a moment; none where there is none or it cannot
-abbrev pub stepped : ℕ → List ℕ → List Instance → Option (List Instance)
+-- an event is told that is new: every `listen` is offered it
+abbrev pub with_event : World → Event → World
+with_event w e = record (counted (OfEvent e.source e.id) w) { instances = offered_all e w.instances }
+
+abbrev pub told : World → Event → Option World
+told w e = if is_used (OfEvent e.source e.id) w then None else Some (with_event w e)
+
+-- the activity is a call that waits for a reply; no task that is built makes one
+abbrev pub is_open : List ℕ → World → Bool
+is_open a w = false
+
+-- a reply needs an open call
+abbrev pub replied : World → List ℕ → CallReply → Option World
+replied w a r = if is_open a w then Some w else None
+
+-- the instances after the one of that id took a step at a moment, and the event that goes out; none where there is none or it
+-- cannot
+abbrev pub stepped : ℕ → List ℕ → List Instance → Option (List Instance × Option Event)
 stepped now id [] = None
 stepped now id (i ∷ is) =
-    if same id i.id then option_map (λ m. with_step i m ∷ is) (local (sight now i) i.node) else option_map (λ js. i ∷ js) (stepped now id is)
+    if same id i.id
+    then option_map (λ m. (with_step i m ∷ is, m.emitted)) (local (sight now i) i.node)
+    else option_map (λ p. (i ∷ p.0, p.1)) (stepped now id is)
 
-abbrev pub with_instances : World → List Instance → World
-with_instances w is = record w { instances = is; count = w.count + 1 }
+-- an event that goes out is offered to every `listen`
+abbrev pub sent : World → Option Event → World
+sent w None = w
+sent w (Some e) = record w { instances = offered_all e w.instances; outbox = w.outbox ++ e ∷ [] }
+
+abbrev pub with_instances : World → List Instance × Option Event → World
+with_instances w p = sent (record w { instances = p.0; count = w.count + 1 }) p.1
 
 -- the world after a label; none where the label's condition does not hold
 abbrev pub after : World → Label → Option World
 after w (Load v) = option_and_then (loaded w v) (accepted v)
 after w (Start id key input) = started w id key input
+after w (Told e) = told w e
+after w (Reply a r) = replied w a r
 after w (Moment moment) = reached w moment
 after w (Step id strand) = if is_root strand then option_map (with_instances w) (stepped w.now id w.instances) else None
+
+-- how many tasks take the event that is told
+abbrev pub taken_by : World → Label → ℕ
+taken_by w (Told e) = takers e w.instances
+taken_by w l = 0

@@ -3,25 +3,29 @@ use Rattle.std.specs.Prelude.{◌≡◌, refl, ℕ, List}
 use Rattle.std.specs.Coded.{Coded, codes, coded_list, coded_ℕ}
 use base.Stored.{Gv, gnil, gnum, gcons}
 use mathlib.Core.Path.{ap}
-use Rattle.swf_value.specs.ValueCode.{value_code}
+use Rattle.swf_value.specs.ValueCode.{value_code, members_code}
+use Rattle.swf_cloudevents.specs.Codes.{event_code}
 use Rattle.swf_document.specs.Code.{head, tail}
 use Rattle.swf_document.specs.DocumentCode.{key_code, document_code}
 use Rattle.swf_document.specs.TaskCode.{task_code}
 use Rattle.swf_document.specs.declared.common.Flow.{Flow}
 use Rattle.swf_document.specs.declared.error.Problem.{Problem}
+use Rattle.swf_meaning.specs.declared.heard.Heard.{Heard}
 use Rattle.swf_meaning.specs.declared.label.Label.{Label}
-use Rattle.swf_meaning.specs.Keys.{Key}
-use Rattle.swf_meaning.specs.Node.{Node, Fresh, Live, Done, Fault, Inside, At, Later, Sleep, Round, Seq, Each, Try, Catch}
+use Rattle.swf_meaning.specs.Node.{Node, Fresh, Live, Done, Fault, Inside, At, Later, Sleep, Hear, Round, Seq, Each, Try, Catch}
 use Rattle.swf_meaning.specs.World.{Instance, Loaded, World}
 
 pub label_code : Coded Label
-label_code = hlevel (codes, value_code)
+label_code = hlevel (codes, value_code, members_code)
 
 pub flow_code : Coded Flow
 flow_code = hlevel codes
 
 pub problem_code : Coded Problem
 problem_code = hlevel codes
+
+pub heard_code : Coded Heard
+heard_code = hlevel (codes, event_code)
 
 abbrev number_in : Gv → ℕ
 number_in gnil = 0
@@ -52,6 +56,7 @@ abbrev mutual
   code_inside (At r i n) = gcons (gnum 0) (gcons (code_round r) (gcons (gnum i) (code_node n)))
   code_inside (Later n m) = gcons (gnum 1) (gcons (gnum n) (gnum m))
   code_inside (Sleep m) = gcons (gnum 2) (gnum m)
+  code_inside (Hear bound hs) = gcons (gnum 3) (gcons (members_code.code bound) ((coded_list heard_code).code hs))
 
 mutual
   pub code_node_inj : (x y : Node) → code_node x ≡ code_node y → x ≡ y
@@ -69,6 +74,7 @@ mutual
       λ h. At (code_round_inj r q (ap (λ g. head (tail g)) p) h) (ap (λ g. number_in (head (tail (tail g)))) p h) (code_node_inj n m (ap (λ g. tail (tail (tail g))) p) h)
   code_inside_inj (Later n m) (Later k l) p = λ h. Later (ap (λ g. number_in (head (tail g))) p h) (ap (λ g. number_in (tail (tail g))) p h)
   code_inside_inj (Sleep m) (Sleep l) p = ap (λ g. Sleep (number_in (tail g))) p
+  code_inside_inj (Hear a hs) (Hear b ks) p = λ h. Hear (members_code.inj a b (ap (λ g. head (tail g)) p) h) ((coded_list heard_code).inj hs ks (ap (λ g. tail (tail g)) p) h)
   code_inside_inj x y p = cc
 
 abbrev pub node_code : Coded Node
@@ -78,4 +84,4 @@ pub instance_code : Coded Instance
 instance_code = hlevel (codes, value_code, document_code, node_code)
 
 pub world_code : Coded World
-world_code = hlevel (codes, value_code, document_code, node_code)
+world_code = hlevel (codes, value_code, members_code, document_code, node_code)

@@ -1,6 +1,7 @@
 -- How a task ends: with its output and its context, or with an error (DSL, "Data flow", "Output" and "Export"; "Error").
 use Rattle.std.specs.Prelude.{ℕ, List, Option, Some, None, codes, if◌then◌else◌}
 use Rattle.swf_value.specs.Value.{Value}
+use Rattle.swf_cloudevents.specs.declared.event.Event.{Event}
 use Rattle.swf_document.specs.Errors.{standard}
 use Rattle.swf_document.specs.Task.{Task}
 use Rattle.swf_document.specs.Template.{Template}
@@ -14,14 +15,15 @@ use Rattle.swf_meaning.specs.Node.{Node, Done, Fault}
 use Rattle.swf_meaning.specs.Parts.{common_of, place_of}
 use Rattle.swf_meaning.specs.Sight.{Sight, within, behind}
 
--- what a step leads to: the node in place of the one that took it, and the context
+-- what a step leads to: the node in place of the one that took it, the context, and the event that goes out, where one does
 pub record Stepped : Type 0 where
   pub node : Node
   pub context : Value
+  pub emitted : Option Event
 
 -- the context stays
 abbrev pub becomes : Sight → Node → Stepped
-becomes s n = record { node = n; context = s.context }
+becomes s n = record { node = n; context = s.context; emitted = None }
 
 -- the task ends in a standard error at its place
 abbrev pub fails : Sight → Task → ErrorKind → List ℕ → Stepped
@@ -35,7 +37,7 @@ with_got s t gots.TooLarge f = fails s t kinds.Runtime (codes "value limit")
 with_got s t gots.Limit f = fails s t kinds.Runtime (codes "expression limit")
 
 abbrev pub finished : Value → Flow → Value → Stepped
-finished w f c = record { node = Done w f; context = c }
+finished w f c = record { node = Done w f; context = c; emitted = None }
 
 -- the transformed output w becomes the task's, and what `export.as` gives the context
 abbrev pub exported : Sight → Task → Value → Value → Flow → Value → Option Template → Stepped

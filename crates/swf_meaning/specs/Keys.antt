@@ -5,13 +5,10 @@ use Rattle.swf_value.specs.Value.{Value}
 use Rattle.swf_text.specs.Same.{same}
 use Rattle.swf_reader.specs.Reads.{document_of}
 use Rattle.swf_document.specs.declared.document.DocKey.{DocKey}
+use Rattle.swf_meaning.specs.declared.key.Key.{Key}
+use Rattle.swf_meaning.specs.declared.key.Key.TheVariants.{Document, Instance, Event, Activity, Moment}
 use Rattle.swf_meaning.specs.declared.label.Label.{Label}
-use Rattle.swf_meaning.specs.declared.label.Label.TheVariants.{Load, Start, Moment as AtMoment, Step}
-
-pub data Key : Type 0 where
-  Document : DocKey → Key
-  Instance : List ℕ → Key
-  Moment : ℕ → Key
+use Rattle.swf_meaning.specs.declared.label.Label.TheVariants.{Load, Start, Event as Told, Reply, Moment as AtMoment, Step}
 
 abbrev pub same_doc : DocKey → DocKey → Bool
 same_doc a b = same a.namespace b.namespace && same a.name b.name && same a.version b.version
@@ -19,6 +16,8 @@ same_doc a b = same a.namespace b.namespace && same a.name b.name && same a.vers
 abbrev pub same_key : Key → Key → Bool
 same_key (Document a) (Document b) = same_doc a b
 same_key (Instance a) (Instance b) = same a b
+same_key (Event s a) (Event t b) = same s t && same a b
+same_key (Activity a) (Activity b) = same a b
 same_key (Moment a) (Moment b) = a == b
 same_key a b = false
 
@@ -26,10 +25,13 @@ same_key a b = false
 abbrev pub doc_key : Value → DocKey
 doc_key v = (document_of v).key
 
--- a load's key is its document's, a start's its id, and a moment's the moment; a step has none
+-- a load's key is its document's, a start's its id, an event's its source and id, a reply's its activity, and a moment's the moment; a
+-- step has none
 abbrev pub key_of : Label → Option Key
 key_of (Load v) = Some (Document (doc_key v))
 key_of (Start id key input) = Some (Instance id)
+key_of (Told e) = Some (Event e.source e.id)
+key_of (Reply a r) = Some (Activity a)
 key_of (AtMoment moment) = Some (Moment moment)
 key_of (Step id strand) = None
 

@@ -1,9 +1,10 @@
 -- The tree that an instance is at a moment (DSL, "Concepts", "Workflow" and "Task").
 use Rattle.std.specs.Prelude.{ℕ, List}
-use Rattle.swf_value.specs.Value.{Value}
+use Rattle.swf_value.specs.Value.{Value, Members}
 use Rattle.swf_document.specs.Task.{Task}
 use Rattle.swf_document.specs.declared.common.Flow.{Flow}
 use Rattle.swf_document.specs.declared.error.Problem.{Problem}
+use Rattle.swf_meaning.specs.declared.heard.Heard.{Heard}
 
 -- for what a list of tasks is run: once; as the turn of a `for` over these items; as the attempt of a `try` after so many
 -- retries; or to handle an error that was caught
@@ -24,8 +25,9 @@ mutual
     Fault : Problem → Node
 
   -- what runs inside a task: a place in its list of tasks, and the node there; a `try` that waits until a moment to make that
-  -- retry; or a `wait` until a moment
+  -- retry; a `wait` until a moment; or a `listen`, with the values that names are bound to and what it heard
   pub data Inside : Type 0 where
     At : Round → ℕ → Node → Inside
     Later : ℕ → ℕ → Inside
     Sleep : ℕ → Inside
+    Hear : Members → List Heard → Inside

@@ -1,7 +1,7 @@
 -- Steps that need more of the world than the instance itself: that it may wait, or make an activity, an event or strands.
 use Rattle.std.specs.Prelude.{ℕ, zero, suc, Bool, true, false, is_some, Option, Some, None, option_map, if◌then◌else◌}
 use Rattle.swf_document.specs.Task.{Task, Kind, call, emit, fork, listen, run, try, wait}
-use Rattle.swf_meaning.specs.Node.{Node, Fresh, Live, Done, Fault, Inside, At, Later, Sleep, Round, Try}
+use Rattle.swf_meaning.specs.Node.{Node, Fresh, Live, Done, Fault, Inside, At, Later, Sleep, Hear, Round, Try}
 use Rattle.swf_meaning.specs.Local.{local}
 use Rattle.swf_meaning.specs.Parts.{kind_of}
 use Rattle.swf_meaning.specs.World.{Instance, sight, with_step}
@@ -34,6 +34,7 @@ abbrev mutual
   is_shared_inside t (At r i n) = is_shared n
   is_shared_inside t (Later n m) = false
   is_shared_inside t (Sleep m) = false
+  is_shared_inside t (Hear bound hs) = false
 
 -- one step that is not shared; none where the next one is, or there is none
 abbrev pub unshared : ℕ → Instance → Option Instance

@@ -2,7 +2,7 @@
 use Rattle.std.specs.Prelude.{ℕ, zero, Bool, false, nat_le, Option, Some, None, if◌then◌else◌}
 use Rattle.swf_value.specs.Value.{Value}
 use Rattle.swf_document.specs.Task.{Task}
-use Rattle.swf_meaning.specs.Node.{Node, Fresh, Live, Done, Fault, Inside, At, Later, Sleep, Try}
+use Rattle.swf_meaning.specs.Node.{Node, Fresh, Live, Done, Fault, Inside, At, Later, Sleep, Hear, Try}
 use Rattle.swf_meaning.specs.Sight.{Sight}
 use Rattle.swf_meaning.specs.Complete.{Stepped, complete}
 use Rattle.swf_meaning.specs.Lists.{comes_to}
@@ -31,6 +31,7 @@ abbrev mutual
   until_inside (At r i n) = until n
   until_inside (Later n m) = Some m
   until_inside (Sleep m) = Some m
+  until_inside (Hear bound hs) = None
 
 abbrev pub is_by : ℕ → Option ℕ → Bool
 is_by moment None = false

@@ -1,14 +1,15 @@
 -- The world at a moment: what was loaded, started, used and sent (DSL, "Runtime").
-use Rattle.std.specs.Prelude.{ℕ, List, [], ◌∷◌, Bool, true, false}
+use Rattle.std.specs.Prelude.{◌+◌, ℕ, List, [], ◌∷◌, Bool, true, false, Option, Some, None}
 use Rattle.swf_value.specs.Value.{Value, null}
+use Rattle.swf_cloudevents.specs.declared.event.Event.{Event}
 use Rattle.swf_document.specs.declared.document.Document.{Document}
 use Rattle.swf_meaning.specs.Node.{Node, Fresh}
-use Rattle.swf_meaning.specs.Keys.{Key}
+use Rattle.swf_meaning.specs.declared.key.Key.{Key}
 use Rattle.swf_meaning.specs.Sight.{Sight}
 use Rattle.swf_meaning.specs.Complete.{Stepped}
 use Rattle.swf_meaning.specs.Parts.{workflow}
 
--- an instance: its document, its raw input, when it started, its context, its tree, and the number of its next activity
+-- an instance: its document, its raw input, when it started, its context, its tree, and the number of its next event
 pub record Instance : Type 0 where
   pub id : List ℕ
   pub document : Document
@@ -30,7 +31,7 @@ pub record World : Type 0 where
   pub instances : List Instance
   pub keys : List (Key × ℕ)
   pub now : ℕ
-  pub outbox : List Value
+  pub outbox : List Event
   pub count : ℕ
 
 abbrev pub empty : World
@@ -38,14 +39,19 @@ empty = record { documents = []; instances = []; keys = []; now = 0; outbox = []
 
 -- what a step of an instance goes by at a moment
 abbrev pub sight : ℕ → Instance → Sight
-sight now i = record { document = i.document; id = i.id; started = i.started; input = i.input; context = i.context; now = now; around = [] }
+sight now i = record { document = i.document; id = i.id; started = i.started; input = i.input; context = i.context; number = i.number; now = now; around = [] }
 
 -- an instance that has just begun
 abbrev pub new_instance : List ℕ → Value → ℕ → Document → Instance
 new_instance id input now d = record { id = id; document = d; input = input; started = now; context = null; node = Fresh (workflow d) input; number = 0 }
 
+-- an event that goes out has a number
+abbrev pub number_after : ℕ → Option Event → ℕ
+number_after n None = n
+number_after n (Some e) = n + 1
+
 abbrev pub with_step : Instance → Stepped → Instance
-with_step i m = record i { node = m.node; context = m.context }
+with_step i m = record i { node = m.node; context = m.context; number = number_after i.number m.emitted }
 
 -- the strand outside every branch
 abbrev pub is_root : List ℕ → Bool
