@@ -1,3 +1,5 @@
 pub mod RuleLemmas
 pub mod RaiseLemmas
 pub mod AskLemmas
+pub mod ListenLemmas
+pub mod EmitLemmas

@@ -1,5 +1,6 @@
 pub mod Goals
 pub mod RaiseParts
+pub mod Sends
 pub mod Taken
 pub mod Asks
 pub mod Woken

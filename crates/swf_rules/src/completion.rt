@@ -54,6 +54,7 @@ pub fn finished(output: Json, flow: Flow, context: Json) -> Made
         frame: None,
         top: Top::Done { output, flow },
         context,
+        emitted: None,
     }
 }
 

@@ -2,7 +2,9 @@
 #![tactic(auto)]
 
 mod completion;
+mod emit;
 mod for_;
+mod listen;
 mod lists;
 mod next;
 mod raise;
@@ -11,7 +13,9 @@ mod try_;
 mod wait;
 
 pub use completion::{complete, input_of};
+pub use emit::emitting;
 pub use for_::looping;
+pub use listen::{heard, is_satisfied, listening, takes};
 pub use lists::comes_to;
 pub use next::{failed, moved_on};
 pub use raise::raising;

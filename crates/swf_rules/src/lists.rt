@@ -1,6 +1,7 @@
 // How a list of tasks runs (DSL 1.0.0, "Do" and "Flow directives"; reference, "For").
-ghost use Rattle.std.specs.Prelude.{◌≡◌};
+ghost use Rattle.std.specs.Prelude.{◌≡◌, if◌then◌else◌};
 ghost use Rattle.swf_meaning.specs.Lists.{comes_to, list_ended, turn, turn_guarded, turn_begins, guard_in};
+ghost use Rattle.swf_meaning.specs.Complete.{complete};
 ghost use Rattle.swf_meaning.specs.Parts.{kind_of};
 ghost use Rattle.swf_scene.specs.Halts.{Gives};
 ghost use Rattle.swf_scene.specs.Stack.{sight_of, round_of};
@@ -46,6 +47,7 @@ pub fn comes_to(
             raw: value,
         },
         context: scene.setting.context.copy()?,
+        emitted: None,
     })
 }
 
@@ -109,7 +111,32 @@ fn turn_guarded(
     };
     let vars = within(alloc, &scene.seen(alloc, task, &round)?, task, raw, input)?;
     let goes_on = value_of(alloc, task, first(alloc, condition, &vars, &value)?)?;
-    if is_true(&goes_on) {
+    turn_decided(
+        alloc,
+        scene,
+        task,
+        raw,
+        input,
+        round,
+        value,
+        is_true(&goes_on),
+    )
+}
+
+// A turn begins where `while` is true, and else the loop is complete.
+fn turn_decided(
+    alloc: Global,
+    scene: &Scene,
+    task: &TaskRef,
+    raw: &Json,
+    input: &Json,
+    round: Round,
+    value: Json,
+    goes_on: bool,
+) -> Result<Made, Halt>
+    ensures { Gives (sight_of scene.entry.now) (if goes_on then turn_begins (sight_of scene.entry.now) task.now raw.now input.now (round_of round) value else complete (sight_of scene.entry.now) task.now raw.now input.now value) result }
+{
+    if goes_on {
         turn_begins(scene, task, raw, input, round, value)
     } else {
         complete(alloc, scene, task, raw, input, value)
@@ -148,5 +175,6 @@ fn turn_begins(
         frame: Some(frame),
         top,
         context: scene.setting.context.copy()?,
+        emitted: None,
     })
 }

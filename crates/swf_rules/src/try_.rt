@@ -134,6 +134,7 @@ fn later(
             until,
         },
         context: scene.setting.context.copy()?,
+        emitted: None,
     })
 }
 

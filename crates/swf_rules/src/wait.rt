@@ -34,6 +34,7 @@ pub fn waiting(
             until,
         },
         context: scene.setting.context.copy()?,
+        emitted: None,
     })
 }
 

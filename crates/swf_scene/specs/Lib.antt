@@ -1,3 +1,4 @@
+pub mod Words
 pub mod Source
 pub mod TaskRef
 pub mod Stack

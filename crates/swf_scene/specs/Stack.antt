@@ -1,6 +1,6 @@
 -- The tree that a stack stands for.
 use Rattle.std.specs.Prelude.{ℕ, List, [], ◌∷◌, ◌++◌, Option, Some, None, option_to_list}
-use Rattle.swf_meaning.specs.Node.{Node, Fresh, Live, Done, Fault, Inside, At, Later, Sleep, Round, Seq, Each, Try, Catch}
+use Rattle.swf_meaning.specs.Node.{Node, Fresh, Live, Done, Fault, Inside, At, Later, Sleep, Hear, Round, Seq, Each, Try, Catch}
 use Rattle.swf_jq_eval.specs.declared.vars.Variable.{Variable}
 use Rattle.swf_meaning.specs.Around.{seen, round_variables}
 use Rattle.swf_meaning.specs.Parts.{kind_of}
@@ -32,6 +32,7 @@ top_node (tops.Fresh t v) = Fresh t v
 top_node (tops.Done w f) = Done w f
 top_node (tops.Fault p) = Fault p
 top_node (tops.Waiting t v u n until) = Live t v u (waiting n until)
+top_node (tops.Hearing t v u bound hs) = Live t v u (Hear bound hs)
 
 -- a node inside running tasks, of which the first is outermost
 abbrev pub plug : List Frame → Node → Node
@@ -39,11 +40,11 @@ plug [] n = n
 plug (f ∷ fs) n = Live f.task f.raw f.input (At (round_of f.round) f.place (plug fs n))
 
 abbrev pub stepped_of : Made → Stepped
-stepped_of m = record { node = plug (option_to_list m.frame) (top_node m.top); context = m.context }
+stepped_of m = record { node = plug (option_to_list m.frame) (top_node m.top); context = m.context; emitted = m.emitted }
 
 -- what a step goes by outside every task
 abbrev pub setting_sight : Setting → ℕ → Sight
-setting_sight s now = record { document = s.document; id = s.id; started = s.started; input = s.input; context = s.context; now = now; around = [] }
+setting_sight s now = record { document = s.document; id = s.id; started = s.started; input = s.input; context = s.context; number = s.number; now = now; around = [] }
 
 abbrev pub sight_of : Scene → Sight
 sight_of s = record (setting_sight s.setting.now s.now) { around = s.around.items }
@@ -58,9 +59,9 @@ seen_in s [] = s
 seen_in s (f ∷ fs) = seen_in (seen s f.task (round_of f.round)) fs
 
 -- the instance that a setting and a stack stand for
-abbrev pub instance_of : Setting → List Frame → Top → ℕ → Instance
-instance_of s fs t n =
-    record { id = s.id; document = s.document; input = s.input; started = s.started; context = s.context; node = plug fs (top_node t); number = n }
+abbrev pub instance_of : Setting → List Frame → Top → Instance
+instance_of s fs t =
+    record { id = s.id; document = s.document; input = s.input; started = s.started; context = s.context; node = plug fs (top_node t); number = s.number }
 
 -- the variables of these running tasks, those of the innermost last
 abbrev pub variables_in : List Frame → List Variable

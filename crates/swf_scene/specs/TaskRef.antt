@@ -26,16 +26,16 @@ catch_of s = record { errors = s.errors; name = s.name; cond = s.cond; except = 
 -- a kind of task that is not built
 abbrev pub IsOther : Kind → Type 0
 IsOther (call c) = Unit {0}
-IsOther (emit t) = Unit {0}
 IsOther (fork c ts) = Unit {0}
-IsOther (listen s) = Unit {0}
 IsOther (run s) = Unit {0}
 IsOther k = ⊥
 
 -- what a task of this kind does
 abbrev pub work_kind : Work → Kind → Type 0
 work_kind (works.Do ts) k = k ≡ do_all ts.now
+work_kind (works.Emit t) k = k ≡ emit t.now
 work_kind (works.For s) k = k ≡ for (loop_of s.now) s.now.tasks
+work_kind (works.Listen l) k = k ≡ listen l.now
 work_kind (works.Raise r) k = k ≡ raise r.now
 work_kind (works.Set t) k = k ≡ set t.now
 work_kind (works.Switch cs) k = k ≡ switch cs.now

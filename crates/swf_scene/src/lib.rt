@@ -6,9 +6,11 @@ mod made;
 mod scene;
 mod sight;
 mod task;
+mod words;
 
 pub use halt::{Halt, fails, value_of};
 pub use made::{Frame, Layer, Made, Round, Top, Turn};
-pub use scene::{Scene, Setting};
+pub use scene::{Scene, Setting, Site};
 pub use sight::{before, behind, catching, retrying, within};
 pub use task::{TaskRef, Work};
+pub use words::Words;

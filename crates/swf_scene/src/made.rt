@@ -3,8 +3,10 @@ ghost use Rattle.std.specs.Prelude.{◌≡◌, ◌<◌, ◌-◌, ◌^◌, IfOk};
 
 use crate::task::TaskRef;
 use std::alloc::{AllocError, Global};
-use swf_document::{Flow, Problem};
+use swf_cloudevents::{Event, NamedValues};
+use swf_document::{Flow, Listing, Problem};
 use swf_frames::CopyFrame;
+use swf_meaning::Heard;
 use swf_value::{Json, JsonList};
 
 /// A turn of a `for` over some items.
@@ -58,6 +60,14 @@ pub enum Top {
         retries: Option<u64>,
         until: u64,
     },
+    /// A `listen`, with the values that names are bound to and what it heard.
+    Hearing {
+        task: TaskRef,
+        raw: Json,
+        input: Json,
+        bound: NamedValues,
+        heard: Listing<Heard>,
+    },
 }
 
 /// What a strand holds: the tasks that run, the outermost first, and at the top what stands innermost.
@@ -67,12 +77,14 @@ pub enum Layer {
     Top(Top),
 }
 
-/// What a step makes of the task that takes it: the task with what runs in it, or what it ended in; and the context.
+/// What a step makes of the task that takes it: the task with what runs in it, or what it ended in; the context; and the event
+/// that goes out, where one does.
 #[derive(Drop)]
 pub struct Made {
     pub frame: Option<Frame>,
     pub top: Top,
     pub context: Json,
+    pub emitted: Option<Event>,
 }
 
 impl Round {
@@ -134,6 +146,19 @@ impl Top {
                 input: input.copy()?,
                 retries: *retries,
                 until: *until,
+            }),
+            Top::Hearing {
+                task,
+                raw,
+                input,
+                bound,
+                heard,
+            } => Ok(Top::Hearing {
+                task: task.copy()?,
+                raw: raw.copy()?,
+                input: input.copy()?,
+                bound: bound.copy()?,
+                heard: heard.copy()?,
             }),
         }
     }

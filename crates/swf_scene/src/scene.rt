@@ -8,6 +8,7 @@ ghost use Rattle.swf_scene.specs.Stack.{sight_of, setting_sight, seen_in, round_
 use crate::made::{Layer, Round};
 use crate::sight::{copy_variables, push_seen};
 use crate::task::TaskRef;
+use crate::words::Words;
 use std::alloc::{AllocError, Global};
 use swf_duration::Moment;
 use swf_jq_eval::Variable;
@@ -15,7 +16,7 @@ use swf_text::Text;
 use swf_validate::Accepted;
 use swf_value::Json;
 
-/// An instance's document, its id, when it started, the raw input of its workflow, and its context.
+/// An instance's document, its id, when it started, the raw input of its workflow, its context, and the number of its next event.
 #[derive(Drop)]
 pub struct Setting {
     pub document: Accepted,
@@ -23,12 +24,22 @@ pub struct Setting {
     pub started: Moment,
     pub input: Json,
     pub context: Json,
+    pub number: u64,
 }
 
-/// What a step goes by: the instance's setting, the moment, and the variables around the task that takes it.
+/// What a step goes by besides the instance: the moment; and the names that variables need.
+#[derive(Clone, Copy)]
+pub struct Site<'a> {
+    pub now: Moment,
+    pub words: &'a Words,
+}
+
+/// What a step goes by: the instance's setting, the moment, the variables around the task that takes it, and the names that
+/// variables need.
 #[derive(Drop)]
 pub struct Scene<'a> {
     pub setting: &'a Setting,
+    pub words: &'a Words,
     pub now: Moment,
     pub around: Vec<Variable>,
 }
@@ -44,6 +55,7 @@ impl Setting {
             started: self.started,
             input: self.input.copy()?,
             context: self.context.copy()?,
+            number: self.number,
         })
     }
 }
@@ -53,6 +65,7 @@ impl<'a> Scene<'a> {
     pub fn inside(
         alloc: Global,
         setting: &'a Setting,
+        words: &'a Words,
         now: Moment,
         layers: &[Layer],
     ) -> Result<Scene<'a>, AllocError>
@@ -66,6 +79,7 @@ impl<'a> Scene<'a> {
         }
         Ok(Scene {
             setting,
+            words,
             now,
             around,
         })
@@ -84,6 +98,7 @@ impl<'a> Scene<'a> {
         push_seen(alloc, &mut around, task, round)?;
         Ok(Scene {
             setting: self.setting,
+            words: self.words,
             now: self.now,
             around,
         })
@@ -95,6 +110,7 @@ impl<'a> Scene<'a> {
     {
         Scene {
             setting: self.setting,
+            words: self.words,
             now: self.now,
             around: Vec::new(alloc),
         }

@@ -12,19 +12,22 @@ ghost use Rattle.swf_scene.specs.TaskRef.{loop_variables};
 use crate::made::{Round, Turn};
 use crate::scene::Scene;
 use crate::task::{TaskRef, Work};
+use crate::words::Words;
 use std::alloc::{AllocError, Global};
 use swf_document::{ForSpec, Problem, problem_value};
 use swf_duration::Moment;
 use swf_jq_eval::{Variable, Vars};
 use swf_text::{Place, Text, pointer_text, word};
-use swf_value::{Json, member};
+use swf_value::{Json, Member};
 
-// A variable whose name is an ASCII word.
-fn variable(alloc: Global, name: &str, value: Json) -> Result<Variable, AllocError>
-    requires { IsTrue (is_ascii name.now) }
+/// Room for as many variables as most expressions see.
+const MOST_OFTEN: usize = 8;
+
+// A variable whose name is shared.
+fn variable(name: &Text, value: Json) -> Result<Variable, AllocError>
     ensures { IfOk result (λ x. x ≡ variable name.now value) }
 {
-    let name = word(alloc, name)?;
+    let name = name.copy()?;
     Ok(Variable { name, value })
 }
 
@@ -106,19 +109,24 @@ pub fn push_seen(
     }
 }
 
+// A member whose name is shared.
+fn named(name: &Text, value: Json) -> Result<Member, AllocError>
+    ensures { IfOk result (λ m. m ≡ record { name = name.now; value = value }) }
+{
+    let name = name.copy()?;
+    Ok(Member { name, value })
+}
+
 // A moment as an object.
-fn epoch(alloc: Global, moment: Moment) -> Result<Json, AllocError>
+fn epoch(alloc: Global, words: &Words, moment: Moment) -> Result<Json, AllocError>
     ensures { IfOk result (λ v. v ≡ epoch moment) }
 {
     let mut inner = Vec::new(alloc);
-    inner.push(member(
-        alloc,
-        "milliseconds",
-        Json::int(moment.milliseconds() as i64),
-    )?)?;
+    let number = Json::int(moment.milliseconds() as i64);
+    inner.push(named(words.milliseconds(), number)?)?;
     let inner = Json::object(alloc, inner)?;
     let mut members = Vec::new(alloc);
-    members.push(member(alloc, "epoch", inner)?)?;
+    members.push(named(words.epoch(), inner)?)?;
     Json::object(alloc, members)
 }
 
@@ -126,10 +134,12 @@ fn epoch(alloc: Global, moment: Moment) -> Result<Json, AllocError>
 fn workflow_value(alloc: Global, scene: &Scene) -> Result<Json, AllocError>
     ensures { IfOk result (λ v. v ≡ workflow_value (sight_of scene.entry.now)) }
 {
+    let words = scene.words;
+    let setting = scene.setting;
     let mut members = Vec::new(alloc);
-    members.push(member(alloc, "id", Json::text(scene.setting.id.copy()?))?)?;
-    members.push(member(alloc, "input", scene.setting.input.copy()?)?)?;
-    members.push(member(alloc, "startedAt", epoch(alloc, scene.setting.started)?)?)?;
+    members.push(named(words.id(), Json::text(setting.id.copy()?))?)?;
+    members.push(named(words.input(), setting.input.copy()?)?)?;
+    members.push(named(words.started_at(), epoch(alloc, words, setting.started)?)?)?;
     Json::object(alloc, members)
 }
 
@@ -145,22 +155,22 @@ fn name_at(alloc: Global, place: &Place) -> Result<Text, AllocError>
 }
 
 // `$task`.
-fn task_value(alloc: Global, task: &TaskRef, raw: &Json) -> Result<Json, AllocError>
+fn task_value(alloc: Global, words: &Words, task: &TaskRef, raw: &Json) -> Result<Json, AllocError>
     ensures { IfOk result (λ v. v ≡ task_value task.now raw.now) }
 {
     let place = task.place(alloc)?;
     let mut members = Vec::new(alloc);
-    members.push(member(alloc, "input", raw.copy()?)?)?;
-    members.push(member(alloc, "name", Json::text(name_at(alloc, &place)?))?)?;
-    members.push(member(alloc, "reference", Json::text(pointer_text(alloc, &place)?))?)?;
+    members.push(named(words.input(), raw.copy()?)?)?;
+    members.push(named(words.name(), Json::text(name_at(alloc, &place)?))?)?;
+    members.push(named(words.reference(), Json::text(pointer_text(alloc, &place)?))?)?;
     Json::object(alloc, members)
 }
 
 fn of_workflow(alloc: Global, scene: &Scene) -> Result<Vec<Variable>, AllocError>
     ensures { IfOk result (λ xs. xs.items ≡ of_workflow (sight_of scene.entry.now)) }
 {
-    let mut variables = Vec::new(alloc);
-    variables.push(variable(alloc, "workflow", workflow_value(alloc, scene)?)?)?;
+    let mut variables = Vec::with_capacity(alloc, MOST_OFTEN)?;
+    variables.push(variable(scene.words.workflow(), workflow_value(alloc, scene)?)?)?;
     Ok(variables)
 }
 
@@ -168,7 +178,7 @@ fn with_context(alloc: Global, scene: &Scene) -> Result<Vec<Variable>, AllocErro
     ensures { IfOk result (λ xs. xs.items ≡ with_context (sight_of scene.entry.now)) }
 {
     let mut variables = of_workflow(alloc, scene)?;
-    variables.push(variable(alloc, "context", scene.setting.context.copy()?)?)?;
+    variables.push(variable(scene.words.context(), scene.setting.context.copy()?)?)?;
     Ok(variables)
 }
 
@@ -180,8 +190,9 @@ fn of_task(
 ) -> Result<Vec<Variable>, AllocError>
     ensures { IfOk result (λ xs. xs.items ≡ of_task (sight_of scene.entry.now) task.now raw.now) }
 {
+    let words = scene.words;
     let mut variables = with_context(alloc, scene)?;
-    variables.push(variable(alloc, "task", task_value(alloc, task, raw)?)?)?;
+    variables.push(variable(words.task(), task_value(alloc, words, task, raw)?)?)?;
     push_variables(&mut variables, &scene.around)?;
     Ok(variables)
 }
@@ -224,7 +235,7 @@ fn inside(
     ensures { IfOk result (λ xs. xs.items ≡ within (sight_of scene.entry.now) task.now raw.now input.now) }
 {
     let mut variables = around(alloc, scene, task, raw)?;
-    variables.push(variable(alloc, "input", input.copy()?)?)?;
+    variables.push(variable(scene.words.input(), input.copy()?)?)?;
     Ok(variables)
 }
 
@@ -253,7 +264,7 @@ pub fn behind(
     ensures { IfOk result (λ r. r ≡ behind (sight_of scene.entry.now) task.now raw.now input.now output.now) }
 {
     let mut variables = inside(alloc, scene, task, raw, input)?;
-    variables.push(variable(alloc, "output", output.copy()?)?)?;
+    variables.push(variable(scene.words.output(), output.copy()?)?)?;
     Ok(Vars::of(variables))
 }
 
@@ -284,6 +295,7 @@ pub fn retrying(
 {
     let scene = scene.alone(alloc);
     let mut variables = of_task(alloc, &scene, task, raw)?;
-    variables.push(variable(alloc, "error", problem_value(alloc, problem)?)?)?;
+    let name = word(alloc, "error")?;
+    variables.push(variable(&name, problem_value(alloc, problem)?)?)?;
     Ok(Vars::of(variables))
 }

@@ -13,7 +13,8 @@ use crate::made::Round;
 use std::alloc::{AllocError, Global};
 use std::marker::Model;
 use swf_document::{
-    Case, Document, ErrorRef, Flow, ForSpec, Kind, Listing, Named, Task, Tasks, Template, TrySpec,
+    Case, Document, ErrorRef, Flow, ForSpec, Kind, ListenSpec, Listing, Named, Task, Tasks,
+    Template, TrySpec,
 };
 use swf_expr::Expr;
 use swf_text::Place;
@@ -42,7 +43,9 @@ pub enum Parts<'a> {
 #[derive(Drop)]
 pub enum Work<'a> {
     Do(&'a Tasks),
+    Emit(&'a Template),
     For(&'a ForSpec),
+    Listen(&'a ListenSpec),
     Raise(&'a ErrorRef),
     Set(&'a Template),
     Switch(&'a Listing<Case>),
@@ -177,7 +180,9 @@ impl TaskRef {
             Parts::Workflow(document) => Work::Do(&document.tasks),
             Parts::Listed(task) => match &task.kind {
                 Kind::Do(tasks) => Work::Do(tasks),
+                Kind::Emit(template) => Work::Emit(template),
                 Kind::For(spec) => Work::For(spec),
+                Kind::Listen(spec) => Work::Listen(spec),
                 Kind::Raise(reference) => Work::Raise(reference),
                 Kind::Set(template) => Work::Set(template),
                 Kind::Switch(cases) => Work::Switch(cases),

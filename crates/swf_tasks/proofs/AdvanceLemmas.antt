@@ -5,16 +5,26 @@ use Rattle.std.specs.Prelude.{◌==◌, if◌then◌else◌, option_map, Result,
 use Rattle.swf_meaning.specs.Complete.{Stepped, complete}
 use Rattle.swf_meaning.specs.Lists.{comes_to}
 use Rattle.swf_meaning.specs.Local.{local, local_inside, put_back, is_enabled, is_enabled_inside}
-use Rattle.swf_meaning.specs.Node.{Node, Fresh, Live, Done, Fault, Inside, At, Later, Sleep, Round, Try}
+use Rattle.swf_meaning.specs.Node.{Node, Fresh, Live, Done, Fault, Inside, At, Later, Sleep, Hear, Round, Try}
 use Rattle.swf_meaning.specs.Shared.{is_shared, unshared, after_one, advanced}
 use Rattle.swf_meaning.specs.Sight.{Sight}
 use Rattle.swf_meaning.specs.Around.{seen}
 use Rattle.swf_meaning.specs.World.{Instance, sight, with_step, is_root}
-use Rattle.swf_document.specs.Task.{Task}
+use Rattle.swf_cloudevents.specs.declared.event.Event.{Event}
+use Rattle.swf_document.specs.Task.{Task, Kind, listen}
+use Rattle.swf_meaning.specs.Listen.{is_heard_in, heard_in, events_of}
+use Rattle.swf_meaning.specs.Parts.{kind_of}
+use Rattle.swf_meaning.specs.declared.heard.Heard.{Heard}
+use Rattle.swf_tasks.specs.Taken.{taken}
 use Rattle.swf_value.specs.Value.{Value}
 
 none_back : (t : Task) (v u : Value) (r : Round) (i : ℕ) (o : Option Stepped) → o ≡ None → put_back t v u r i o ≡ None
 none_back t v u r i o e = ap (put_back t v u r i) e
+
+-- a task that has not heard all takes none
+unheard : (s : Sight) (t : Task) (v u : Value) (hs : List Heard) (k : Kind) → is_heard_in k hs ≡ false → heard_in s t v u hs k ≡ None
+unheard s t v u hs (listen l) e = ap (λ b. if b then Some (complete s t v u (events_of l hs)) else None) e
+unheard s t v u hs k e = refl
 
 -- what is not enabled takes no step
 mutual
@@ -24,13 +34,14 @@ mutual
   no_step s (Done w f) e = refl
   no_step s (Fault p) e = refl
 
-  no_step_inside : (s : Sight) (t : Task) (v u : Value) (k : Inside) → is_enabled_inside s.now k ≡ false → local_inside s t v u k ≡ None
+  no_step_inside : (s : Sight) (t : Task) (v u : Value) (k : Inside) → is_enabled_inside s.now t k ≡ false → local_inside s t v u k ≡ None
   no_step_inside s t v u (At r i (Fresh a b)) e = cc
   no_step_inside s t v u (At r i (Live a b c k)) e = none_back t v u r i (local (seen s t r) (Live a b c k)) (no_step_inside (seen s t r) a b c k e)
   no_step_inside s t v u (At r i (Done w f)) e = cc
   no_step_inside s t v u (At r i (Fault p)) e = cc
   no_step_inside s t v u (Later n until) e = ap (λ b. if b then Some (comes_to s t v u (Try n) zero u) else None) e
   no_step_inside s t v u (Sleep until) e = ap (λ b. if b then Some (complete s t v u u) else None) e
+  no_step_inside s t v u (Hear bound hs) e = unheard s t v u hs (kind_of t) e
 
 -- where no step is taken, none is more
 pub stands_still : (now n : ℕ) (i : Instance) → unshared now i ≡ None → advanced now n i ≡ (i, 0)
@@ -44,8 +55,12 @@ pub still_none : (now : ℕ) (i : Instance) → is_shared i.node ≡ false → i
 still_none now i e h =
     ap (λ b. if b then None else option_map (with_step i) (local (sight now i) i.node)) e ∙ ap (option_map (with_step i)) (no_step (sight now i) i.node h)
 
-pub step_some : (now : ℕ) (i j : Instance) → is_shared i.node ≡ false → option_map (with_step i) (local (sight now i) i.node) ≡ Some j → unshared now i ≡ Some j
-step_some now i j e h = ap (λ b. if b then None else option_map (with_step i) (local (sight now i) i.node)) e ∙ h
+taken_some : (i j : Instance) (x : Option Event) (o : Option Stepped) → option_map (taken i) o ≡ Some (j, x) → option_map (with_step i) o ≡ Some j
+taken_some i j x None h = cc
+taken_some i j x (Some m) h = ap (λ (r : Option (Instance × Option Event)). option_map (λ (p : Instance × Option Event). p.0) r) h
+
+pub step_some : (now : ℕ) (i j : Instance) (x : Option Event) → is_shared i.node ≡ false → option_map (taken i) (local (sight now i) i.node) ≡ Some (j, x) → unshared now i ≡ Some j
+step_some now i j x e h = ap (λ b. if b then None else option_map (with_step i) (local (sight now i) i.node)) e ∙ taken_some i j x (local (sight now i) i.node) h
 
 -- with so many steps taken before
 abbrev pub behind : ℕ → Instance × ℕ → Instance × ℕ

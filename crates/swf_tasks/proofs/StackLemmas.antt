@@ -3,25 +3,30 @@ use Rattle.std.proofs.Common.{◌≡◌, ℕ, ◌+◌, ◌-◌, Bool, true, fals
 use Rattle.std.proofs.Math.Dec.{eqb-suc-zero}
 use Rattle.std.proofs.Math.Seq.{get_or-append_seam, take-append_seam}
 use Rattle.std.specs.Prelude.{◌==◌, nat_le, if◌then◌else◌, not, Result, IfOk, option_map, option_to_list}
-use Rattle.swf_value.specs.Value.{Value}
-use Rattle.swf_document.specs.Task.{Task}
+use Rattle.swf_value.specs.Value.{Value, Members}
+use Rattle.swf_document.specs.Task.{Task, Kind, listen}
 use Rattle.swf_document.specs.declared.common.Flow.{Flow}
 use Rattle.swf_document.specs.declared.error.Problem.{Problem}
-use Rattle.swf_meaning.specs.Complete.{Stepped}
+use Rattle.swf_meaning.specs.Complete.{Stepped, complete}
 use Rattle.swf_meaning.specs.Enter.{enter}
 use Rattle.swf_meaning.specs.Around.{seen}
+use Rattle.swf_cloudevents.specs.declared.event.Event.{Event}
+use Rattle.swf_meaning.specs.Listen.{is_heard, is_heard_in, heard, heard_in, is_satisfied, events_of}
 use Rattle.swf_meaning.specs.Local.{local, put_back, is_enabled, is_enabled_inside, moved_on, failed}
-use Rattle.swf_meaning.specs.Node.{Node, Fresh, Live, Done, Fault, Inside, At, Round}
+use Rattle.swf_meaning.specs.Node.{Node, Fresh, Live, Done, Fault, Inside, At, Hear, Round}
+use Rattle.swf_meaning.specs.Offer.{offered, offered_inside}
+use Rattle.swf_meaning.specs.declared.heard.Heard.{Heard}
 use Rattle.swf_meaning.specs.Wake.{until}
 use Rattle.swf_meaning.specs.Parts.{kind_of}
 use Rattle.swf_meaning.specs.Shared.{is_shared, is_shared_inside, is_shared_kind, is_shared_error}
 use Rattle.swf_meaning.specs.Sight.{Sight}
-use Rattle.swf_meaning.specs.World.{Instance, sight, with_step}
+use Rattle.swf_meaning.specs.World.{Instance, sight, number_after}
 use Rattle.swf_scene.specs.Halts.{Gives}
 use Rattle.swf_scene.specs.declared.halt.Halt.{Halt}
 use Rattle.swf_scene.specs.Stack.{plug, top_node, stepped_of, round_of, seen_in, waiting}
 use Rattle.swf_rules.specs.Woken.{woken_to}
 use Rattle.swf_tasks.specs.Installed.{output_in, problem_in, put_in, IsStep, AreAround}
+use Rattle.swf_tasks.specs.Taken.{taken, IsListened, IsOffered}
 use Rattle.swf_scene.specs.declared.made.Frame.{Frame}
 use Rattle.swf_scene.specs.declared.made.Made.{Made}
 use Rattle.swf_scene.specs.declared.made.Top.{Top}
@@ -43,7 +48,7 @@ is_enabled-plug now [] n p = p
 is_enabled-plug now (f ∷ fs) n p = enabled-inside now f.task f.raw f.input (round_of f.round) f.place (plug fs n) (is_enabled-plug now fs n p)
 
 -- a task that runs is enabled where what runs inside it is
-pub is_enabled-live : (now : ℕ) (fs : List Frame) (t : Task) (v u : Value) (k : Inside) → is_enabled now (plug fs (Live t v u k)) ≡ is_enabled_inside now k
+pub is_enabled-live : (now : ℕ) (fs : List Frame) (t : Task) (v u : Value) (k : Inside) → is_enabled now (plug fs (Live t v u k)) ≡ is_enabled_inside now t k
 is_enabled-live now [] t v u k = refl
 is_enabled-live now (f ∷ []) t v u k = refl
 is_enabled-live now (f ∷ g ∷ gs) t v u k = is_enabled-live now (g ∷ gs) t v u k
@@ -91,7 +96,7 @@ woken : (s : Sight) (t : Task) (v u : Value) (n : Option ℕ) (m : ℕ) → nat_
 woken s t v u None m h = ap (λ b. if b then Some (woken_to s t v u None) else None) h
 woken s t v u (Some n) m h = ap (λ b. if b then Some (woken_to s t v u (Some n)) else None) h
 
-enabled-waiting : (now : ℕ) (t : Task) (v u : Value) (n : Option ℕ) (m : ℕ) → is_enabled_inside now (waiting n m) ≡ nat_le m now
+enabled-waiting : (now : ℕ) (t : Task) (v u : Value) (n : Option ℕ) (m : ℕ) → is_enabled_inside now t (waiting n m) ≡ nat_le m now
 enabled-waiting now t v u None m = refl
 enabled-waiting now t v u (Some n) m = refl
 
@@ -105,6 +110,23 @@ IsStep-waiting s fs t v u n until m due e os h =
     subst (λ gs. local s (plug gs (Live t v u (waiting n until))) ≡ Some (put_in os m)) (sym h)
     (local-plug s.now s os (Live t v u (waiting n until)) m (is_enabled-waiting s.now t v u n until ∙ due)
     (woken (seen_in s os) t v u n until now ∙ ap Some (sym (e ∙ ap (λ gs. woken_to (seen_in s gs) t v u n) h))))
+
+-- Wake, of the top that listens
+pub enabled-hearing : (now : ℕ) (fs : List Frame) (t : Top) (r : Task) (v u : Value) (bound : Members) (hs : List Heard) → t ≡ tops.Hearing r v u bound hs → is_heard r hs ≡ is_enabled now (plug fs (top_node t))
+enabled-hearing now fs t r v u bound hs e = sym (ap (λ x. is_enabled now (plug fs (top_node x))) e ∙ is_enabled-live now fs r v u (Hear bound hs))
+
+-- a task that heard all takes a step
+heard_some : (s : Sight) (t : Task) (v u : Value) (hs : List Heard) → is_heard t hs ≡ true → (m : Stepped) × (heard s t v u hs ≡ Some m)
+heard_some s t v u hs e = by (kind_of t) e
+  where
+    by : (k : Kind) → is_heard_in k hs ≡ true → (m : Stepped) × (heard_in s t v u hs k ≡ Some m)
+    by (listen l) e = (complete s t v u (events_of l hs), ap (λ b. if b then Some (complete s t v u (events_of l hs)) else None) e)
+    by k e = cc
+
+pub IsStep-hearing : (s : Sight) (fs : List Frame) (t : Task) (v u : Value) (bound : Members) (hs : List Heard) (m : Stepped) → is_heard t hs ≡ true → heard (seen_in s fs) t v u hs ≡ Some m → IsStep s fs (tops.Hearing t v u bound hs) m
+IsStep-hearing s fs t v u bound hs m due e os h =
+    subst (λ gs. local s (plug gs (Live t v u (Hear bound hs))) ≡ Some (put_in os m)) (sym h)
+    (local-plug s.now s os (Live t v u (Hear bound hs)) m due (ap (λ gs. heard (seen_in s gs) t v u hs) (sym h) ∙ e))
 
 -- a step of the last task
 last-step : (s : Sight) (fs os : List Frame) (f : Frame) (n : Node) (m : Stepped) → fs ≡ os ++ f ∷ [] → is_enabled 0 (Live f.task f.raw f.input (At (round_of f.round) f.place n)) ≡ true → local (seen_in s os) (Live f.task f.raw f.input (At (round_of f.round) f.place n)) ≡ Some m → local s (plug fs n) ≡ Some (put_in os m)
@@ -127,19 +149,20 @@ split-last f (g ∷ fs) = let r = split-last g fs in (f ∷ r.0, (r.1.0, ap (λ 
 pub around : (now : ℕ) (fs : List Frame) (t : Top) → is_enabled now (plug fs (top_node t)) ≡ true → (os : List Frame) × AreAround fs t os
 around now fs (tops.Fresh t v) p = (fs, refl)
 around now fs (tops.Waiting t v u n m) p = (fs, refl)
+around now fs (tops.Hearing t v u bound hs) p = (fs, refl)
 around now [] (tops.Done w g) p = cc
 around now (f ∷ fs) (tops.Done w g) p = split-last f fs
 around now [] (tops.Fault q) p = cc
 around now (f ∷ fs) (tops.Fault q) p = split-last f fs
 
 -- an instance after its step
-pub stepped : (now : ℕ) (i : Instance) (fs : List Frame) (t : Top) (m : Made) → i.node ≡ plug fs (top_node t) → is_enabled now i.node ≡ true → IsStep (sight now i) fs t (stepped_of m) → (os : List Frame) × (AreAround fs t os × (option_map (with_step i) (local (sight now i) i.node) ≡ Some (record i { node = plug (os ++ option_to_list m.frame) (top_node m.top); context = m.context })))
+pub stepped : (now : ℕ) (i : Instance) (fs : List Frame) (t : Top) (m : Made) → i.node ≡ plug fs (top_node t) → is_enabled now i.node ≡ true → IsStep (sight now i) fs t (stepped_of m) → (os : List Frame) × (AreAround fs t os × (option_map (taken i) (local (sight now i) i.node) ≡ Some (record i { node = plug (os ++ option_to_list m.frame) (top_node m.top); context = m.context; number = number_after i.number m.emitted }, m.emitted)))
 stepped now i fs t m n p step =
     let a = around now fs t (subst (λ x. is_enabled now x ≡ true) n p) in (
       a.0,
       (
         a.1,
-        ap (λ x. option_map (with_step i) (local (sight now i) x)) n ∙ (ap (option_map (with_step i)) (step a.0 a.1) ∙ ap (λ x. Some (record i { node = x; context = m.context })) (sym (plug-append a.0 (option_to_list m.frame) (top_node m.top)))),
+        ap (λ x. option_map (taken i) (local (sight now i) x)) n ∙ (ap (option_map (taken i)) (step a.0 a.1) ∙ ap (λ x. Some (record i { node = x; context = m.context; number = number_after i.number m.emitted }, m.emitted)) (sym (plug-append a.0 (option_to_list m.frame) (top_node m.top)))),
       ),
     )
 
@@ -200,6 +223,7 @@ waits-not fs (tops.Fresh r v) p = sym (until-plug fs (Fresh r v))
 waits-not fs (tops.Done w g) p = sym (until-plug fs (Done w g))
 waits-not fs (tops.Fault q) p = sym (until-plug fs (Fault q))
 waits-not fs (tops.Waiting r v u n m) p = absurd (p r v u n m refl)
+waits-not fs (tops.Hearing r v u bound hs) p = sym (until-plug fs (Live r v u (Hear bound hs)))
 
 -- what no task stands around tells what it ended in, and what stands inside a task tells nothing
 pub output-none : (fs : List Frame) (t : Top) → ((w : Value) (g : Flow) → t ≡ tops.Done w g → ⊥) → None ≡ output_in (plug fs (top_node t))
@@ -207,6 +231,7 @@ output-none [] (tops.Fresh r v) p = refl
 output-none [] (tops.Done w g) p = absurd (p w g refl)
 output-none [] (tops.Fault q) p = refl
 output-none [] (tops.Waiting r v u n m) p = refl
+output-none [] (tops.Hearing r v u bound hs) p = refl
 output-none (f ∷ fs) t p = refl
 
 pub output-around : (fs : List Frame) (t : Top) (n : ℕ) (b : Bool) → n ≡ length fs → b ≡ (n == 0) → b ≡ false → None ≡ output_in (plug fs (top_node t))
@@ -218,6 +243,7 @@ problem-none [] (tops.Fresh r v) p = refl
 problem-none [] (tops.Done w g) p = refl
 problem-none [] (tops.Fault q) p = absurd (p q refl)
 problem-none [] (tops.Waiting r v u n m) p = refl
+problem-none [] (tops.Hearing r v u bound hs) p = refl
 problem-none (f ∷ fs) t p = refl
 
 pub problem-around : (fs : List Frame) (t : Top) (n : ℕ) (b : Bool) → n ≡ length fs → b ≡ (n == 0) → b ≡ false → None ≡ problem_in (plug fs (top_node t))
@@ -239,6 +265,15 @@ made-waiting s z fs top t v u n until g (Ok m) e p q h k =
     subst (λ x. IsStep s fs x (stepped_of m)) (sym e)
     (IsStep-waiting s fs t v u n until (stepped_of m) (enabled-until s.now fs top t v u n until e ∙ p) (k z (woken_to z t v u n) (ap (λ (x : Sight). x.context) q ∙ seen_in-context s fs) h ∙ ap (λ x. woken_to x t v u n) q))
 made-waiting s z fs top t v u n until g (Err x) e p q h k = tt
+
+pub made-hearing : {E : Type 0} (s z : Sight) (fs : List Frame) (top : Top) (t : Task) (v u : Value) (bound : Members) (hs : List Heard) (g : Result Made Halt) (r : Result Made E) → top ≡ tops.Hearing t v u bound hs → is_enabled s.now (plug fs (top_node top)) ≡ true → z ≡ seen_in s fs → IsListened z t v u hs g → IsRule s g r → IfOk r (λ m. IsStep s fs top (stepped_of m))
+made-hearing s z fs top t v u bound hs g (Ok m) e p q h k =
+    let due = enabled-hearing s.now fs top t v u bound hs e ∙ p in
+    let some = heard_some z t v u hs due in
+    let is : stepped_of m ≡ some.0 = k z some.0 (ap (λ (x : Sight). x.context) q ∙ seen_in-context s fs) (h some.0 some.1) in
+    subst (λ x. IsStep s fs x (stepped_of m)) (sym e)
+    (IsStep-hearing s fs t v u bound hs (stepped_of m) due (ap (λ x. heard x t v u hs) (sym q) ∙ some.1 ∙ ap Some (sym is)))
+made-hearing s z fs top t v u bound hs g (Err x) e p q h k = tt
 
 -- the sight of the last task
 last-sight : (s z : Sight) (fs os : List Frame) (f : Frame) → z ≡ seen_in s (take (length fs - 1) fs) → fs ≡ os ++ f ∷ [] → z ≡ seen_in s os
@@ -308,6 +343,9 @@ pub shared-waiting : (fs : List Frame) (top : Top) (t : Task) (v u : Value) (n :
 shared-waiting fs top t v u n m e =
     sym (ap (λ x. is_shared (plug fs (top_node x))) e ∙ is_shared-live fs t v u (waiting n m) ∙ waiting-alone t v u n m)
 
+pub shared-hearing : (fs : List Frame) (top : Top) (t : Task) (v u : Value) (bound : Members) (hs : List Heard) → top ≡ tops.Hearing t v u bound hs → false ≡ is_shared (plug fs (top_node top))
+shared-hearing fs top t v u bound hs e = sym (ap (λ x. is_shared (plug fs (top_node x))) e ∙ is_shared-live fs t v u (Hear bound hs))
+
 pub shared-fault : (fs : List Frame) (top : Top) (p : Problem) (b : Bool) → top ≡ tops.Fault p → b ≡ is_shared (plug fs (Fault p)) → b ≡ is_shared (plug fs (top_node top))
 shared-fault fs top p b e h = h ∙ sym (ap (λ x. is_shared (plug fs (top_node x))) e)
 
@@ -319,3 +357,8 @@ error-last fs os f p e =
 
 pub error-none : (fs : List Frame) (p : Problem) → fs ≡ [] → false ≡ is_shared (plug fs (Fault p))
 error-none fs p e = sym (ap (λ gs. is_shared (plug gs (Fault p))) e)
+
+-- an offer to what stands innermost
+pub offered-plug : (e : Event) (fs : List Frame) (n m : Node) (k : ℕ) → offered e n ≡ (m, k) → offered e (plug fs n) ≡ (plug fs m, k)
+offered-plug e [] n m k h = h
+offered-plug e (f ∷ fs) n m k h = ap (λ (o : Node × ℕ). (Live f.task f.raw f.input (At (round_of f.round) f.place o.0), o.1)) (offered-plug e fs n m k h)

@@ -152,6 +152,7 @@ some-failed now (f ∷ fs) t q e p = omega arith
 pub put-inside : (fs os : List Frame) (t top : Top) (o : Option Frame) (new : List Layer) → has_ended (layers.Top t) ≡ false → AreAround fs t os → ((ls : List Layer) (l : Layer) → stacked fs t ≡ ls ++ l ∷ [] → new ≡ ls ++ stacked (option_to_list o) top) → new ≡ stacked (os ++ option_to_list o) top
 put-inside fs os (tops.Fresh a v) top o new h around put = put (running fs) (layers.Top (tops.Fresh a v)) refl ∙ stacked-append fs (option_to_list o) top ∙ ap (λ gs. stacked (gs ++ option_to_list o) top) around
 put-inside fs os (tops.Waiting a v u n m) top o new h around put = put (running fs) (layers.Top (tops.Waiting a v u n m)) refl ∙ stacked-append fs (option_to_list o) top ∙ ap (λ gs. stacked (gs ++ option_to_list o) top) around
+put-inside fs os (tops.Hearing a v u b hs) top o new h around put = put (running fs) (layers.Top (tops.Hearing a v u b hs)) refl ∙ stacked-append fs (option_to_list o) top ∙ ap (λ gs. stacked (gs ++ option_to_list o) top) around
 put-inside fs os (tops.Done w d) top o new h around put = cc
 put-inside fs os (tops.Fault q) top o new h around put = cc
 
@@ -166,6 +167,7 @@ behind-last fs os f t top o new e put =
 pub put-last : (fs os : List Frame) (t top : Top) (o : Option Frame) (new : List Layer) → has_ended (layers.Top t) ≡ true → AreAround fs t os → ((ls : List Layer) (k l : Layer) → stacked fs t ≡ ls ++ k ∷ l ∷ [] → new ≡ ls ++ stacked (option_to_list o) top) → new ≡ stacked (os ++ option_to_list o) top
 put-last fs os (tops.Fresh a v) top o new h around put = cc
 put-last fs os (tops.Waiting a v u n m) top o new h around put = cc
+put-last fs os (tops.Hearing a v u b hs) top o new h around put = cc
 put-last fs os (tops.Done w d) top o new h around put = behind-last fs os around.0 (tops.Done w d) top o new around.1 put
 put-last fs os (tops.Fault q) top o new h around put = behind-last fs os around.0 (tops.Fault q) top o new around.1 put
 

@@ -15,12 +15,13 @@ use Rattle.swf_scene.specs.declared.made.Top.TheVariants as tops
 abbrev pub AreAround : List Frame → Top → List Frame → Type 0
 AreAround fs (tops.Fresh t v) os = fs ≡ os
 AreAround fs (tops.Waiting t v u n m) os = fs ≡ os
+AreAround fs (tops.Hearing t v u bound hs) os = fs ≡ os
 AreAround fs (tops.Done w g) os = (f : Frame) × (fs ≡ os ++ f ∷ [])
 AreAround fs (tops.Fault p) os = (f : Frame) × (fs ≡ os ++ f ∷ [])
 
 -- a step with these tasks around it
 abbrev pub put_in : List Frame → Stepped → Stepped
-put_in os m = record { node = plug os m.node; context = m.context }
+put_in os m = record m { node = plug os m.node }
 
 abbrev pub IsStep : Sight → List Frame → Top → Stepped → Type 0
 IsStep s fs t m = (os : List Frame) → AreAround fs t os → local s (plug fs (top_node t)) ≡ Some (put_in os m)

@@ -1,3 +1,4 @@
 pub mod Installed
 pub mod Strands
 pub mod Views
+pub mod Taken

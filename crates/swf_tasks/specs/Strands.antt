@@ -30,5 +30,6 @@ abbrev pub has_ended : Layer → Bool
 has_ended (layers.Running f) = false
 has_ended (layers.Top (tops.Fresh t v)) = false
 has_ended (layers.Top (tops.Waiting t v u n m)) = false
+has_ended (layers.Top (tops.Hearing t v u bound hs)) = false
 has_ended (layers.Top (tops.Done w f)) = true
 has_ended (layers.Top (tops.Fault p)) = true

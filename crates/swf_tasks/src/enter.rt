@@ -11,7 +11,9 @@ ghost use Rattle.swf_scene.specs.Stack.{sight_of};
 use std::alloc::Global;
 use swf_document::{Flow, Template};
 use swf_jq_builtins::is_true;
-use swf_rules::{comes_to, complete, input_of, looping, raising, switched, waiting};
+use swf_rules::{
+    comes_to, complete, emitting, input_of, listening, looping, raising, switched, waiting,
+};
 use swf_scene::{Halt, Made, Round, Scene, TaskRef, Top, Work, value_of, within};
 use swf_transform::{fill, first};
 use swf_value::Json;
@@ -44,7 +46,9 @@ fn begun(
 {
     match task.work() {
         Work::Do(_) => comes_to(alloc, scene, task, raw, input, Round::Seq, 0, input.copy()?),
+        Work::Emit(template) => emitting(alloc, scene, task, raw, input, template),
         Work::For(spec) => looping(alloc, scene, task, raw, input, spec),
+        Work::Listen(spec) => listening(alloc, scene, task, raw, input, spec),
         Work::Raise(reference) => raising(alloc, scene, task, raw, input, reference),
         Work::Set(template) => set_value(alloc, scene, task, raw, input, template),
         Work::Switch(cases) => switched(alloc, scene, task, raw, input, cases.as_slice()),
@@ -68,6 +72,7 @@ fn skipped(scene: &Scene, raw: &Json) -> Result<Made, Halt>
             flow: Flow::Continue,
         },
         context: scene.setting.context.copy()?,
+        emitted: None,
     })
 }
 

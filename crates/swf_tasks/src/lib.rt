@@ -2,9 +2,11 @@
 #![tactic(auto)]
 
 mod enter;
+mod hear;
 mod machine;
 mod stack;
 mod view;
 
-pub use machine::{Machine, StepFault};
+pub use machine::{Machine, StepFault, StepResult};
+pub use swf_scene::{Site, Words};
 pub use view::{InstanceView, Node};

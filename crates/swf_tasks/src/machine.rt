@@ -1,9 +1,11 @@
 // One instance: its setting, and a stack of the tasks that run inside each other.
-ghost use Rattle.std.specs.Prelude.{ℕ, if◌then◌else◌, ◌≡◌, ◌↔◌, ◌&&◌, ◌∷◌, [], List, Err, IfOk, OnOk, OnErr, Some, true, false, option_map};
+ghost use Rattle.std.specs.Prelude.{ℕ, if◌then◌else◌, nat_lt, ◌≡◌, ◌↔◌, ◌&&◌, ◌∷◌, [], List, Err, IfOk, OnOk, OnErr, Some, true, false, option_map};
 ghost use Rattle.swf_meaning.specs.Local.{local, is_enabled};
 ghost use Rattle.swf_meaning.specs.Shared.{advanced, is_shared, is_shared_error};
 ghost use Rattle.swf_meaning.specs.Parts.{kind_of};
-ghost use Rattle.swf_meaning.specs.World.{is_root, new_instance, with_step, sight};
+ghost use Rattle.swf_meaning.specs.Offer.{offered_one, takers_in};
+ghost use Rattle.swf_meaning.specs.World.{is_root, new_instance, number_after, sight};
+ghost use Rattle.swf_tasks.specs.Taken.{taken, emitted_of};
 ghost use Rattle.swf_meaning.specs.Wake.{until, is_due};
 ghost use Rattle.swf_scene.specs.Stack.{plug, top_node, round_of, setting_sight, stepped_of};
 ghost use Rattle.swf_document.specs.declared.error.Problem.{Problem};
@@ -17,15 +19,17 @@ ghost use Rattle.swf_tasks.specs.Installed.{IsStep, output_in, problem_in};
 ghost use Rattle.swf_tasks.specs.Views.{IsViewOf};
 
 use crate::enter::enter;
+use crate::hear::{hears, is_heard, listened, offered};
 use crate::stack::{Standing, innermost, install, stack_of};
 use crate::view::{InstanceView, Node, copy_running};
 use std::alloc::{AllocError, Global};
 use std::marker::Model;
+use swf_cloudevents::Event;
 use swf_document::Problem;
 use swf_duration::Moment;
 use swf_frames::Forest;
 use swf_rules::{failed, moved_on, woken};
-use swf_scene::{Frame, Halt, Layer, Made, Round, Scene, Setting, TaskRef, Top, Work};
+use swf_scene::{Frame, Halt, Layer, Made, Round, Scene, Setting, Site, TaskRef, Top, Work};
 use swf_text::{Strand, Text};
 use swf_validate::Accepted;
 use swf_value::Json;
@@ -35,10 +39,16 @@ use thiserror::Error;
 #[derive(Drop)]
 pub struct Machine {
     setting: Setting,
-    /// How many activities it had.
-    number: u64,
     /// Of one strand: the tasks that run, of which the first is the workflow, and at the top what stands innermost.
     forest: Forest<Layer>,
+}
+
+/// What a step leads to besides the change of the instance.
+#[derive(Drop)]
+pub enum StepResult {
+    Quiet,
+    /// This event goes out.
+    Emitted(Event),
 }
 
 /// Why a strand takes no step.
@@ -62,7 +72,7 @@ impl Model for Machine {
     ghost use Rattle.swf_scene.specs.Stack.{instance_of};
     ghost use Rattle.swf_tasks.specs.Strands.{layers_in, IsAlone};
 
-    ghost view = { λ m. instance_of m.setting (frames_of (layers_in m.forest)) (top_of (layers_in m.forest)) m.number };
+    ghost view = { λ m. instance_of m.setting (frames_of (layers_in m.forest)) (top_of (layers_in m.forest)) };
 
     ghost invariant = { λ m. IsAlone m.forest };
 }
@@ -87,8 +97,8 @@ impl Machine {
                 started,
                 input,
                 context: Json::null(),
+                number: 0,
             },
-            number: 0,
             forest: Forest::new(alloc, Layer::Top(Top::Fresh { task, raw }))?,
         })
     }
@@ -99,7 +109,6 @@ impl Machine {
     {
         Ok(Machine {
             setting: self.setting.copy()?,
-            number: self.number,
             forest: self.forest.copy(alloc)?,
         })
     }
@@ -114,6 +123,7 @@ impl Machine {
             Top::Done { .. } => !around.is_empty(),
             Top::Fault(_) => !around.is_empty(),
             Top::Waiting { until, .. } => *until <= now.milliseconds(),
+            Top::Hearing { task, heard, .. } => is_heard(task, heard.as_slice()),
         }
     }
 
@@ -154,6 +164,7 @@ impl Machine {
             started,
             input,
             context,
+            number,
         } = &self.setting;
         let Standing { around, top } = stack_of(&self.forest);
         let node = Node {
@@ -167,21 +178,27 @@ impl Machine {
             started: *started,
             context: context.copy()?,
             node,
-            number: self.number,
+            number: *number,
         })
     }
 
     /// A strand takes its step at a moment.
-    pub fn step(&mut self, alloc: Global, strand: &Strand, now: Moment) -> Result<(), StepFault>
-        ensures ok { OnOk result (option_map (with_step self.old) (local (sight now self.old) self.old.node) ≡ Some self.new) }
+    pub fn step(
+        &mut self,
+        alloc: Global,
+        strand: &Strand,
+        site: &Site,
+    ) -> Result<StepResult, StepFault>
+        ensures ok { IfOk result (λ r. option_map (taken self.old) (local (sight site.entry.now.now self.old) self.old.node) ≡ Some (self.new, emitted_of r)) }
         ensures err { OnErr result (self.new ≡ self.old) }
-        ensures not_enabled { (result ≡ Err StepFault.NotEnabled) ↔ ((is_root strand.now && is_enabled now self.old.node) ≡ false) }
+        ensures not_enabled { (result ≡ Err StepFault.NotEnabled) ↔ ((is_root strand.now && is_enabled site.entry.now.now self.old.node) ≡ false) }
     {
-        if !self.enabled(strand, now) {
+        if !self.enabled(strand, site.now) {
             return Err(StepFault::NotEnabled);
         }
-        match self.take_step(alloc, now) {
-            Ok(()) => Ok(()),
+        match self.take_step(alloc, site) {
+            Ok(None) => Ok(StepResult::Quiet),
+            Ok(Some(event)) => Ok(StepResult::Emitted(event)),
             Err(_) => Err(StepFault::OutOfMemory),
         }
     }
@@ -193,17 +210,17 @@ impl Machine {
         alloc: Global,
         strand: &Strand,
         fuel: u32,
-        now: Moment,
+        site: &Site,
     ) -> Result<u32, AllocError>
-        ensures ok { IfOk result (λ steps. (self.new, steps) ≡ advanced now (if is_root strand.now then fuel else 0) self.old) }
-        ensures err { OnErr result ((steps : ℕ) × (advanced now steps self.old ≡ (self.new, steps))) }
+        ensures ok { IfOk result (λ steps. (self.new, steps) ≡ advanced site.entry.now.now (if is_root strand.now then fuel else 0) self.old) }
+        ensures err { OnErr result ((steps : ℕ) × (advanced site.entry.now.now steps self.old ≡ (self.new, steps))) }
     {
         if !strand.as_slice().is_empty() {
             return Ok(0);
         }
         let mut steps = 0;
-        while steps < fuel && !self.is_shared() && self.is_enabled(now) {
-            self.take_step(alloc, now)?;
+        while steps < fuel && !self.is_shared() && self.is_enabled(site.now) {
+            self.take_step(alloc, site)?;
             steps += 1;
         }
         Ok(steps)
@@ -228,20 +245,44 @@ impl Machine {
             Top::Done { .. } => false,
             Top::Fault(_) => is_error_shared(around),
             Top::Waiting { .. } => false,
+            Top::Hearing { .. } => false,
         }
     }
 
-    // The part that stands innermost takes its step.
-    fn take_step(&mut self, alloc: Global, now: Moment) -> Result<(), AllocError>
-        requires { is_enabled now self.old.node ≡ true }
-        ensures ok { OnOk result (option_map (with_step self.old) (local (sight now self.old) self.old.node) ≡ Some self.new) }
+    // The part that stands innermost takes its step, and answers the event that goes out.
+    fn take_step(&mut self, alloc: Global, site: &Site) -> Result<Option<Event>, AllocError>
+        requires { is_enabled site.now.now self.old.node ≡ true }
+        ensures ok { IfOk result (λ e. option_map (taken self.old) (local (sight site.entry.now.now self.old) self.old.node) ≡ Some (self.new, e)) }
         ensures err { OnErr result (self.new ≡ self.old) }
     {
         let Standing { around, top } = stack_of(&self.forest);
-        let made = next_of(alloc, &self.setting, now, around, top)?;
+        let made = next_of(alloc, &self.setting, site, around, top)?;
+        let number = number_after(self.setting.number, &made.emitted)?;
         install(alloc, &mut self.forest, made.frame, made.top)?;
         self.setting.context = made.context;
-        Ok(())
+        self.setting.number = number;
+        Ok(made.emitted)
+    }
+
+    /// Whether a task of it takes an event.
+    pub fn hears(&self, alloc: Global, event: &Event) -> Result<bool, AllocError>
+        ensures { IfOk result (λ b. b ≡ nat_lt 0 (takers_in event.now self.now)) }
+    {
+        let Standing { top, .. } = stack_of(&self.forest);
+        hears(alloc, top, event)
+    }
+
+    /// Offers it an event. Answers how many of its tasks took it.
+    pub fn deliver_event(&mut self, alloc: Global, event: &Event) -> Result<u32, AllocError>
+        ensures ok { IfOk result (λ n. (n ≡ takers_in event.now self.old) × (self.new ≡ offered_one event.now self.old)) }
+        ensures err { OnErr result (self.new ≡ self.old) }
+    {
+        let Standing { top, .. } = stack_of(&self.forest);
+        let Some(top) = offered(alloc, top, event)? else {
+            return Ok(0);
+        };
+        install(alloc, &mut self.forest, None, top)?;
+        Ok(1)
     }
 
     /// How it is known.
@@ -286,6 +327,16 @@ impl Machine {
     }
 }
 
+// The number of the next event, where this one goes out. There is none behind the greatest.
+fn number_after(number: u64, emitted: &Option<Event>) -> Result<u64, AllocError>
+    ensures { IfOk result (λ n. n ≡ number_after number emitted.now) }
+{
+    match emitted {
+        None => Ok(number),
+        Some(_) => number.checked_add(1).ok_or(AllocError),
+    }
+}
+
 // Whether an error of a task's list may lead to another try.
 fn may_try_again(frame: &Frame) -> bool
     ensures { result ≡ is_shared_error (round_of frame.now.round) (kind_of frame.now.task) }
@@ -311,16 +362,16 @@ fn is_error_shared(around: &[Layer]) -> bool
 fn next_of(
     alloc: Global,
     setting: &Setting,
-    now: Moment,
+    site: &Site,
     around: &[Layer],
     top: &Top,
 ) -> Result<Made, AllocError>
-    requires { (fs : List TheFrame) × ((around.now ≡ running fs) × (is_enabled now (plug fs (top_node top.now)) ≡ true)) }
-    ensures { IfOk result (λ m. (fs : List TheFrame) → around.now ≡ running fs → IsStep (setting_sight setting.now now) fs top.now (stepped_of m)) }
+    requires { (fs : List TheFrame) × ((around.now ≡ running fs) × (is_enabled site.now.now (plug fs (top_node top.now)) ≡ true)) }
+    ensures { IfOk result (λ m. (fs : List TheFrame) → around.now ≡ running fs → IsStep (setting_sight setting.now site.entry.now.now) fs top.now (stepped_of m)) }
 {
     match top {
         Top::Fresh { task, raw } => {
-            let scene = Scene::inside(alloc, setting, now, around)?;
+            let scene = Scene::inside(alloc, setting, site.words, site.now, around)?;
             made(setting, enter(alloc, &scene, task, raw))
         }
         Top::Waiting {
@@ -330,17 +381,30 @@ fn next_of(
             retries,
             ..
         } => {
-            let scene = Scene::inside(alloc, setting, now, around)?;
+            let scene = Scene::inside(alloc, setting, site.words, site.now, around)?;
             made(setting, woken(alloc, &scene, task, raw, input, *retries))
+        }
+        Top::Hearing {
+            task,
+            raw,
+            input,
+            heard,
+            ..
+        } => {
+            let scene = Scene::inside(alloc, setting, site.words, site.now, around)?;
+            made(
+                setting,
+                listened(alloc, &scene, task, raw, input, heard.as_slice()),
+            )
         }
         Top::Done { output, flow } => {
             let (frame, outer) = innermost(around);
-            let scene = Scene::inside(alloc, setting, now, outer)?;
+            let scene = Scene::inside(alloc, setting, site.words, site.now, outer)?;
             made(setting, moved_on(alloc, &scene, frame, output, flow))
         }
         Top::Fault(problem) => {
             let (frame, outer) = innermost(around);
-            let scene = Scene::inside(alloc, setting, now, outer)?;
+            let scene = Scene::inside(alloc, setting, site.words, site.now, outer)?;
             made(setting, failed(alloc, &scene, frame, problem))
         }
     }
@@ -356,6 +420,7 @@ fn made(setting: &Setting, given: Result<Made, Halt>) -> Result<Made, AllocError
             frame: None,
             top: Top::Fault(problem),
             context: setting.context.copy()?,
+            emitted: None,
         }),
         Err(Halt::OutOfMemory) => Err(AllocError),
     }

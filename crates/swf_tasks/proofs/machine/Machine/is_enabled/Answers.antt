@@ -1,7 +1,8 @@
 use Rattle.std.proofs.Common.{◌∙◌, ap, nat_le}
+use Rattle.swf_meaning.specs.Listen.{is_heard}
 use Rattle.swf_meaning.specs.Local.{is_enabled}
 use Rattle.swf_meaning.specs.World.{Instance}
-use Rattle.swf_tasks.proofs.StackLemmas.{enabled-fresh, enabled-ended, enabled-fault, enabled-until}
+use Rattle.swf_tasks.proofs.StackLemmas.{enabled-fresh, enabled-ended, enabled-fault, enabled-until, enabled-hearing}
 use Rattle.swf_tasks.proofs.StrandLemmas.{node-is, length_running}
 use Rattle.swf_tasks.proofs.machine.Machine.is_enabled.Goals as goal
 
@@ -25,3 +26,9 @@ returns-in-Waiting c =
     let s = c.stack_of.ensures in
     ap (nat_le c.in-Waiting.until) c.milliseconds.ensures.value
     ∙ enabled-until c.args.now s.0 c.stack_of.result.top.now _ _ _ _ c.in-Waiting.until c.in-Waiting.is ∙ ap (is_enabled c.args.now) (node-is c.self.inside.forest s.0 _ s.1.1) ∙ ap (λ (i : Instance). is_enabled c.args.now i.node) c.self.view_is
+
+pub returns-in-Hearing : goal.returns-in-Hearing
+returns-in-Hearing c =
+    let s = c.stack_of.ensures in
+    c.is_heard.ensures ∙ ap (is_heard c.in-Hearing.task) c.as_slice.ensures
+    ∙ enabled-hearing c.args.now s.0 c.stack_of.result.top.now c.in-Hearing.task _ _ _ c.in-Hearing.heard c.in-Hearing.is ∙ ap (is_enabled c.args.now) (node-is c.self.inside.forest s.0 _ s.1.1) ∙ ap (λ (i : Instance). is_enabled c.args.now i.node) c.self.view_is

@@ -1,7 +1,7 @@
 use Rattle.std.proofs.Common.{◌∙◌, ap}
 use Rattle.swf_meaning.specs.Shared.{is_shared}
 use Rattle.swf_meaning.specs.World.{Instance}
-use Rattle.swf_tasks.proofs.StackLemmas.{shared-fresh, shared-done, shared-waiting, shared-fault}
+use Rattle.swf_tasks.proofs.StackLemmas.{shared-fresh, shared-done, shared-waiting, shared-hearing, shared-fault}
 use Rattle.swf_tasks.proofs.StrandLemmas.{node-is}
 use Rattle.swf_tasks.proofs.machine.Machine.is_shared.Goals as goal
 
@@ -24,3 +24,8 @@ pub returns-in-Waiting : goal.returns-in-Waiting
 returns-in-Waiting c =
     let s = c.stack_of.ensures in
     shared-waiting s.0 c.stack_of.result.top.now _ _ _ _ _ c.in-Waiting.is ∙ ap is_shared (node-is c.self.inside.forest s.0 _ s.1.1) ∙ ap (λ (i : Instance). is_shared i.node) c.self.view_is
+
+pub returns-in-Hearing : goal.returns-in-Hearing
+returns-in-Hearing c =
+    let s = c.stack_of.ensures in
+    shared-hearing s.0 c.stack_of.result.top.now _ _ _ _ _ c.in-Hearing.is ∙ ap is_shared (node-is c.self.inside.forest s.0 _ s.1.1) ∙ ap (λ (i : Instance). is_shared i.node) c.self.view_is

@@ -1,0 +1,40 @@
+use Rattle.std.proofs.Common.{◌≡◌, ◌∙◌, sym, subst, List, [], Ok, Err, None, Result}
+use Rattle.swf_document.specs.declared.event.Filter.{Filter}
+use Rattle.swf_jq_eval.specs.declared.vars.Variable.{Variable}
+use Rattle.swf_value.specs.Value.{Members, no_members}
+use Rattle.swf_meaning.specs.Complete.{Stepped, becomes}
+use Rattle.swf_meaning.specs.Listen.{correlations}
+use Rattle.swf_meaning.specs.Node.{Live, Hear}
+use Rattle.swf_meaning.specs.Sight.{within}
+use Rattle.swf_scene.specs.Stack.{sight_of}
+use Rattle.swf_scene.specs.declared.halt.Halt.{Halt}
+use Rattle.swf_rules.specs.Sends.{AreExpected}
+use Rattle.swf_rules.proofs.ListenLemmas.{listening-ended, listening-bound}
+use Rattle.swf_rules.proofs.listen.listening.Goals as goal
+
+pub returns-in_err-bound : goal.returns-in_err-bound
+returns-in_err-bound c =
+    let s = sight_of c.args.scene.now in
+    let t = c.args.task.now in
+    let v = c.args.raw.now in
+    let u = c.args.input.now in
+    let h = c.in_err-bound.field-0.0 in
+    let o : Result Members Halt = Err h in
+    let e = subst (λ (r : List Variable). AreExpected t r u (correlations c.as_slice.result.now) no_members o) c.in_ok-vars.ensures c.in_err-bound.ensures in
+    listening-ended s t v u c.args.spec.now h c.from_residual-in_err-bound.result
+    (subst (λ (fs : List Filter). AreExpected t (within s t v u) u (correlations fs) no_members o) c.as_slice.ensures e) c.from_residual-in_err-bound.ensures.1
+
+pub returns : goal.returns
+returns c =
+    let s = sight_of c.args.scene.now in
+    let t = c.args.task.now in
+    let v = c.args.raw.now in
+    let u = c.args.input.now in
+    let b = c.in_ok-bound.bound in
+    let o : Result Members Halt = Ok b in
+    let e = subst (λ (r : List Variable). AreExpected t r u (correlations c.as_slice.result.now) no_members o) c.in_ok-vars.ensures c.in_ok-bound.ensures in
+    let begins = listening-bound s t v u c.args.spec.now b (subst (λ (fs : List Filter). AreExpected t (within s t v u) u (correlations fs) no_members o) c.as_slice.ensures e) in
+    let empty = c.in_ok-of.ensures ∙ c.new.ensures.items in
+    let made : ◌≡◌ {A = Stepped} (record { node = Live c.in_ok-copy.field-0 c.in_ok-copy-2.field-0 c.in_ok-copy-3.field-0 (Hear c.bound.inside.members c.in_ok-of.field-0); context = c.in_ok-copy-4.field-0; emitted = None }) (becomes s (Live t v u (Hear b []))) =
+    λ i. record { node = Live (c.in_ok-copy.ensures i) (c.in_ok-copy-2.ensures i) (c.in_ok-copy-3.ensures i) (Hear (c.bound.view_is i) (empty i)); context = c.in_ok-copy-4.ensures i; emitted = None }
+    in made ∙ sym begins

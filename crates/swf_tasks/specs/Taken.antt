@@ -1,0 +1,37 @@
+-- What a step and an offer leave of an instance.
+use Rattle.std.specs.Prelude.{◌≡◌, List, Option, Some, None, Result}
+use Rattle.swf_value.specs.Value.{Value}
+use Rattle.swf_cloudevents.specs.declared.event.Event.{Event}
+use Rattle.swf_document.specs.Task.{Task}
+use Rattle.swf_meaning.specs.Complete.{Stepped}
+use Rattle.swf_meaning.specs.Listen.{heard}
+use Rattle.swf_meaning.specs.Offer.{offered}
+use Rattle.swf_meaning.specs.Sight.{Sight}
+use Rattle.swf_meaning.specs.World.{Instance, with_step}
+use Rattle.swf_meaning.specs.declared.heard.Heard.{Heard}
+use Rattle.swf_scene.specs.Halts.{Gives}
+use Rattle.swf_scene.specs.Stack.{top_node}
+use Rattle.swf_scene.specs.declared.halt.Halt.{Halt}
+use Rattle.swf_scene.specs.declared.made.Frame.{Frame}
+use Rattle.swf_scene.specs.declared.made.Made.{Made}
+use Rattle.swf_tasks.specs.Installed.{AreAround}
+use Rattle.swf_scene.specs.declared.made.Top.{Top}
+use Rattle.swf_tasks.specs.declared.machine.StepResult.{StepResult}
+use Rattle.swf_tasks.specs.declared.machine.StepResult.TheVariants.{Quiet, Emitted}
+
+-- the instance after a step, and the event that goes out
+abbrev pub taken : Instance → Stepped → Instance × Option Event
+taken i m = (with_step i m, m.emitted)
+
+abbrev pub emitted_of : StepResult → Option Event
+emitted_of Quiet = None
+emitted_of (Emitted e) = Some e
+
+-- what stands innermost after an event that it takes, where it takes it
+abbrev pub IsOffered : Top → Event → Option Top → Type 0
+IsOffered t e None = offered e (top_node t) ≡ (top_node t, 0)
+IsOffered t e (Some x) = (offered e (top_node t) ≡ (top_node x, 1)) × ((fs : List Frame) → AreAround fs t fs)
+
+-- the step of a task that heard all
+abbrev pub IsListened : Sight → Task → Value → Value → List Heard → Result Made Halt → Type 0
+IsListened s t v u hs r = (m : Stepped) → heard s t v u hs ≡ Some m → Gives s m r

@@ -1,0 +1,115 @@
+// A task that listens (DSL 1.0.0, reference, "Listen").
+ghost use Rattle.std.specs.Prelude.{◌≡◌, ◌∷◌, ◌++◌, [], IfOk, IfSome, true, nat_lt, option_map, Some, None};
+ghost use Rattle.swf_meaning.specs.Listen.{is_heard, events_of};
+ghost use Rattle.swf_meaning.specs.Local.{local_inside};
+ghost use Rattle.swf_meaning.specs.Node.{Hear};
+ghost use Rattle.swf_meaning.specs.Offer.{offered, takes_in};
+ghost use Rattle.swf_meaning.specs.Parts.{kind_of};
+ghost use Rattle.swf_tasks.specs.Taken.{IsListened, IsOffered};
+ghost use Rattle.swf_scene.specs.Stack.{sight_of, top_node};
+
+use std::alloc::{AllocError, Global};
+use swf_cloudevents::{Event, NamedValues};
+use swf_document::Listing;
+use swf_meaning::Heard;
+use swf_rules::{heard, is_satisfied, takes};
+use swf_scene::{Halt, Made, Scene, TaskRef, Top, Work};
+use swf_value::Json;
+
+/// Whether a task has heard all that it listens for.
+pub fn is_heard(task: &TaskRef, heard: &[Heard]) -> bool
+    ensures { result ≡ is_heard task.now heard.now }
+{
+    match task.work() {
+        Work::Listen(spec) => is_satisfied(spec, heard),
+        _ => false,
+    }
+}
+
+// What a task has bound after an event that it takes, and the event with the place of its filter.
+fn taken(
+    alloc: Global,
+    task: &TaskRef,
+    bound: &NamedValues,
+    heard: &[Heard],
+    event: &Event,
+) -> Result<Option<(NamedValues, Heard)>, AllocError>
+    ensures { IfOk result (λ o. option_map (λ p. (p.0, heard.now ++ p.1 ∷ [])) o ≡ takes_in (kind_of task.now) bound.now heard.now event.now) }
+{
+    match task.work() {
+        Work::Listen(spec) => takes(alloc, spec, bound, heard, event),
+        _ => Ok(None),
+    }
+}
+
+/// Whether what stands innermost takes an event.
+pub fn hears(alloc: Global, top: &Top, event: &Event) -> Result<bool, AllocError>
+    ensures { IfOk result (λ b. b ≡ nat_lt 0 (offered event.now (top_node top.now)).1) }
+{
+    match top {
+        Top::Hearing {
+            task,
+            bound,
+            heard,
+            ..
+        } => Ok(taken(alloc, task, bound, heard.as_slice(), event)?.is_some()),
+        _ => Ok(false),
+    }
+}
+
+// What was heard, and one event more. It copies no values.
+fn with_heard(alloc: Global, heard: &[Heard], one: Heard) -> Result<Listing<Heard>, AllocError>
+    ensures { IfOk result (λ list. list ≡ heard.now ++ one ∷ []) }
+{
+    let mut copies = Vec::new(alloc);
+    for earlier in heard {
+        copies.push(earlier.copy()?)?;
+    }
+    copies.push(one)?;
+    Listing::of(alloc, copies)
+}
+
+/// What stands innermost after an event that it takes.
+pub fn offered(alloc: Global, top: &Top, event: &Event) -> Result<Option<Top>, AllocError>
+    ensures { IfOk result (λ o. IsOffered top.now event.now o) }
+{
+    let Top::Hearing {
+        task,
+        raw,
+        input,
+        bound,
+        heard,
+    } = top
+    else {
+        return Ok(None);
+    };
+    let heard = heard.as_slice();
+    let Some((bound, one)) = taken(alloc, task, bound, heard, event)? else {
+        return Ok(None);
+    };
+    Ok(Some(Top::Hearing {
+        task: task.copy()?,
+        raw: raw.copy()?,
+        input: input.copy()?,
+        bound,
+        heard: with_heard(alloc, heard, one)?,
+    }))
+}
+
+/// A task that heard all is complete.
+pub fn listened(
+    alloc: Global,
+    scene: &Scene,
+    task: &TaskRef,
+    raw: &Json,
+    input: &Json,
+    events: &[Heard],
+) -> Result<Made, Halt>
+    requires { is_heard task.now events.now ≡ true }
+    ensures { IsListened (sight_of scene.entry.now) task.now raw.now input.now events.now result }
+{
+    match task.work() {
+        Work::Listen(spec) => heard(alloc, scene, task, raw, input, spec, events),
+        _ => Err(Halt::OutOfMemory),
+    }
+}
