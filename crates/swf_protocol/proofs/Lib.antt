@@ -1,2 +1,9 @@
 pub mod NumberLemmas
+pub mod WordLemmas
 pub mod LineLemmas
+pub mod EventValues
+pub mod Speaking
+pub mod Unspaced
+pub mod Plain
+pub mod Decimals
+pub mod Again

@@ -1,128 +1,154 @@
 -- Which command a line spells, or its first fault from the left.
-use Rattle.std.specs.Prelude.{◌==◌, ◌&&◌, ◌||◌, ℕ, List, Bool, true, false, length, codes, chars, nat_le, nat_lt, Option, Some, None, is_some, Result, Ok, Err, if◌then◌else◌}
-use Rattle.std.specs.List.{list_all, before_first, after_first, position_or_len}
+use Rattle.std.specs.Prelude.{ℕ, List, [], ◌∷◌, Bool, true, false, chars, Option, Some, None, Result, Ok, Err, if◌then◌else◌}
 use Rattle.std.specs.Str.{is_utf8}
 use Rattle.swf_value.specs.Value.{Value}
-use Rattle.swf_text.specs.Same.{same}
-use Rattle.swf_value.specs.Read.{read_within}
-use Rattle.swf_value.specs.declared.fault.ValueFault.{ValueFault}
-use Rattle.swf_value.specs.declared.fault.ValueFault.TheVariants.{NotJson as ValueNotJson, TooDeep as ValueTooDeep, NotWhole as ValueNotWhole, OutOfMemory}
-use Rattle.swf_text.specs.Ascii.{is_digit, is_letter}
+use Rattle.swf_calls.specs.Reply.{reply_of}
+use Rattle.swf_calls.specs.declared.reply.CallReply.{CallReply}
+use Rattle.swf_cloudevents.specs.Event.{event_of}
+use Rattle.swf_cloudevents.specs.Faults.{Fault}
+use Rattle.swf_cloudevents.specs.declared.event.Event.{Event as TheEvent}
 use Rattle.swf_document.specs.declared.document.DocKey.{DocKey}
-use Rattle.swf_meaning.specs.declared.label.Outcome.TheVariants.{Load, Start, Moment}
-use Rattle.swf_meaning.specs.declared.label.Query.TheVariants.{Status, History}
+use Rattle.swf_meaning.specs.declared.label.Outcome.TheVariants.{Load, Start, Event, Reply, Moment}
+use Rattle.swf_meaning.specs.declared.label.Query.TheVariants.{Status, Pending, Outbox, History}
 use Rattle.swf_protocol.specs.Number.{number_of, budget_of, moment_in}
+use Rattle.swf_protocol.specs.Reading.{value_in}
+use Rattle.swf_protocol.specs.Verbs.{verb_of}
+use Rattle.swf_protocol.specs.Words.{words_of, joined, is_id}
 use Rattle.swf_protocol.specs.declared.command.Command.{Command}
 use Rattle.swf_protocol.specs.declared.command.Command.TheVariants.{Do, Ask, Settle, Quit}
+use Rattle.swf_protocol.specs.declared.command.CommandFault.{CommandFault}
+use Rattle.swf_protocol.specs.declared.command.CommandFault.TheVariants.{BadLine, BadEvent}
 use Rattle.swf_protocol.specs.declared.command.LineFault.{LineFault}
-use Rattle.swf_protocol.specs.declared.command.LineFault.TheVariants.{Command as BadCommand, Word, Number, NotJson, TooDeep, NotWhole}
+use Rattle.swf_protocol.specs.declared.command.LineFault.TheVariants as faults
+use Rattle.swf_protocol.specs.declared.verb.Verb.{Verb}
+use Rattle.swf_protocol.specs.declared.verb.Verb.TheVariants as verbs
 
-abbrev pub is_space : ℕ → Bool
-is_space b = b == 32
+abbrev pub bad : LineFault → Result Command CommandFault
+bad f = Err (BadLine f)
 
--- the word before the first space, and what follows that space
-abbrev pub cut : List ℕ → Option (List ℕ × List ℕ)
-cut t = if nat_lt (position_or_len is_space t) (length t) then Some (before_first is_space t, after_first is_space t) else None
+-- what follows a value, unless none was read
+abbrev pub and_then : (Value → Result Command CommandFault) → Result Value CommandFault → Result Command CommandFault
+and_then f (Ok v) = f v
+and_then f (Err e) = Err e
 
--- of a letter or digit, `-`, `_` or `.`
-abbrev pub is_id_char : ℕ → Bool
-is_id_char b = is_letter b || is_digit b || b == 45 || b == 95 || b == 46
+-- the command of a number, if it is one
+abbrev pub numbered : (ℕ → Command) → Option ℕ → Result Command CommandFault
+numbered f (Some n) = Ok (f n)
+numbered f None = bad faults.Number
 
--- 1 to 64 letters, digits, `-`, `_` and `.`
-abbrev pub is_id : List ℕ → Bool
-is_id t = nat_lt 0 (length t) && nat_le (length t) 64 && list_all is_id_char t
+-- the command of an event, if the value is one, and that of a reply
+abbrev pub told : Result TheEvent Fault → Result Command CommandFault
+told (Ok e) = Ok (Do (Event e))
+told (Err f) = Err (BadEvent f.0 f.1)
 
-abbrev pub fault_of : ValueFault → LineFault
-fault_of ValueNotJson = NotJson
-fault_of ValueTooDeep = TooDeep
-fault_of ValueNotWhole = NotWhole
-fault_of OutOfMemory = NotJson
+abbrev pub replied : List ℕ → Option CallReply → Result Command CommandFault
+replied activity (Some r) = Ok (Do (Reply activity r))
+replied activity None = bad faults.Reply
 
-abbrev pub loads : Result Value ValueFault → Result Command LineFault
-loads (Ok v) = Ok (Do (Load v))
-loads (Err f) = Err (fault_of f)
+-- ---- each command by the words behind its first; the last argument of `load`, `start`, `event` and `reply` is the rest of the line
 
-abbrev pub starts : List ℕ → DocKey → Result Value ValueFault → Result Command LineFault
-starts id key (Ok v) = Ok (Do (Start id key v))
-starts id key (Err f) = Err (fault_of f)
+abbrev pub load_with : List ℕ → Result Command CommandFault
+load_with json = and_then (λ v. Ok (Do (Load v))) (value_in 64 json)
+
+-- `load JSON`
+abbrev pub load_line : List (List ℕ) → Result Command CommandFault
+load_line [] = bad faults.Command
+load_line json = load_with (joined json)
 
 abbrev pub key_of : List ℕ → List ℕ → List ℕ → DocKey
 key_of namespace name version = record { namespace = chars namespace; name = chars name; version = chars version }
 
-abbrev pub start_with : List ℕ → DocKey → List ℕ → Result Command LineFault
-start_with id key json = if is_id id then starts (chars id) key (read_within 64 json) else Err Word
+abbrev pub start_with : List ℕ → DocKey → List ℕ → Result Command CommandFault
+start_with id key json = if is_id id then and_then (λ v. Ok (Do (Start (chars id) key v))) (value_in 64 json) else bad faults.Word
 
-abbrev pub fourth : List ℕ → List ℕ → List ℕ → Option (List ℕ × List ℕ) → Result Command LineFault
-fourth id namespace name None = Err BadCommand
-fourth id namespace name (Some p) = start_with id (key_of namespace name p.0) p.1
+-- `start ID NAMESPACE NAME VERSION JSON`
+abbrev pub start_line : List (List ℕ) → Result Command CommandFault
+start_line (id ∷ namespace ∷ name ∷ version ∷ []) = bad faults.Command
+start_line (id ∷ namespace ∷ name ∷ version ∷ json) = start_with id (key_of namespace name version) (joined json)
+start_line words = bad faults.Command
 
-abbrev pub third : List ℕ → List ℕ → Option (List ℕ × List ℕ) → Result Command LineFault
-third id namespace None = Err BadCommand
-third id namespace (Some p) = fourth id namespace p.0 (cut p.1)
+abbrev pub event_with : List ℕ → Result Command CommandFault
+event_with json = and_then (λ v. told (event_of v)) (value_in 64 json)
 
-abbrev pub second : List ℕ → Option (List ℕ × List ℕ) → Result Command LineFault
-second id None = Err BadCommand
-second id (Some p) = third id p.0 (cut p.1)
+-- `event JSON`
+abbrev pub event_line : List (List ℕ) → Result Command CommandFault
+event_line [] = bad faults.Command
+event_line json = event_with (joined json)
 
-abbrev pub first : Option (List ℕ × List ℕ) → Result Command LineFault
-first None = Err BadCommand
-first (Some p) = second p.0 (cut p.1)
+abbrev pub reply_with : List ℕ → List ℕ → Result Command CommandFault
+reply_with activity json = and_then (λ v. replied (chars activity) (reply_of v)) (value_in 65 json)
 
--- `start ID NAMESPACE NAME VERSION JSON`, behind its word
-abbrev pub start_of : List ℕ → Result Command LineFault
-start_of rest = first (cut rest)
+-- `reply ACTIVITY JSON`
+abbrev pub reply_line : List (List ℕ) → Result Command CommandFault
+reply_line (activity ∷ []) = bad faults.Command
+reply_line (activity ∷ json) = reply_with activity (joined json)
+reply_line [] = bad faults.Command
 
-abbrev pub settles : Option ℕ → Result Command LineFault
-settles (Some n) = Ok (Settle (Some n))
-settles None = Err Number
+-- `moment T`
+abbrev pub moment_line : List (List ℕ) → Result Command CommandFault
+moment_line (t ∷ []) = numbered (λ n. Do (Moment n)) (moment_in t)
+moment_line words = bad faults.Command
 
--- `settle N`, behind its word
-abbrev pub settle_of : List ℕ → Result Command LineFault
-settle_of rest = if is_some (cut rest) then Err BadCommand else settles (budget_of rest)
+-- `settle N` or `settle`
+abbrev pub settle_line : List (List ℕ) → Result Command CommandFault
+settle_line [] = Ok (Settle None)
+settle_line (n ∷ []) = numbered (λ n. Settle (Some n)) (budget_of n)
+settle_line words = bad faults.Command
 
-abbrev pub tells : Option ℕ → Result Command LineFault
-tells (Some n) = Ok (Ask (History n))
-tells None = Err Number
+-- `status ID`
+abbrev pub status_line : List (List ℕ) → Result Command CommandFault
+status_line (id ∷ []) = if is_id id then Ok (Ask (Status (chars id))) else bad faults.Word
+status_line words = bad faults.Command
 
--- `history N`, behind its word
-abbrev pub history_of : List ℕ → Result Command LineFault
-history_of rest = if is_some (cut rest) then Err BadCommand else tells (number_of rest)
+-- `pending`
+abbrev pub pending_line : List (List ℕ) → Result Command CommandFault
+pending_line [] = Ok (Ask Pending)
+pending_line words = bad faults.Command
 
-abbrev pub reaches : Option ℕ → Result Command LineFault
-reaches (Some n) = Ok (Do (Moment n))
-reaches None = Err Number
+-- `outbox N`
+abbrev pub outbox_line : List (List ℕ) → Result Command CommandFault
+outbox_line (n ∷ []) = numbered (λ n. Ask (Outbox n)) (number_of n)
+outbox_line words = bad faults.Command
 
--- `moment T`, behind its word
-abbrev pub moment_of : List ℕ → Result Command LineFault
-moment_of rest = if is_some (cut rest) then Err BadCommand else reaches (moment_in rest)
+-- `history N`
+abbrev pub history_line : List (List ℕ) → Result Command CommandFault
+history_line (n ∷ []) = numbered (λ n. Ask (History n)) (number_of n)
+history_line words = bad faults.Command
 
--- `status ID`, behind its word
-abbrev pub status_of : List ℕ → Result Command LineFault
-status_of rest = if is_some (cut rest) then Err BadCommand else (if is_id rest then Ok (Ask (Status (chars rest))) else Err Word)
+-- `quit`
+abbrev pub quit_line : List (List ℕ) → Result Command CommandFault
+quit_line [] = Ok Quit
+quit_line words = bad faults.Command
 
--- a line of more than one word; the last argument of `load` and `start` is the rest of the line
-abbrev pub with_rest : List ℕ → List ℕ → Result Command LineFault
-with_rest word rest =
-    if same word (codes "load") then loads (read_within 64 rest)
-    else (if same word (codes "start") then start_of rest
-    else (if same word (codes "settle") then settle_of rest
-    else (if same word (codes "status") then status_of rest
-    else (if same word (codes "history") then history_of rest
-    else (if same word (codes "moment") then moment_of rest
-    else Err BadCommand)))))
+-- ---- lines
 
-abbrev pub alone : List ℕ → Result Command LineFault
-alone word = if same word (codes "quit") then Ok Quit else (if same word (codes "settle") then Ok (Settle None) else Err BadCommand)
+abbrev pub line_of : Verb → List (List ℕ) → Result Command CommandFault
+line_of verbs.Load words = load_line words
+line_of verbs.Start words = start_line words
+line_of verbs.Event words = event_line words
+line_of verbs.Reply words = reply_line words
+line_of verbs.Moment words = moment_line words
+line_of verbs.Settle words = settle_line words
+line_of verbs.Status words = status_line words
+line_of verbs.Pending words = pending_line words
+line_of verbs.Outbox words = outbox_line words
+line_of verbs.History words = history_line words
+line_of verbs.Quit words = quit_line words
 
-abbrev pub spelled : List ℕ → Option (List ℕ × List ℕ) → Result Command LineFault
-spelled line None = alone line
-spelled line (Some p) = with_rest p.0 p.1
+abbrev pub asked : Option Verb → List (List ℕ) → Result Command CommandFault
+asked (Some verb) words = line_of verb words
+asked None words = bad faults.Command
+
+-- the command that some words spell, or its first fault
+abbrev pub spelled : List (List ℕ) → Result Command CommandFault
+spelled (word ∷ words) = asked (verb_of word) words
+spelled [] = bad faults.Command
 
 -- the command that a line spells, or its first fault
-abbrev pub command_of : List ℕ → Result Command LineFault
-command_of line = if is_utf8 line then spelled line (cut line) else Err BadCommand
+abbrev pub command_of : List ℕ → Result Command CommandFault
+command_of line = if is_utf8 line then spelled (words_of line) else bad faults.Command
 
 -- the line ends the session
-abbrev pub is_quit : Result Command LineFault → Bool
+abbrev pub is_quit : Result Command CommandFault → Bool
 is_quit (Ok Quit) = true
 is_quit c = false

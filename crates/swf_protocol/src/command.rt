@@ -1,5 +1,11 @@
-// The commands of a session, and the lines that spell them.
+// The commands of a session, and why a line is none.
+ghost use Rattle.std.specs.Prelude.{◌≡◌};
+ghost use Rattle.swf_protocol.specs.declared.command.CommandFault.TheVariants.{OutOfMemory};
+
+use std::alloc::AllocError;
+use swf_cloudevents::FaultKind;
 use swf_meaning::{Outcome, Query};
+use swf_text::Text;
 use thiserror::Error;
 
 /// What a line asks for.
@@ -33,4 +39,25 @@ pub enum LineFault {
     TooDeep,
     #[error("not-whole")]
     NotWhole,
+    /// A value is no reply to a call.
+    #[error("reply")]
+    Reply,
+}
+
+/// Why no command was read.
+#[derive(Drop)]
+pub enum CommandFault {
+    /// The line spells no command.
+    BadLine(LineFault),
+    /// The line has a value that is no event: the attribute, and what is wrong with it.
+    BadEvent { attribute: Text, kind: FaultKind },
+    OutOfMemory,
+}
+
+impl From<AllocError> for CommandFault {
+    ghost from_gives = { λ _ e. e ≡ OutOfMemory };
+
+    fn from(_: AllocError) -> CommandFault {
+        CommandFault::OutOfMemory
+    }
 }

@@ -2,15 +2,19 @@
 #![tactic(auto)]
 
 mod command;
+mod laws;
 mod line;
 mod notice;
 mod number;
 mod reply;
 mod spoken;
+mod verb;
+mod words;
 
-pub use command::{Command, LineFault};
-pub use line::{ReadFault, read_line};
+pub use command::{Command, CommandFault, LineFault};
+pub use laws::command_laws;
+pub use line::read_command;
 pub use notice::{damaged_line, full_line};
 pub use number::budget_of;
 pub use reply::Reply;
-pub use spoken::reply_line;
+pub use spoken::reply_bytes;

@@ -1,101 +1,65 @@
 // Reading a line as a command.
-ghost use Rattle.std.specs.Prelude.{◌≡◌, ◌≢◌, IfOk, false, option_map};
-ghost use Rattle.std.specs.List.{list_all};
-ghost use Rattle.swf_text.specs.Same.{same};
-ghost use Rattle.swf_protocol.specs.Line.{cut, is_id_char, is_id, loads, start_with, key_of, fourth, third, second, start_of, settle_of, history_of, moment_of, status_of, with_rest, alone, command_of, is_quit};
-ghost use Rattle.swf_value.specs.Read.{read_within};
-ghost use Rattle.swf_protocol.specs.Reading.{Reads, FaultIs};
+ghost use Rattle.std.specs.Prelude.{◌≡◌, ◌≢◌, ◌≤◌, [], ◌∷◌, Err, IfOk, false, chars};
+ghost use Rattle.swf_protocol.specs.Line.{bad, load_with, start_line, start_with, key_of, event_with, reply_line, reply_with, moment_line, settle_line, status_line, outbox_line, history_line, spelled, command_of, is_quit};
+ghost use Rattle.swf_protocol.specs.Reading.{Reads, fault_of, value_in};
 ghost use Rattle.swf_protocol.specs.Sayable.{IsModest};
+ghost use Rattle.swf_protocol.specs.Spelled.{IsSaid, IsSpeakable, IsWord};
+ghost use Rattle.swf_protocol.specs.Words.{words_of};
 
-use crate::command::{Command, LineFault};
+use crate::command::{Command, CommandFault, LineFault};
 use crate::number::{budget_of, moment_in, number_of};
+use crate::verb::{Verb, verb_of};
+use crate::words::{cut, is_id, only_word};
 use std::alloc::{AllocError, Global};
+use swf_calls::read_reply;
+use swf_cloudevents::{EventFault, read_event};
 use swf_document::DocKey;
 use swf_meaning::{Outcome, Query};
-use swf_text::{Text, is_digit, is_letter};
-use swf_value::{ValueFault, read_json};
-use thiserror::Error;
+use swf_text::Text;
+use swf_value::{Json, ValueFault, read_json_within};
 
-/// Why a line was not read: it spells no command, or no memory was found.
-#[derive(Clone, Copy, Debug, PartialEq, Eq, Error)]
-pub enum ReadFault {
-    #[error("{0}")]
-    Line(LineFault),
-    #[error("out of memory")]
-    OutOfMemory,
-}
+/// How deep the value of a line may nest.
+const DEPTH: u32 = 64;
 
-// The word before the first space, and what follows that space.
-fn cut(text: &str) -> Option<(&str, &str)>
-    ensures { option_map (λ p. (p.0.now, p.1.now)) result ≡ cut text.now }
+/// How deep the value of a reply may nest, whose content is one level down.
+const REPLY_DEPTH: u32 = 65;
+
+fn bad(fault: LineFault) -> Result<Command, CommandFault>
+    ensures { result ≡ bad fault }
 {
-    text.split_once(' ')
+    Err(CommandFault::BadLine(fault))
 }
 
-// A letter, a digit, `-`, `_` or `.`.
-fn is_id_char(byte: u8) -> bool
-    ensures { result ≡ is_id_char byte }
-{
-    is_letter(byte) || is_digit(byte) || byte == b'-' || byte == b'_' || byte == b'.'
-}
-
-fn all_id_chars(bytes: &[u8]) -> bool
-    ensures { result ≡ list_all is_id_char bytes.now }
-{
-    for byte in bytes {
-        if !is_id_char(*byte) {
-            return false;
-        }
-    }
-    true
-}
-
-// 1 to 64 letters, digits, `-`, `_` and `.`.
-fn is_id(bytes: &[u8]) -> bool
-    ensures { result ≡ is_id bytes.now }
-{
-    let len = bytes.len();
-    len > 0 && len <= 64 && all_id_chars(bytes)
-}
-
-fn fault_of(fault: ValueFault) -> ReadFault
-    ensures { FaultIs fault result }
+fn fault_of(fault: ValueFault) -> CommandFault
+    ensures { result ≡ fault_of fault }
 {
     match fault {
-        ValueFault::NotJson => ReadFault::Line(LineFault::NotJson),
-        ValueFault::TooDeep => ReadFault::Line(LineFault::TooDeep),
-        ValueFault::NotWhole => ReadFault::Line(LineFault::NotWhole),
-        ValueFault::OutOfMemory => ReadFault::OutOfMemory,
+        ValueFault::NotJson => CommandFault::BadLine(LineFault::NotJson),
+        ValueFault::TooDeep => CommandFault::BadLine(LineFault::TooDeep),
+        ValueFault::NotWhole => CommandFault::BadLine(LineFault::NotWhole),
+        ValueFault::OutOfMemory => CommandFault::OutOfMemory,
     }
 }
 
-// `load JSON`, behind its word.
-fn read_load(alloc: Global, rest: &str) -> Result<Command, ReadFault>
-    ensures reads { Reads result (loads (read_within 64 rest.now)) }
-    ensures modest { IfOk result IsModest }
+/// The value that a text is.
+fn read_value(alloc: Global, json: &str, depth: u32) -> Result<Json, CommandFault>
+    requires { depth ≤ 127 }
+    ensures reads { Reads result (value_in depth json.now) }
+    ensures said { IfOk result (IsSaid depth) }
 {
-    match read_json(alloc, rest.as_bytes()) {
-        Ok(value) => Ok(Command::Do(Outcome::Load(value))),
+    match read_json_within(alloc, json.as_bytes(), depth) {
+        Ok(value) => Ok(value),
         Err(fault) => Err(fault_of(fault)),
     }
 }
 
-// A start whose words have been told apart.
-fn read_start_with(alloc: Global, id: &str, key: DocKey, json: &str) -> Result<Command, ReadFault>
-    ensures reads { Reads result (start_with id.now key json.now) }
-    ensures modest { IfOk result IsModest }
+/// `load JSON`, behind its word.
+fn read_load(alloc: Global, json: &str) -> Result<Command, CommandFault>
+    ensures reads { Reads result (load_with json.now) }
+    ensures speakable { IfOk result IsSpeakable }
 {
-    if !is_id(id.as_bytes()) {
-        return Err(ReadFault::Line(LineFault::Word));
-    }
-    let input = match read_json(alloc, json.as_bytes()) {
-        Ok(input) => input,
-        Err(fault) => return Err(fault_of(fault)),
-    };
-    match Text::copy_of(alloc, id) {
-        Ok(id) => Ok(Command::Do(Outcome::Start { id, key, input })),
-        Err(_) => Err(ReadFault::OutOfMemory),
-    }
+    let value = read_value(alloc, json, DEPTH)?;
+    Ok(Command::Do(Outcome::Load(value)))
 }
 
 fn make_key(alloc: Global, namespace: &str, name: &str, version: &str) -> Result<DocKey, AllocError>
@@ -111,172 +75,200 @@ fn make_key(alloc: Global, namespace: &str, name: &str, version: &str) -> Result
     })
 }
 
-// A start from its version on.
-fn read_fourth(
-    alloc: Global,
-    id: &str,
-    namespace: &str,
-    name: &str,
-    rest: &str,
-) -> Result<Command, ReadFault>
-    ensures reads { Reads result (fourth id.now namespace.now name.now (cut rest.now)) }
-    ensures modest { IfOk result IsModest }
+/// A start whose words have been told apart.
+fn start_with(alloc: Global, id: &str, key: DocKey, json: &str) -> Result<Command, CommandFault>
+    requires namespace { IsWord key.namespace }
+    requires name { IsWord key.name }
+    requires version { IsWord key.version }
+    ensures reads { Reads result (start_with id.now key json.now) }
+    ensures speakable { IfOk result IsSpeakable }
+{
+    if !is_id(id.as_bytes()) {
+        return bad(LineFault::Word);
+    }
+    let input = read_value(alloc, json, DEPTH)?;
+    let id = Text::copy_of(alloc, id)?;
+    Ok(Command::Do(Outcome::Start { id, key, input }))
+}
+
+/// `start ID NAMESPACE NAME VERSION JSON`, behind its word.
+fn read_start(alloc: Global, rest: &str) -> Result<Command, CommandFault>
+    ensures reads { Reads result (start_line (words_of rest.now)) }
+    ensures speakable { IfOk result IsSpeakable }
+{
+    let Some((id, rest)) = cut(rest) else {
+        return bad(LineFault::Command);
+    };
+    let Some((namespace, rest)) = cut(rest) else {
+        return bad(LineFault::Command);
+    };
+    let Some((name, rest)) = cut(rest) else {
+        return bad(LineFault::Command);
+    };
+    let Some((version, json)) = cut(rest) else {
+        return bad(LineFault::Command);
+    };
+    let key = make_key(alloc, namespace, name, version)?;
+    start_with(alloc, id, key, json)
+}
+
+/// `event JSON`, behind its word.
+fn read_told(alloc: Global, json: &str) -> Result<Command, CommandFault>
+    ensures reads { Reads result (event_with json.now) }
+    ensures speakable { IfOk result IsSpeakable }
+{
+    let value = read_value(alloc, json, DEPTH)?;
+    match read_event(alloc, &value) {
+        Ok(event) => Ok(Command::Do(Outcome::Event(event))),
+        Err(EventFault::Bad { attribute, kind }) => Err(CommandFault::BadEvent { attribute, kind }),
+        Err(EventFault::OutOfMemory) => Err(CommandFault::OutOfMemory),
+    }
+}
+
+/// A reply whose words have been told apart.
+fn reply_with(alloc: Global, activity: &str, json: &str) -> Result<Command, CommandFault>
+    requires { IsWord (chars activity.now) }
+    ensures reads { Reads result (reply_with activity.now json.now) }
+    ensures speakable { IfOk result IsSpeakable }
+{
+    let value = read_value(alloc, json, REPLY_DEPTH)?;
+    let Some(reply) = read_reply(alloc, &value)? else {
+        return bad(LineFault::Reply);
+    };
+    let activity = Text::copy_of(alloc, activity)?;
+    Ok(Command::Do(Outcome::Reply { activity, reply }))
+}
+
+/// `reply ACTIVITY JSON`, behind its word.
+fn read_replied(alloc: Global, rest: &str) -> Result<Command, CommandFault>
+    ensures reads { Reads result (reply_line (words_of rest.now)) }
+    ensures speakable { IfOk result IsSpeakable }
 {
     match cut(rest) {
-        None => Err(ReadFault::Line(LineFault::Command)),
-        Some((version, json)) => match make_key(alloc, namespace, name, version) {
-            Ok(key) => read_start_with(alloc, id, key, json),
-            Err(_) => Err(ReadFault::OutOfMemory),
-        },
+        Some((activity, json)) => reply_with(alloc, activity, json),
+        None => bad(LineFault::Command),
     }
 }
 
-// A start from its name on.
-fn read_third(alloc: Global, id: &str, namespace: &str, rest: &str) -> Result<Command, ReadFault>
-    ensures reads { Reads result (third id.now namespace.now (cut rest.now)) }
-    ensures modest { IfOk result IsModest }
+/// `moment T`, behind its word.
+fn read_moment(rest: &str) -> Result<Command, CommandFault>
+    ensures reads { Reads result (moment_line (words_of rest.now)) }
+    ensures speakable { IfOk result IsSpeakable }
 {
-    match cut(rest) {
-        None => Err(ReadFault::Line(LineFault::Command)),
-        Some((name, rest)) => read_fourth(alloc, id, namespace, name, rest),
-    }
-}
-
-// A start from its namespace on.
-fn read_second(alloc: Global, id: &str, rest: &str) -> Result<Command, ReadFault>
-    ensures reads { Reads result (second id.now (cut rest.now)) }
-    ensures modest { IfOk result IsModest }
-{
-    match cut(rest) {
-        None => Err(ReadFault::Line(LineFault::Command)),
-        Some((namespace, rest)) => read_third(alloc, id, namespace, rest),
-    }
-}
-
-// `start ID NAMESPACE NAME VERSION JSON`, behind its word.
-fn read_start(alloc: Global, rest: &str) -> Result<Command, ReadFault>
-    ensures reads { Reads result (start_of rest.now) }
-    ensures modest { IfOk result IsModest }
-{
-    match cut(rest) {
-        None => Err(ReadFault::Line(LineFault::Command)),
-        Some((id, rest)) => read_second(alloc, id, rest),
-    }
-}
-
-// `settle N`, behind its word.
-fn read_settle(rest: &str) -> Result<Command, ReadFault>
-    ensures reads { Reads result (settle_of rest.now) }
-    ensures modest { IfOk result IsModest }
-{
-    if cut(rest).is_some() {
-        return Err(ReadFault::Line(LineFault::Command));
-    }
-    match budget_of(rest.as_bytes()) {
-        Some(limit) => Ok(Command::Settle(Some(limit))),
-        None => Err(ReadFault::Line(LineFault::Number)),
-    }
-}
-
-// `status ID`, behind its word.
-fn read_status(alloc: Global, rest: &str) -> Result<Command, ReadFault>
-    ensures reads { Reads result (status_of rest.now) }
-    ensures modest { IfOk result IsModest }
-{
-    if cut(rest).is_some() {
-        return Err(ReadFault::Line(LineFault::Command));
-    }
-    if !is_id(rest.as_bytes()) {
-        return Err(ReadFault::Line(LineFault::Word));
-    }
-    match Text::copy_of(alloc, rest) {
-        Ok(id) => Ok(Command::Ask(Query::Status(id))),
-        Err(_) => Err(ReadFault::OutOfMemory),
-    }
-}
-
-// `history N`, behind its word.
-fn read_history(rest: &str) -> Result<Command, ReadFault>
-    ensures reads { Reads result (history_of rest.now) }
-    ensures modest { IfOk result IsModest }
-{
-    if cut(rest).is_some() {
-        return Err(ReadFault::Line(LineFault::Command));
-    }
-    match number_of(rest.as_bytes()) {
-        Some(place) => Ok(Command::Ask(Query::History(place))),
-        None => Err(ReadFault::Line(LineFault::Number)),
-    }
-}
-
-// `moment T`, behind its word.
-fn read_moment(rest: &str) -> Result<Command, ReadFault>
-    ensures reads { Reads result (moment_of rest.now) }
-    ensures modest { IfOk result IsModest }
-{
-    if cut(rest).is_some() {
-        return Err(ReadFault::Line(LineFault::Command));
-    }
-    match moment_in(rest.as_bytes()) {
+    let Some(word) = only_word(rest) else {
+        return bad(LineFault::Command);
+    };
+    match moment_in(word.as_bytes()) {
         Some(moment) => Ok(Command::Do(Outcome::Moment(moment))),
-        None => Err(ReadFault::Line(LineFault::Number)),
+        None => bad(LineFault::Number),
     }
 }
 
-fn is_word(word: &str, known: &str) -> bool
-    ensures { result ≡ same word.now known.now }
+/// `settle N`, behind its word.
+fn read_settle(rest: &str) -> Result<Command, CommandFault>
+    ensures reads { Reads result (settle_line (words_of rest.now)) }
+    ensures speakable { IfOk result IsSpeakable }
 {
-    word == known
-}
-
-// A line of more than one word.
-fn read_with_rest(alloc: Global, word: &str, rest: &str) -> Result<Command, ReadFault>
-    ensures reads { Reads result (with_rest word.now rest.now) }
-    ensures modest { IfOk result IsModest }
-{
-    if is_word(word, "load") {
-        read_load(alloc, rest)
-    } else if is_word(word, "start") {
-        read_start(alloc, rest)
-    } else if is_word(word, "settle") {
-        read_settle(rest)
-    } else if is_word(word, "status") {
-        read_status(alloc, rest)
-    } else if is_word(word, "history") {
-        read_history(rest)
-    } else if is_word(word, "moment") {
-        read_moment(rest)
-    } else {
-        Err(ReadFault::Line(LineFault::Command))
+    let Some(word) = only_word(rest) else {
+        return bad(LineFault::Command);
+    };
+    match budget_of(word.as_bytes()) {
+        Some(limit) => Ok(Command::Settle(Some(limit))),
+        None => bad(LineFault::Number),
     }
 }
 
-// A line of one word.
-fn read_alone(word: &str) -> Result<Command, ReadFault>
-    ensures reads { Reads result (alone word.now) }
-    ensures modest { IfOk result IsModest }
-    ensures memory { result ≢ Err ReadFault.OutOfMemory }
+/// `status ID`, behind its word.
+fn read_status(alloc: Global, rest: &str) -> Result<Command, CommandFault>
+    ensures reads { Reads result (status_line (words_of rest.now)) }
+    ensures speakable { IfOk result IsSpeakable }
 {
-    if is_word(word, "quit") {
-        Ok(Command::Quit)
-    } else if is_word(word, "settle") {
-        Ok(Command::Settle(None))
-    } else {
-        Err(ReadFault::Line(LineFault::Command))
+    let Some(word) = only_word(rest) else {
+        return bad(LineFault::Command);
+    };
+    if !is_id(word.as_bytes()) {
+        return bad(LineFault::Word);
+    }
+    let id = Text::copy_of(alloc, word)?;
+    Ok(Command::Ask(Query::Status(id)))
+}
+
+/// `outbox N`, behind its word.
+fn read_outbox(rest: &str) -> Result<Command, CommandFault>
+    ensures reads { Reads result (outbox_line (words_of rest.now)) }
+    ensures speakable { IfOk result IsSpeakable }
+{
+    let Some(word) = only_word(rest) else {
+        return bad(LineFault::Command);
+    };
+    match number_of(word.as_bytes()) {
+        Some(number) => Ok(Command::Ask(Query::Outbox(number))),
+        None => bad(LineFault::Number),
+    }
+}
+
+/// `history N`, behind its word.
+fn read_history(rest: &str) -> Result<Command, CommandFault>
+    ensures reads { Reads result (history_line (words_of rest.now)) }
+    ensures speakable { IfOk result IsSpeakable }
+{
+    let Some(word) = only_word(rest) else {
+        return bad(LineFault::Command);
+    };
+    match number_of(word.as_bytes()) {
+        Some(place) => Ok(Command::Ask(Query::History(place))),
+        None => bad(LineFault::Number),
+    }
+}
+
+/// A line of more than one word.
+fn read_more(alloc: Global, word: &str, rest: &str) -> Result<Command, CommandFault>
+    ensures reads { Reads result (spelled (word.now ∷ words_of rest.now)) }
+    ensures speakable { IfOk result IsSpeakable }
+{
+    let Some(verb) = verb_of(word) else {
+        return bad(LineFault::Command);
+    };
+    match verb {
+        Verb::Load => read_load(alloc, rest),
+        Verb::Start => read_start(alloc, rest),
+        Verb::Event => read_told(alloc, rest),
+        Verb::Reply => read_replied(alloc, rest),
+        Verb::Moment => read_moment(rest),
+        Verb::Settle => read_settle(rest),
+        Verb::Status => read_status(alloc, rest),
+        Verb::Outbox => read_outbox(rest),
+        Verb::History => read_history(rest),
+        Verb::Pending | Verb::Quit => bad(LineFault::Command),
+    }
+}
+
+/// A line of one word.
+fn read_alone(word: &str) -> Result<Command, CommandFault>
+    ensures reads { result ≡ spelled (word.now ∷ []) }
+    ensures speakable { IfOk result IsSpeakable }
+    ensures memory { result ≢ Err CommandFault.OutOfMemory }
+{
+    match verb_of(word) {
+        Some(Verb::Settle) => Ok(Command::Settle(None)),
+        Some(Verb::Pending) => Ok(Command::Ask(Query::Pending)),
+        Some(Verb::Quit) => Ok(Command::Quit),
+        _ => bad(LineFault::Command),
     }
 }
 
 /// Reads a line as a command, or says its first fault from the left. `quit` needs no memory.
-pub fn read_line(alloc: Global, line: &[u8]) -> Result<Command, ReadFault>
+pub fn read_command(alloc: Global, line: &[u8]) -> Result<Command, CommandFault>
     ensures reads { Reads result (command_of line.now) }
     ensures modest { IfOk result IsModest }
-    ensures memory { result ≡ Err ReadFault.OutOfMemory → is_quit (command_of line.now) ≡ false }
+    ensures speakable { IfOk result IsSpeakable }
+    ensures memory { result ≡ Err CommandFault.OutOfMemory → is_quit (command_of line.now) ≡ false }
 {
     let Ok(text) = str::from_utf8(line) else {
-        return Err(ReadFault::Line(LineFault::Command));
+        return bad(LineFault::Command);
     };
     match cut(text) {
-        Some((word, rest)) => read_with_rest(alloc, word, rest),
+        Some((word, rest)) => read_more(alloc, word, rest),
         None => read_alone(text),
     }
 }

@@ -56,6 +56,7 @@ pub fn number_of(bytes: &[u8]) -> Option<u64>
 pub fn budget_of(bytes: &[u8]) -> Option<u64>
     ensures budget { result ≡ budget_of bytes.now }
     ensures modest { IfSome result (λ n. n ≤ 1000000) }
+    ensures some { IfSome result (λ n. 0 < n) }
 {
     let number = number_of(bytes)?;
     if number > 0 && number <= MOST_STEPS {

@@ -1,7 +1,9 @@
 // The replies of a session.
 use crate::command::LineFault;
+use swf_cloudevents::FaultKind;
 use swf_document::Faults;
 use swf_duration::Moment;
+use swf_text::Text;
 use swf_value::Json;
 
 /// What an input is answered.
@@ -11,6 +13,10 @@ pub enum Reply {
     Loaded(u64),
     /// An instance was started; so many labels came before.
     Started(u64),
+    /// An event was told, and so many strands took it; so many labels came before.
+    Accepted { place: u64, taken: u32 },
+    /// A call was answered; so many labels came before.
+    Replied(u64),
     /// A moment was reached; so many labels came before.
     Reached(u64),
     /// So many steps were taken, and no more can be.
@@ -19,12 +25,18 @@ pub enum Reply {
     Budget(u64),
     /// The report of an instance.
     Report(Json),
+    /// What all instances wait for.
+    Pending(Json),
+    /// Events that went out.
+    Outbox(Json),
     /// Labels of the history as they print.
     History(Json),
     /// The session ends.
     Quit,
     /// The line spells no command.
     BadLine(LineFault),
+    /// The value is no event: the attribute, and what is wrong with it.
+    BadEvent { attribute: Text, kind: FaultKind },
     /// The line is longer than a line may be.
     TooLong,
     /// The value is no document, for these faults.
@@ -35,6 +47,8 @@ pub enum Reply {
     UnknownDocument,
     /// There is no instance of that id.
     UnknownInstance,
+    /// No call of that activity is open.
+    Stale,
     /// The moment is not above the present one, which is this.
     Past(Moment),
     /// No more of its kind are taken.

@@ -91,13 +91,13 @@ text_behind field rest t h e =
 
 -- ---- values
 
--- each value that nests at most 64 deep is read again from its text
-pub read_again : (v : Value) → IsValue v → depth v ≤ 64 → read_within 64 (written v) ≡ Ok v
-read_again v valued nests = shallow 64 (written v) (data_of v) (Some v) (IsUtf8-written v valued, read-written v valued (omega arith)) (omega (arith, depth-data_of v)) (sym (whole-data_of v valued))
+-- each value that nests at most so deep as is read is read again from its text
+pub read_again : (most : ℕ) (v : Value) → most ≤ 127 → IsValue v → depth v ≤ most → read_within most (written v) ≡ Ok v
+read_again most v below valued nests = shallow most (written v) (data_of v) (Some v) (IsUtf8-written v valued, read-written v valued (omega arith)) (omega (arith, depth-data_of v)) (sym (whole-data_of v valued))
 
-compact_ahead : (v : Value) → FitsValue v → compact (written v) ≡ Some v
+compact_ahead : (most : ℕ) (v : Value) → FitsValue most v → compact most (written v) ≡ Some v
 unfolding compact
-compact_ahead v h = rw (h.again, (bytes_eq-Decides (written v) (written v)).1 refl) refl
+compact_ahead most v h = rw (h.again, (bytes_eq-Decides (written v) (written v)).1 refl) refl
 
 if_written_is : (b : List ℕ) (r : Result Value ValueFault) (v : Value) → if_written b (result_ok r) ≡ Some v → (written v ≡ b) × (r ≡ Ok v)
 if_written_is b (Err e) v h = cc
@@ -105,25 +105,25 @@ if_written_is b (Ok x) v h =
     let p = if_some (bytes_eq (written x) b) x v h in
     (ap written (sym p.1) ∙ (bytes_eq-Decides (written x) b).0 p.0, ap Ok p.1)
 
-compact_behind : (b : List ℕ) (v : Value) → compact b ≡ Some v → (written v ≡ b) × (read_within 64 b ≡ Ok v)
+compact_behind : (most : ℕ) (b : List ℕ) (v : Value) → compact most b ≡ Some v → (written v ≡ b) × (read_within most b ≡ Ok v)
 unfolding compact
-compact_behind b v e = if_written_is b (read_within 64 b) v e
+compact_behind most b v e = if_written_is b (read_within most b) v e
 
-pub value_ahead : (v : Value) (rest : List ℕ) → FitsValue v → value_in (value_bytes v ++ rest) ≡ Ok (v, rest)
+pub value_ahead : (most : ℕ) (v : Value) (rest : List ℕ) → FitsValue most v → value_in most (value_bytes v ++ rest) ≡ Ok (v, rest)
 unfolding value_in value_bytes
-value_ahead v rest h = rw (block_ahead (written v) rest h.short, compact_ahead v h) refl
+value_ahead most v rest h = rw (block_ahead (written v) rest h.short, compact_ahead most v h) refl
 
--- a value that is read also nests at most 64 deep
-pub value_behind : (field rest : List ℕ) (v : Value) → AreBytes field → value_in field ≡ Ok (v, rest) → Found value_bytes (λ v. (depth v ≤ 64) × FitsValue v) field v rest
+-- a value that is read also nests at most so deep
+pub value_behind : (most : ℕ) (field rest : List ℕ) (v : Value) → AreBytes field → value_in most field ≡ Ok (v, rest) → Found value_bytes (λ v. (depth v ≤ most) × FitsValue most v) field v rest
 unfolding value_in value_bytes
-value_behind field rest v h e =
+value_behind most field rest v h e =
     let b = then_read (block_in field) _ (v, rest) e in
     let found = block_behind field b.0.1 b.0.0 h b.1 in
-    let value = meant_is field b.0.1 (compact b.0.0) v rest b.2 in
-    let read = compact_behind b.0.0 v value.0 in
+    let value = meant_is field b.0.1 (compact most b.0.0) v rest b.2 in
+    let read = compact_behind most b.0.0 v value.0 in
     record {
       is = found.is ∙ ap₂ (λ b more. block_bytes b ++ more) (sym read.0) value.1;
-      fits = (depth-read 64 b.0.0 v read.1, record { short = subst (λ b. length b < 2 ^ 32) (sym read.0) found.fits; again = subst (λ b. read_within 64 b ≡ Ok v) (sym read.0) read.1 });
+      fits = (depth-read most b.0.0 v read.1, record { short = subst (λ b. length b < 2 ^ 32) (sym read.0) found.fits; again = subst (λ b. read_within most b ≡ Ok v) (sym read.0) read.1 });
       left = subst AreBytes value.1 found.left;
     }
 

@@ -5,7 +5,7 @@ use Rattle.std.proofs.lemmas.List.{length-drop}
 use Rattle.std.specs.Int.{Width, byte_len, from_be_bytes}
 use Rattle.std.proofs.lemmas.Result.{err_from_is_err_and}
 use Rattle.std.specs.Result.{IsErrAnd}
-use Rattle.swf_record.specs.Decodes.{Reading, ◌>>=◌, number_in, many_in, load_in, start_in, moment_in, step_in, label_in}
+use Rattle.swf_record.specs.Decodes.{Reading, ◌>>=◌, number_in, many_in, load_in, start_in, event_in, reply_in, moment_in, step_in, label_in}
 use Rattle.swf_record.specs.Told.{told, Tells}
 use Rattle.swf_record.specs.declared.reader.Stop.{Stop}
 use Rattle.swf_record.specs.declared.reader.Stop.TheVariants.{OutOfMemory}
@@ -118,6 +118,14 @@ pub start_label : (field rest : List ℕ) (tag : ℕ) → field ≡ tag ∷ rest
 unfolding label_in
 start_label field rest tag e t = rw (e, t) refl
 
+pub event_label : (field rest : List ℕ) (tag : ℕ) → field ≡ tag ∷ rest → tag ≡ 3 → label_in field ≡ event_in rest
+unfolding label_in
+event_label field rest tag e t = rw (e, t) refl
+
+pub reply_label : (field rest : List ℕ) (tag : ℕ) → field ≡ tag ∷ rest → tag ≡ 4 → label_in field ≡ reply_in rest
+unfolding label_in
+reply_label field rest tag e t = rw (e, t) refl
+
 pub moment_label : (field rest : List ℕ) (tag : ℕ) → field ≡ tag ∷ rest → tag ≡ 5 → label_in field ≡ moment_in rest
 unfolding label_in
 moment_label field rest tag e t = rw (e, t) refl
@@ -126,9 +134,9 @@ pub step_label : (field rest : List ℕ) (tag : ℕ) → field ≡ tag ∷ rest 
 unfolding label_in
 step_label field rest tag e t = rw (e, t) refl
 
-pub other_label : (field rest : List ℕ) (tag : ℕ) → field ≡ tag ∷ rest → (tag ≡ 1 → ⊥) → (tag ≡ 2 → ⊥) → (tag ≡ 5 → ⊥) → (tag ≡ 6 → ⊥) → label_in field ≡ Err field
+pub other_label : (field rest : List ℕ) (tag : ℕ) → field ≡ tag ∷ rest → (tag ≡ 1 → ⊥) → (tag ≡ 2 → ⊥) → (tag ≡ 3 → ⊥) → (tag ≡ 4 → ⊥) → (tag ≡ 5 → ⊥) → (tag ≡ 6 → ⊥) → label_in field ≡ Err field
 unfolding label_in
-other_label field rest tag e one two five six = rw (e, ne_eqb tag 1 one, ne_eqb tag 2 two, ne_eqb tag 5 five, ne_eqb tag 6 six) refl
+other_label field rest tag e one two three four five six = rw (e, ne_eqb tag 1 one, ne_eqb tag 2 two, ne_eqb tag 3 three, ne_eqb tag 4 four, ne_eqb tag 5 five, ne_eqb tag 6 six) refl
 
 -- the same reading
 pub tells_same : {C D : Type 0} (f : C → D) (result : Result C Stop) (rest : List ℕ) (r s : Reading D) → s ≡ r → Tells f result rest r → Tells f result rest s

@@ -6,8 +6,10 @@ use Rattle.std.specs.Str.{encode_utf8_all, all_scalars}
 use Rattle.swf_value.specs.Value.{Value, depth}
 use Rattle.swf_value.specs.Written.{written}
 use Rattle.swf_value.specs.Read.{read_within}
+use Rattle.swf_calls.specs.Reply.{reply_value, IsInRange}
+use Rattle.swf_cloudevents.specs.Event.{event_of, event_value}
 use Rattle.swf_meaning.specs.declared.label.Label.{Label}
-use Rattle.swf_meaning.specs.declared.label.Label.TheVariants.{Load, Start, Moment, Step}
+use Rattle.swf_meaning.specs.declared.label.Label.TheVariants.{Load, Start, Event, Reply, Moment, Step}
 
 unfoldable pub two_bytes : ℕ → List ℕ
 two_bytes n = to_be_bytes w16 n
@@ -39,6 +41,8 @@ abbrev pub label_bytes : Label → List ℕ
 label_bytes (Load v) = 1 ∷ value_bytes v
 label_bytes (Start id key input) =
     2 ∷ (text_bytes id ++ (text_bytes key.namespace ++ (text_bytes key.name ++ (text_bytes key.version ++ value_bytes input))))
+label_bytes (Event event) = 3 ∷ value_bytes (event_value event)
+label_bytes (Reply activity reply) = 4 ∷ (text_bytes activity ++ value_bytes (reply_value reply))
 label_bytes (Moment moment) = 5 ∷ eight_bytes moment
 label_bytes (Step id strand) = 6 ∷ (text_bytes id ++ strand_bytes strand)
 
@@ -50,10 +54,13 @@ labels_bytes ls = four_bytes (length ls) ++ flat_map label_bytes ls
 abbrev pub label_place : List Label → ℕ
 label_place ls = 4 + length (flat_map label_bytes ls)
 
--- the values of a label nest at most 64 deep
+-- the values of a label nest at most 64 deep, and the object around a reply's one deeper; an event is read from its own value,
+-- and the status of a reply is one
 abbrev pub Nests : Label → Type 0
 Nests (Load v) = depth v ≤ 64
 Nests (Start id key input) = depth input ≤ 64
+Nests (Event event) = (depth (event_value event) ≤ 64) × (event_of (event_value event) ≡ Ok event)
+Nests (Reply activity reply) = (depth (reply_value reply) ≤ 65) × IsInRange reply
 Nests (Moment moment) = Unit {0}
 Nests (Step id strand) = Unit {0}
 
@@ -62,10 +69,10 @@ pub record FitsText (t : List ℕ) : Type 0 where
   pub scalars : all_scalars t ≡ true
   pub short : length (encode_utf8_all t) < 2 ^ 32
 
--- a value whose compact text four bytes can count, and is read as this value
-pub record FitsValue (v : Value) : Type 0 where
+-- a value whose compact text four bytes can count, and is read as this value where so many levels are read at most
+pub record FitsValue (most : ℕ) (v : Value) : Type 0 where
   pub short : length (written v) < 2 ^ 32
-  pub again : read_within 64 (written v) ≡ Ok v
+  pub again : read_within most (written v) ≡ Ok v
 
 -- a strand whose numbers and count have two bytes each
 pub record FitsStrand (s : List ℕ) : Type 0 where
@@ -77,8 +84,10 @@ abbrev pub last_moment : ℕ
 last_moment = 4503599627370495
 
 abbrev pub FieldsFit : Label → Type 0
-FieldsFit (Load v) = FitsValue v
-FieldsFit (Start id key input) = FitsText id × FitsText key.namespace × FitsText key.name × FitsText key.version × FitsValue input
+FieldsFit (Load v) = FitsValue 64 v
+FieldsFit (Start id key input) = FitsText id × FitsText key.namespace × FitsText key.name × FitsText key.version × FitsValue 64 input
+FieldsFit (Event event) = FitsValue 64 (event_value event)
+FieldsFit (Reply activity reply) = FitsText activity × FitsValue 65 (reply_value reply)
 FieldsFit (Moment moment) = moment ≤ last_moment
 FieldsFit (Step id strand) = FitsText id × FitsStrand strand
 

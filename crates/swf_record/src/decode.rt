@@ -1,12 +1,14 @@
 // From bytes to labels.
 ghost use Rattle.std.specs.Prelude.{◌≡◌, ℕ, Ok, Err, IfOk};
-ghost use Rattle.swf_record.specs.Decodes.{load_in, start_in, moment_in, step_in, label_in, many_in, record_in, decoded};
+ghost use Rattle.swf_record.specs.Decodes.{load_in, start_in, event_in, reply_in, moment_in, step_in, label_in, many_in, record_in, decoded};
 ghost use Rattle.swf_record.specs.Encodes.{Encodes};
 ghost use Rattle.swf_record.specs.Told.{Tells};
 
+use crate::event::told_event;
 use crate::fault::RecordFault;
 use crate::reader::{Reader, Stop};
 use std::alloc::Global;
+use swf_calls::read_reply;
 use swf_document::DocKey;
 use swf_duration::Moment;
 use swf_meaning::Label;
@@ -69,6 +71,8 @@ fn read_label(alloc: Global, reader: &mut Reader<'_>) -> Result<Label, Stop>
     match *tag {
         1 => read_load(alloc, reader),
         2 => read_start(alloc, reader),
+        3 => read_event(alloc, reader),
+        4 => read_answered(alloc, reader),
         5 => read_moment(reader),
         6 => read_step(alloc, reader),
         _ => {
@@ -81,7 +85,7 @@ fn read_label(alloc: Global, reader: &mut Reader<'_>) -> Result<Label, Stop>
 fn read_load(alloc: Global, reader: &mut Reader<'_>) -> Result<Label, Stop>
     ensures { Tells (λ l. l) result reader.new.rest.now (load_in reader.old.rest.now) }
 {
-    Ok(Label::Load(reader.value(alloc)?))
+    Ok(Label::Load(reader.value(alloc, 64)?))
 }
 
 fn read_start(alloc: Global, reader: &mut Reader<'_>) -> Result<Label, Stop>
@@ -91,13 +95,43 @@ fn read_start(alloc: Global, reader: &mut Reader<'_>) -> Result<Label, Stop>
     let namespace = reader.text(alloc)?;
     let name = reader.text(alloc)?;
     let version = reader.text(alloc)?;
-    let input = reader.value(alloc)?;
+    let input = reader.value(alloc, 64)?;
     let key = DocKey {
         namespace,
         name,
         version,
     };
     Ok(Label::Start { id, key, input })
+}
+
+fn read_event(alloc: Global, reader: &mut Reader<'_>) -> Result<Label, Stop>
+    ensures { Tells (λ l. l) result reader.new.rest.now (event_in reader.old.rest.now) }
+{
+    let field = reader.rest;
+    let value = reader.value(alloc, 64)?;
+    match told_event(alloc, &value)? {
+        Some(event) => Ok(Label::Event(event)),
+        None => {
+            reader.rest = field;
+            Err(Stop::Misfit)
+        }
+    }
+}
+
+/// A call that was answered. The object around the reply's values nests one deeper than they may.
+fn read_answered(alloc: Global, reader: &mut Reader<'_>) -> Result<Label, Stop>
+    ensures { Tells (λ l. l) result reader.new.rest.now (reply_in reader.old.rest.now) }
+{
+    let activity = reader.text(alloc)?;
+    let field = reader.rest;
+    let value = reader.value(alloc, 65)?;
+    match read_reply(alloc, &value)? {
+        Some(reply) => Ok(Label::Reply { activity, reply }),
+        None => {
+            reader.rest = field;
+            Err(Stop::Misfit)
+        }
+    }
 }
 
 fn read_moment(reader: &mut Reader<'_>) -> Result<Label, Stop>

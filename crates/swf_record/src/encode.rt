@@ -1,10 +1,12 @@
 // From labels to bytes.
-ghost use Rattle.std.specs.Prelude.{◌≡◌, ◌++◌, ◌+◌, ◌^◌, ◌<◌, ◌≤◌, length, IfOk, OnOk};
+ghost use Rattle.std.specs.Prelude.{◌≡◌, ◌++◌, ◌+◌, ◌^◌, ◌<◌, ◌≤◌, ℕ, length, IfOk, OnOk};
 ghost use Rattle.std.specs.List.{AllByRecursion};
 ghost use Rattle.swf_value.specs.Value.{depth};
 ghost use Rattle.swf_record.specs.Encodes.{two_bytes, four_bytes, eight_bytes, block_bytes, text_bytes, value_bytes, strand_bytes, label_bytes, Nests, FitsText, FitsValue, FitsStrand, Fits, Encodes};
 
 use std::alloc::{AllocError, Global};
+use swf_calls::reply_json;
+use swf_cloudevents::event_json;
 use swf_document::DocKey;
 use swf_meaning::Label;
 use swf_text::{Strand, Text};
@@ -42,6 +44,15 @@ fn write_label(alloc: Global, label: &Label, out: &mut Vec<u8>) -> Result<(), Al
             write_key(key, out)?;
             write_value(alloc, input, out)
         }
+        Label::Event(event) => {
+            out.push(3)?;
+            write_value(alloc, &event_json(alloc, event)?, out)
+        }
+        Label::Reply { activity, reply } => {
+            out.push(4)?;
+            write_text(activity, out)?;
+            write_value(alloc, &reply_json(alloc, reply)?, out)
+        }
         Label::Moment(moment) => {
             out.push(5)?;
             write_eight_bytes(moment.milliseconds(), out)
@@ -77,9 +88,8 @@ fn write_text(text: &Text, out: &mut Vec<u8>) -> Result<(), AllocError>
 
 #[tactic(auto, unfolding(crate::specs::Encodes::value_bytes))]
 fn write_value(alloc: Global, value: &Json, out: &mut Vec<u8>) -> Result<(), AllocError>
-    requires { depth value.now ≤ 64 }
     ensures ok { OnOk result (out.new.items ≡ out.old.items ++ value_bytes value.now) }
-    ensures fits { OnOk result (FitsValue value.now) }
+    ensures fits { OnOk result ((most : ℕ) → most ≤ 127 → depth value.now ≤ most → FitsValue most value.now) }
 {
     let mut text = Vec::new(alloc);
     write_json(value, &mut text)?;

@@ -7,10 +7,11 @@ ghost use Rattle.swf_record.specs.Decodes.{decoded};
 ghost use Rattle.swf_record.specs.Encodes.{FitsValue, Encodes};
 
 /// Bytes are read as these labels exactly where they are the bytes of these labels, which are the
-/// bytes of no other labels. Each value that nests at most 64 deep fits, where its text is short enough.
+/// bytes of no other labels. Each value that nests at most so deep as is read fits, where its text is
+/// short enough.
 pub fn record_laws()
     ensures encoded { (labels : List Label) (bytes : List ℕ) → Encodes labels bytes → decoded bytes ≡ Ok labels }
     ensures decoded { (labels : List Label) (bytes : List ℕ) → ((k : ℕ) → slice_index bytes k < 256) → decoded bytes ≡ Ok labels → Encodes labels bytes }
     ensures one { (a b : List Label) (bytes : List ℕ) → Encodes a bytes → Encodes b bytes → a ≡ b }
-    ensures values { (v : Value) → IsValue v → depth v ≤ 64 → length (written v) < 2 ^ 32 → FitsValue v }
+    ensures values { (most : ℕ) (v : Value) → most ≤ 127 → IsValue v → depth v ≤ most → length (written v) < 2 ^ 32 → FitsValue most v }
 {}

@@ -3,6 +3,7 @@
 
 mod decode;
 mod encode;
+mod event;
 mod fault;
 mod law;
 mod reader;

@@ -1,5 +1,5 @@
 // Reading fields from the left.
-ghost use Rattle.std.specs.Prelude.{◌≡◌, IfOk, IsErr, None};
+ghost use Rattle.std.specs.Prelude.{◌≡◌, ◌≤◌, IfOk, IsErr, None};
 ghost use Rattle.std.specs.Int.{w16, w32, w64};
 ghost use Rattle.std.specs.Result.{result_ok};
 ghost use Rattle.std.specs.Str.{bytes_eq};
@@ -12,7 +12,7 @@ ghost use Rattle.swf_record.specs.declared.reader.Stop.TheVariants.{OutOfMemory 
 use std::alloc::{AllocError, AllocFailed, Global};
 use std::str;
 use swf_text::{Strand, Text};
-use swf_value::{Json, ValueFault, read_json, write_json};
+use swf_value::{Json, ValueFault, read_json_within, write_json};
 
 /// Why a reader went no further.
 #[derive(Clone, Copy, Drop)]
@@ -109,13 +109,14 @@ impl<'a> Reader<'a> {
         }
     }
 
-    /// A value, which has to stand there as it is written.
-    pub(crate) fn value(&mut self, alloc: Global) -> Result<Json, Stop>
-        ensures { Tells (λ v. v) result self.new.rest.now (value_in self.old.rest.now) }
+    /// A value that nests at most so deep, which has to stand there as it is written.
+    pub(crate) fn value(&mut self, alloc: Global, depth: u32) -> Result<Json, Stop>
+        requires { depth ≤ 127 }
+        ensures { Tells (λ v. v) result self.new.rest.now (value_in depth self.old.rest.now) }
     {
         let field = self.rest;
         let bytes = self.block()?;
-        match compact_value(alloc, bytes)? {
+        match compact_value(alloc, bytes, depth)? {
             Some(value) => Ok(value),
             None => {
                 self.rest = field;
@@ -144,12 +145,13 @@ impl<'a> Reader<'a> {
     }
 }
 
-/// The value that is written as these bytes.
+/// The value that is written as these bytes, where it nests at most so deep.
 #[tactic(auto, unfolding(crate::specs::Decodes::compact))]
-fn compact_value(alloc: Global, bytes: &[u8]) -> Result<Option<Json>, AllocError>
-    ensures { IfOk result (λ o. o ≡ compact bytes.now) }
+fn compact_value(alloc: Global, bytes: &[u8], depth: u32) -> Result<Option<Json>, AllocError>
+    requires { depth ≤ 127 }
+    ensures { IfOk result (λ o. o ≡ compact depth bytes.now) }
 {
-    let Some(value) = any_value(alloc, bytes)? else {
+    let Some(value) = any_value(alloc, bytes, depth)? else {
         return Ok(None);
     };
     let same = is_written(alloc, &value, bytes)?;
@@ -157,10 +159,11 @@ fn compact_value(alloc: Global, bytes: &[u8]) -> Result<Option<Json>, AllocError
 }
 
 /// The value that these bytes are, in whatever spelling.
-fn any_value(alloc: Global, bytes: &[u8]) -> Result<Option<Json>, AllocError>
-    ensures { IfOk result (λ o. o ≡ result_ok (read_within 64 bytes.now)) }
+fn any_value(alloc: Global, bytes: &[u8], depth: u32) -> Result<Option<Json>, AllocError>
+    requires { depth ≤ 127 }
+    ensures { IfOk result (λ o. o ≡ result_ok (read_within depth bytes.now)) }
 {
-    match read_json(alloc, bytes) {
+    match read_json_within(alloc, bytes, depth) {
         Ok(value) => Ok(Some(value)),
         Err(fault) => no_value(fault),
     }

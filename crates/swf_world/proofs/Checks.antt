@@ -1,26 +1,31 @@
 -- What is looked up in the maps tells why a label is refused, and what a change has to be.
-use Rattle.std.proofs.Common.{◌≡◌, ◌∙◌, ap, sym, refl, subst, cond, ℕ, ◌<◌, ◌≤◌, ◌||◌, ◌&&◌, List, length, nat_le, Bool, true, false, is_some, Option, Some, None, option_map, option_and_then, Result, Ok, Err, IfOk, nat_lt, slice_get, position, arith}
+use Rattle.std.proofs.Common.{◌≡◌, ◌∙◌, ap, sym, refl, subst, cond, ℕ, ◌+◌, ◌<◌, ◌≤◌, ◌||◌, ◌&&◌, List, [], ◌∷◌, ◌++◌, length, nat_le, Bool, true, false, is_some, Option, Some, None, option_map, option_and_then, Result, Ok, Err, IfOk, nat_lt, slice_get, position, arith, append-nil}
 use Rattle.std.proofs.lemmas.List.{length-map}
 use Rattle.std.proofs.lemmas.Bool.{le-leb, leb-false, lt-leb, and_parts}
 use Rattle.std.specs.List.{AllByRecursion}
 use Rattle.std.specs.List.{position_or_len}
 use Rattle.std.specs.Map.{lookup, keys_of, values_of}
-use Rattle.std.proofs.lemmas.Option.{cond_some}
+use Rattle.std.proofs.lemmas.Option.{cond_some, same_Some}
 use Rattle.swf_value.specs.Value.{Value}
 use Rattle.swf_text.specs.Same.{same}
+use Rattle.swf_cloudevents.specs.declared.event.Event.{Event}
 use Rattle.swf_document.specs.declared.document.DocKey.{DocKey}
 use Rattle.swf_document.specs.declared.document.Document.{Document}
 use Rattle.swf_document.specs.declared.fault.Fault.{Fault}
+use Rattle.swf_meaning.specs.declared.key.Key.{Key}
+use Rattle.swf_meaning.specs.declared.key.Key.TheVariants as keys
 use Rattle.swf_meaning.specs.declared.label.Label.{Label}
-use Rattle.swf_meaning.specs.declared.label.Label.TheVariants.{Load, Start, Moment, Step}
-use Rattle.swf_meaning.specs.Keys.{Document as OfDocument, Instance as OfInstance}
-use Rattle.swf_meaning.specs.World.{World, Instance, new_instance, is_root}
+use Rattle.swf_meaning.specs.declared.label.Label.TheVariants.{Load, Start, Event as Told, Moment, Step}
+use Rattle.swf_meaning.specs.Complete.{Stepped}
+use Rattle.swf_meaning.specs.Offer.{offered_all}
+use Rattle.swf_meaning.specs.World.{World, Instance, new_instance, is_root, sight, with_step}
 use Rattle.swf_meaning.specs.Answer.{instance_at}
-use Rattle.swf_meaning.specs.Local.{is_enabled}
-use Rattle.swf_meaning.specs.After.{after, loaded, load_faults, accepted, is_used, document_at, most_documents, most_instances, with_document, with_instance, with_instances, stepped}
+use Rattle.swf_meaning.specs.Local.{local, is_enabled}
+use Rattle.swf_meaning.specs.After.{after, loaded, load_faults, accepted, is_used, counted, document_at, most_documents, most_instances, with_document, with_instance, with_event, with_instances, sent, taken_by}
 use Rattle.swf_world.specs.declared.change.Change.{Change}
-use Rattle.swf_world.specs.declared.key.Key.{Key}
-use Rattle.swf_world.specs.declared.change.ChangeKind.TheVariants.{Moment as MomentKind, Step as StepKind}
+use Rattle.swf_world.specs.declared.change.ChangeKind.{ChangeKind}
+use Rattle.swf_world.specs.declared.change.ChangeKind.TheVariants as kinds
+use Rattle.swf_world.specs.declared.offer.Hearing.{Hearing}
 use Rattle.swf_world.specs.declared.world.Loaded.{Loaded}
 use Rattle.swf_world.specs.declared.refusal.Refusal.{Refusal}
 use Rattle.swf_world.specs.declared.refusal.Refusal.TheVariants.{Refused as ForFaults, Full, Past, NotEnabled}
@@ -28,34 +33,36 @@ use Rattle.swf_world.specs.declared.refusal.PrepareFault.{PrepareFault}
 use Rattle.swf_world.specs.declared.refusal.PrepareFault.TheVariants.{Refused, OutOfMemory}
 use Rattle.swf_world.specs.UsedKey.{used_at, doc_eq}
 use Rattle.swf_world.specs.Held.{Held}
-use Rattle.swf_world.specs.Fields.{instances_in, keys_in, world_of}
+use Rattle.swf_world.specs.Fields.{instances_in, world_of}
 use Rattle.swf_world.specs.Kept.{IsNamed, IsPlaced}
+use Rattle.swf_world.specs.Offers.{put_at, put_all, IsHeardFrom, IsSent}
 use Rattle.swf_world.specs.Refusals.{refusal, refusal_of_load, refusal_of_start, refusal_of_moment, refusal_of_step, duplicate, cause}
-use Rattle.swf_world.specs.Changes.{Suits, SuitsStep, changed, put_at, stepped_one, with_moment}
-use Rattle.swf_world.specs.Prepares.{Prepares, load_of, start_of, or_memory}
+use Rattle.swf_world.specs.Changes.{Suits, suits, changed, changed_by, offered_own, after_step, stepped_one, with_moment, with_stepped}
+use Rattle.swf_world.specs.Prepares.{Prepares, IsTelling, IsStepping, Steps, StepsFirst, TellsTo, load_of, start_of, untold, or_memory}
 use Rattle.swf_world.specs.Queued.{enabled_at}
-use Rattle.swf_world.proofs.Lookups.{used_some, document_lookup, instance_lookup, instance_there, enabled_there, stepped_there}
+use Rattle.swf_world.proofs.Lookups.{used_some, document_lookup, instance_lookup, enabled_there, stepped_there}
+use Rattle.swf_world.proofs.OfferLemmas.{offered_past, offered_with}
 use Rattle.swf_world.proofs.StepLemmas.{entry_within}
 use Rattle.swf_world.proofs.RefusalLaws.{refused_nowhere}
 
-module _ (ds : List (DocKey × Loaded)) (is : List (List ℕ × Instance)) (ks : List (Key × ℕ)) (now n r : ℕ) (h : Held) (view : record { world = world_of ds is ks now n; room = r } ≡ h) where
+module _ (ds : List (DocKey × Loaded)) (is : List (List ℕ × Instance)) (ks : List (Key × ℕ)) (now : ℕ) (es : List Event) (n r : ℕ) (h : Held) (view : record { world = world_of ds is ks now es n; room = r } ≡ h) where
   -- the document that is found
   pub document_found : (key : DocKey) (o : Option Loaded) → AllByRecursion IsNamed ds → lookup (doc_eq key) ds ≡ o → document_at key h.world.documents ≡ option_map (λ l. l.document) o
   document_found key o named e = sym (ap (λ h. document_at key h.world.documents) view) ∙ sym (document_lookup key ds named) ∙ ap (option_map (λ l. l.document)) e
 
   -- why a start of a new id is refused, by what is found
-  pub start_refusal : (id : List ℕ) (key : DocKey) (o : Option Loaded) → AllByRecursion IsNamed ds → used_at (OfInstance id) (keys_in ks) ≡ None → lookup (doc_eq key) ds ≡ o →
-      duplicate (used_at (OfInstance id) h.world.keys) (refusal_of_start h.world (document_at key h.world.documents)) ≡ refusal_of_start (world_of ds is ks now n) (option_map (λ l. l.document) o)
+  pub start_refusal : (id : List ℕ) (key : DocKey) (o : Option Loaded) → AllByRecursion IsNamed ds → used_at (keys.Instance id) ks ≡ None → lookup (doc_eq key) ds ≡ o →
+      duplicate (used_at (keys.Instance id) h.world.keys) (refusal_of_start h.world (document_at key h.world.documents)) ≡ refusal_of_start (world_of ds is ks now es n) (option_map (λ l. l.document) o)
   start_refusal id key o named u e =
-      let keys : used_at (OfInstance id) h.world.keys ≡ None = sym (ap (λ h. used_at (OfInstance id) h.world.keys) view) ∙ u in
-      ap (λ k. duplicate k (refusal_of_start h.world (document_at key h.world.documents))) keys
+      let unused : used_at (keys.Instance id) h.world.keys ≡ None = sym (ap (λ h. used_at (keys.Instance id) h.world.keys) view) ∙ u in
+      ap (λ k. duplicate k (refusal_of_start h.world (document_at key h.world.documents))) unused
       ∙ ap (refusal_of_start h.world) (document_found key o named e)
       ∙ ap (λ h. refusal_of_start h.world (option_map (λ l. l.document) o)) (sym view)
 
-  pub too_many : (d : Document) → most_instances ≤ length is → refusal_of_start (world_of ds is ks now n) (Some d) ≡ Some Full
+  pub too_many : (d : Document) → most_instances ≤ length is → refusal_of_start (world_of ds is ks now es n) (Some d) ≡ Some Full
   too_many d e = ap (λ b. cause b Full None) (le-leb most_instances (length (instances_in is)) (omega (arith, length-map is (λ e. e.1))))
 
-  pub not_too_many : (d : Document) → length is < most_instances → refusal_of_start (world_of ds is ks now n) (Some d) ≡ None
+  pub not_too_many : (d : Document) → length is < most_instances → refusal_of_start (world_of ds is ks now es n) (Some d) ≡ None
   not_too_many d e = ap (λ b. cause b Full None) (lt-leb most_instances (length (instances_in is)) (omega (arith, length-map is (λ e. e.1))))
 
   -- the instance that is found
@@ -72,25 +79,24 @@ module _ (ds : List (DocKey × Loaded)) (is : List (List ℕ × Instance)) (ks :
   -- an instance that can take a step takes the first one's
   pub step_found : (id strand : List ℕ) (v : Instance) (number : ℕ) → AllByRecursion IsPlaced is → Some number ≡ position (same id) (keys_of is) → slice_get (values_of is) number ≡ Some v →
       true ≡ (is_root strand && is_enabled now v.node) →
-      (enabled_at h.world.now h.world.instances number ≡ true) × (is_root strand ≡ true) × ((j : Instance) → SuitsStep h.world number j → stepped h.world.now id h.world.instances ≡ Some (put_at number j h.world.instances))
+      (enabled_at h.world.now h.world.instances number ≡ true) × (is_root strand ≡ true) × StepsFirst h.world id number
   step_found id strand v number placed e at t =
       let first = cond_some (nat_lt (position_or_len (same id) (keys_of is)) (length (keys_of is))) (position_or_len (same id) (keys_of is)) number (sym e) in
       let can = and_parts (is_root strand) (is_enabled now v.node) (sym t) in
       let enabled : enabled_at now (instances_in is) number ≡ true = enabled_there now is number v at ∙ can.1 in
-      subst (λ h. (enabled_at h.world.now h.world.instances number ≡ true) × (is_root strand ≡ true) × ((j : Instance) → SuitsStep h.world number j → stepped h.world.now id h.world.instances ≡ Some (put_at number j h.world.instances))) view
-      (enabled, can.0, λ j suits. stepped_there now id is number j placed first.1 (entry_within now is number enabled) suits)
-
-  -- the instance of a number that was read
-  pub number_found : (number : ℕ) (v : Instance) → slice_get (values_of is) number ≡ Some v → slice_get h.world.instances number ≡ Some v
-  number_found number v e = sym (ap (λ h. slice_get h.world.instances number) view) ∙ instance_there is number v e
+      subst (λ h. (enabled_at h.world.now h.world.instances number ≡ true) × (is_root strand ≡ true) × StepsFirst h.world id number) view
+      (enabled, can.0, λ i m there takes. stepped_there now id is number i m placed first.1 (entry_within now is number enabled) there takes)
 
 pub none_found : {A : Type 0} (o : Option A) (p : Option ℕ) → p ≡ None → is_some p ≡ is_some o → o ≡ None
 none_found None p e f = refl
 none_found (Some x) p e f = let t : false ≡ true = ap is_some (sym e) ∙ f in cc
 
 -- a change was made, or memory was missing
-made_or_not : {E : Type 0} (w : World) (l : Label) (c : Change) (made : Result Change E) → IfOk made (λ x. x ≡ c) → Suits w c × (after w l ≡ Some (changed w c)) × (refusal w l ≡ None) → Prepares w l (or_memory made)
-made_or_not w l c (Ok x) e p = subst (λ c. Suits w c × (after w l ≡ Some (changed w c)) × (refusal w l ≡ None)) (sym e) p
+abbrev Made : World → Label → Change → Type 0
+Made w l c = Suits w c × (after w l ≡ Some (changed w c)) × (refusal w l ≡ None) × (c.taken ≡ taken_by w l)
+
+made_or_not : {E : Type 0} (w : World) (l : Label) (c : Change) (made : Result Change E) → IfOk made (λ x. x ≡ c) → Made w l c → Prepares w l (or_memory made)
+made_or_not w l c (Ok x) e p = subst (Made w l) (sym e) p
 made_or_not w l c (Err x) e p = tt
 
 no_duplicate : (o : Option ℕ) (next : Option Refusal) → duplicate o next ≡ None → (o ≡ None) × (next ≡ None)
@@ -106,15 +112,16 @@ pub not_loaded : (w : World) (v : Value) (fs : List Fault) → (accepted v ≡ N
 not_loaded w v fs h = ap (refusal_of_load w (load_faults v)) h.0 ∙ ap (λ fs. Some (ForFaults fs)) h.1
 
 -- the change of a load that is not refused
-pub load_prepares : {E : Type 0} (w : World) (v : Value) (d : Document) (made : Result Change E) → accepted v ≡ Some d → refusal_of_load w (load_faults v) (Some d) ≡ None → IfOk made (λ c. c ≡ record { kind = load_of v d }) → Prepares w (Load v) (or_memory made)
+pub load_prepares : {E : Type 0} (w : World) (v : Value) (d : Document) (made : Result Change E) → accepted v ≡ Some d → refusal_of_load w (load_faults v) (Some d) ≡ None → IfOk made (λ c. c ≡ load_of v d) → Prepares w (Load v) (or_memory made)
 load_prepares w v d made e t m =
-    let p = no_duplicate (used_at (OfDocument d.key) w.keys) (cause (nat_le most_documents (length w.documents)) Full None) t in
-    let new : is_used (OfDocument d.key) w ≡ false = sym (used_some (OfDocument d.key) w.keys) ∙ ap is_some p.0 in
+    let p = no_duplicate (used_at (keys.Document d.key) w.keys) (cause (nat_le most_documents (length w.documents)) Full None) t in
+    let new : is_used (keys.Document d.key) w ≡ false = sym (used_some (keys.Document d.key) w.keys) ∙ ap is_some p.0 in
     let few : nat_le most_documents (length w.documents) ≡ false = no_cause (nat_le most_documents (length w.documents)) Full p.1 in
-    made_or_not w (Load v) (record { kind = load_of v d }) made m (
+    made_or_not w (Load v) (load_of v d) made m (
       record { named = refl; used_is = refl; new = new },
       ap (option_and_then (loaded w v)) e ∙ (λ i. cond (new i || few i) None (Some (with_document w v d))),
       ap (refusal_of_load w (load_faults v)) e ∙ t,
+      refl,
     )
 
 no_start : (w : World) (d : Document) → refusal_of_start w (Some d) ≡ None → nat_le most_instances (length w.instances) ≡ false
@@ -122,34 +129,81 @@ no_start w d e = no_cause (nat_le most_instances (length w.instances)) Full e
 
 -- the change of a start that is not refused
 pub start_prepares : {E : Type 0} (w : World) (id : List ℕ) (key : DocKey) (input : Value) (d : Document) (now : ℕ) (made : Result Change E) → now ≡ w.now → document_at key w.documents ≡ Some d →
-    duplicate (used_at (OfInstance id) w.keys) (refusal_of_start w (document_at key w.documents)) ≡ None → IfOk made (λ c. c ≡ record { kind = start_of id d input now }) →
+    duplicate (used_at (keys.Instance id) w.keys) (refusal_of_start w (document_at key w.documents)) ≡ None → IfOk made (λ c. c ≡ start_of id d input now) →
     Prepares w (Start id key input) (or_memory made)
 start_prepares w id key input d now made same e t m =
-    let p = no_duplicate (used_at (OfInstance id) w.keys) (refusal_of_start w (document_at key w.documents)) t in
-    let new : is_used (OfInstance id) w ≡ false = sym (used_some (OfInstance id) w.keys) ∙ ap is_some p.0 in
+    let p = no_duplicate (used_at (keys.Instance id) w.keys) (refusal_of_start w (document_at key w.documents)) t in
+    let new : is_used (keys.Instance id) w ≡ false = sym (used_some (keys.Instance id) w.keys) ∙ ap is_some p.0 in
     let few : nat_le most_instances (length w.instances) ≡ false = no_start w d (ap (refusal_of_start w) (sym e) ∙ p.1) in
-    made_or_not w (Start id key input) (record { kind = start_of id d input now }) made m (
+    made_or_not w (Start id key input) (start_of id d input now) made m (
       record { placed = refl; used_is = refl; new = new; awake = refl },
       (λ i. cond (new i || few i) None (option_map (λ d. with_instance w (new_instance id input (sym same i) d)) (e i))),
       t,
+      refl,
     )
 
 -- the change of a moment that is not refused
-pub moment_prepares : (w : World) (moment : ℕ) → moment ≤ 4503599627370495 → refusal_of_moment w moment ≡ None → Prepares w (Moment moment) (Ok (record { kind = MomentKind moment }))
+pub moment_prepares : (w : World) (moment : ℕ) → moment ≤ 4503599627370495 → refusal_of_moment w moment ≡ None → Prepares w (Moment moment) (Ok (untold (kinds.Moment moment)))
 moment_prepares w moment within t =
     let late : nat_le moment w.now ≡ false = no_cause (nat_le moment w.now) (Past w.now) t in
-    (record { later = leb-false moment w.now late; within = within }, ap (λ b. cond b None (Some (with_moment w moment))) late, t)
+    (record { later = leb-false moment w.now late; within = within }, ap (λ b. cond b None (Some (with_moment w moment))) late, t, refl)
+
+-- the change of an event that is not refused
+telling : (w : World) (e : Event) (k : ChangeKind) → is_used (keys.Event e.source e.id) w ≡ false → TellsTo w.instances e k → suits w k × (after w (Told e) ≡ Some (changed_by w k))
+telling w e (kinds.Event used heard) new t =
+    let put : offered_all e w.instances ≡ put_all heard.items w.instances = sym (t.1.put ∙ offered_past (length w.instances) e w.instances (omega arith)) in (
+      record { source = e.source; id = e.id; used_is = t.0; new = ap (λ k. is_used k w) t.0 ∙ new; from = t.1.heard; few = t.1.few },
+      ap (λ b. cond b None (Some (with_event w e))) new ∙ (λ i. Some (record (counted (sym t.0 i) w) { instances = put i })),
+    )
+telling w e k new t = absurd t
+
+pub event_prepares : {E : Type 0} (w : World) (e : Event) (made : Result Change E) → duplicate (used_at (keys.Event e.source e.id) w.keys) None ≡ None → IfOk made (IsTelling w.instances e) → Prepares w (Told e) (or_memory made)
+event_prepares w e (Ok c) t m =
+    let new : is_used (keys.Event e.source e.id) w ≡ false = sym (used_some (keys.Event e.source e.id) w.keys) ∙ ap is_some (no_duplicate (used_at (keys.Event e.source e.id) w.keys) None t).0 in
+    let p = telling w e c.kind new m.tells in
+    (p.0, p.1, t, m.taken)
+event_prepares w e (Err x) t m = tt
+
+-- an instance that takes a step
+one_step : (now : ℕ) (o : Option Instance) (p : Instance × Option Event) → option_and_then (stepped_one now) o ≡ Some p → (i : Instance) × (m : Stepped) × (o ≡ Some i) × (local (sight now i) i.node ≡ Some m) × (after_step i m ≡ p)
+one_step now None p e = cc
+one_step now (Some i) p e = by (local (sight now i) i.node) refl e
+  where
+    by : (o : Option Stepped) → local (sight now i) i.node ≡ o → option_map (after_step i) o ≡ Some p →
+        (j : Instance) × (m : Stepped) × (Some i ≡ Some j) × (local (sight now j) j.node ≡ Some m) × (after_step j m ≡ p)
+    by None h e = cc
+    by (Some m) h e = (i, m, refl, h, same_Some (after_step i m) p e)
+
+-- those that took the event that goes out, where one does
+sent_from : (n : ℕ) (o : Option Event) (is : List Instance) (hs : List Hearing) → IsSent n o is hs → AllByRecursion (IsHeardFrom is) hs × (length hs ≤ length is)
+sent_from n None is hs s = subst (λ hs. AllByRecursion (IsHeardFrom is) hs × (length hs ≤ length is)) (sym s) (tt, omega arith)
+sent_from n (Some e) is hs s = (s.heard, s.few)
+
+-- an event that goes out is offered to the others, and to the instance itself
+sent_is : (w : World) (n : ℕ) (j : Instance) (o : Option Event) (hs : List Hearing) → IsSent n o w.instances hs → sent (record w { instances = put_at n j w.instances; count = w.count + 1 }) o ≡ with_stepped w n (offered_own o j) o hs
+sent_is w n j None hs s = λ i. record w { instances = put_at n j (put_all (sym s i) w.instances); outbox = sym (append-nil w.outbox) i; count = w.count + 1 }
+sent_is w n j (Some e) hs s =
+    let put = sym (offered_with n e j w.instances) ∙ ap (put_at n (offered_own (Some e) j)) (sym s.put) in
+    λ i. record w { instances = put i; outbox = w.outbox ++ e ∷ []; count = w.count + 1 }
 
 -- the change of a step that is not refused
-pub step_prepares : {E : Type 0} (w : World) (id strand : List ℕ) (number : ℕ) (i : Instance) (now : ℕ) (made : Result Change E) → now ≡ w.now → slice_get w.instances number ≡ Some i → is_root strand ≡ true →
-    ((j : Instance) → SuitsStep w number j → stepped w.now id w.instances ≡ Some (put_at number j w.instances)) → refusal_of_step w.now strand (instance_at id w.instances) ≡ None →
-    IfOk made (λ c. (j : Instance) × (c ≡ record { kind = StepKind number j }) × (stepped_one now i ≡ Some j)) → Prepares w (Step id strand) (or_memory made)
-step_prepares w id strand number i now (Ok c) same at root found t m =
-    let suits : SuitsStep w number m.0 = ap (option_and_then (stepped_one w.now)) at ∙ ap (λ n. stepped_one n i) (sym same) ∙ m.2 in
-    let step = found m.0 suits in
-    subst (λ c. Suits w c × (after w (Step id strand) ≡ Some (changed w c)) × (refusal w (Step id strand) ≡ None)) (sym m.1)
-    (suits, (λ k. cond (root k) (option_map (with_instances w) (step k)) None), t)
-step_prepares w id strand number i now (Err x) same at root found t m = tt
+stepping : (w : World) (id strand : List ℕ) (n : ℕ) (k : ChangeKind) → is_root strand ≡ true → StepsFirst w id n → Steps w.now n w.instances k → suits w k × (after w (Step id strand) ≡ Some (changed_by w k))
+stepping w id strand n (kinds.Step m j o heard) root first s =
+    let one = one_step w.now (slice_get w.instances n) (j, o) s.1 in
+    let from = sent_from n o w.instances heard.items s.2 in
+    let sends : IsSent n one.1.emitted w.instances heard.items = subst (λ o. IsSent n o w.instances heard.items) (sym (ap (λ p. p.1) one.4)) s.2 in
+    let next = sent_is w n (with_step one.0 one.1) one.1.emitted heard.items sends ∙ (λ i. with_stepped w (sym s.0 i) (one.4 i).0 (one.4 i).1 heard.items) in (
+      record { stepped = ap (λ n. option_and_then (stepped_one w.now) (slice_get w.instances n)) s.0 ∙ s.1; from = from.0; few = from.1 },
+      (λ i. cond (root i) (option_map (with_instances w) (first one.0 one.1 one.2 one.3 i)) None) ∙ ap (λ w. Some w) next,
+    )
+stepping w id strand n k root first s = absurd s
+
+pub step_prepares : {E : Type 0} (w : World) (id strand : List ℕ) (number : ℕ) (made : Result Change E) → is_root strand ≡ true → StepsFirst w id number → refusal_of_step w.now strand (instance_at id w.instances) ≡ None →
+    IfOk made (IsStepping w.now number w.instances) → Prepares w (Step id strand) (or_memory made)
+step_prepares w id strand number (Ok c) root first t m =
+    let p = stepping w id strand number c.kind root first m.steps in
+    (p.0, p.1, t, m.taken)
+step_prepares w id strand number (Err x) root first t m = tt
 
 -- a label that was refused has that cause, and leads nowhere
 prepared_refused : (w : World) (l : Label) (result : Result Change PrepareFault) (r : Refusal) → Prepares w l result → result ≡ Err (Refused r) → (refusal w l ≡ Some r) × (after w l ≡ None)

@@ -2,18 +2,20 @@
 use Rattle.std.proofs.Common.{◌≡◌, subst, cond, ℕ, ◌≤◌, List, [], ◌∷◌, nat_le, Bool, true, false, Option, Some, None, refl}
 use Rattle.std.specs.List.{AllByRecursion}
 use Rattle.swf_meaning.specs.declared.label.Label.{Label}
-use Rattle.swf_meaning.specs.declared.label.Label.TheVariants.{Load, Start, Moment, Step}
+use Rattle.swf_meaning.specs.declared.label.Label.TheVariants.{Load, Start, Event, Reply, Moment, Step}
 use Rattle.swf_document.specs.declared.document.Document.{Document}
 use Rattle.swf_document.specs.declared.fault.Fault.{Fault}
 use Rattle.swf_meaning.specs.After.{accepted, load_faults, document_at}
 use Rattle.swf_meaning.specs.Answer.{instance_at}
-use Rattle.swf_meaning.specs.Keys.{Key, Document as OfDocument, Instance as OfInstance, same_key}
+use Rattle.swf_meaning.specs.declared.key.Key.{Key}
+use Rattle.swf_meaning.specs.declared.key.Key.TheVariants as keys
+use Rattle.swf_meaning.specs.Keys.{same_key}
 use Rattle.swf_meaning.specs.World.{World, Instance}
 use Rattle.swf_world.specs.declared.refusal.Refusal.{Refusal}
-use Rattle.swf_world.specs.declared.refusal.Refusal.TheVariants.{Refused, Duplicate, UnknownDocument, UnknownInstance, Full, Past, NotEnabled}
+use Rattle.swf_world.specs.declared.refusal.Refusal.TheVariants.{Refused, Duplicate, Stale, UnknownDocument, UnknownInstance, Full, Past, NotEnabled}
 use Rattle.swf_world.specs.Early.{IsEarly, IsEarlyRefusal}
 use Rattle.swf_world.specs.Fields.{most_labels}
-use Rattle.swf_world.specs.Refusals.{duplicate, cause, refusal_of_load, refusal_of_start, refusal_of_step, refusal}
+use Rattle.swf_world.specs.Refusals.{duplicate, cause, refusal_of_load, refusal_of_start, refusal_of_reply, refusal_of_step, refusal}
 use Rattle.swf_world.specs.UsedKey.{used_at}
 
 -- where there is a refusal it is early
@@ -51,7 +53,7 @@ duplicate_early k ps next a f = by (used_at k ps) (λ n e. used_early k ps n a e
 
 load_early : (w : World) (fs : List Fault) (o : Option Document) → AllByRecursion IsEarly w.keys → Early (refusal_of_load w fs o)
 load_early w fs None a = one_early (Refused fs) tt
-load_early w fs (Some d) a = duplicate_early (OfDocument d.key) w.keys _ a (cause_early _ Full None tt none_early)
+load_early w fs (Some d) a = duplicate_early (keys.Document d.key) w.keys _ a (cause_early _ Full None tt none_early)
 
 start_early : (w : World) (o : Option Document) → Early (refusal_of_start w o)
 start_early w None = one_early UnknownDocument tt
@@ -69,6 +71,8 @@ step_early now strand (Some i) = by _
 pub refusal_early : (w : World) (l : Label) (r : Refusal) → AllByRecursion IsEarly w.keys → refusal w l ≡ Some r → IsEarlyRefusal r
 unfolding Early
 refusal_early w (Load v) r a e = load_early w (load_faults v) (accepted v) a r e
-refusal_early w (Start id key input) r a e = duplicate_early (OfInstance id) w.keys _ a (start_early w (document_at key w.documents)) r e
+refusal_early w (Start id key input) r a e = duplicate_early (keys.Instance id) w.keys _ a (start_early w (document_at key w.documents)) r e
+refusal_early w (Event x) r a e = duplicate_early (keys.Event x.source x.id) w.keys None a none_early r e
+refusal_early w (Reply x y) r a e = duplicate_early (keys.Activity x) w.keys (refusal_of_reply w x) a (one_early Stale tt) r e
 refusal_early w (Moment moment) r a e = cause_early (nat_le moment w.now) (Past w.now) None tt none_early r e
 refusal_early w (Step id strand) r a e = step_early w.now strand (instance_at id w.instances) r e

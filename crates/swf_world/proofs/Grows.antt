@@ -1,5 +1,5 @@
 -- The maps stand for the world that a change makes, and go on to agree with each other.
-use Rattle.std.proofs.Common.{◌≡◌, ◌∙◌, ap, sym, refl, subst, cond, ℕ, zero, suc, ◌+◌, ◌<◌, ◌==◌, ◌&&◌, ◌||◌, ◌⊎◌, inl, inr, List, [], ◌∷◌, ◌++◌, length, Bool, true, false, is_some, Option, Some, None, option_and_then, slice_get, arith, length-append}
+use Rattle.std.proofs.Common.{◌≡◌, ◌∙◌, ap, sym, refl, subst, cond, ℕ, zero, suc, ◌+◌, ◌<◌, ◌==◌, ◌&&◌, ◌||◌, ◌⊎◌, inl, inr, List, [], ◌∷◌, ◌++◌, length, Bool, true, false, is_some, Option, Some, None, arith, length-append}
 use Rattle.std.proofs.lemmas.List.{map-append}
 use Rattle.std.proofs.lemmas.List.Folds.{list_any-append}
 use Rattle.std.proofs.lemmas.Bool.{or_parts, or_from, ne_eqb}
@@ -8,32 +8,28 @@ use Rattle.std.specs.List.{AllByRecursion, list_any}
 use Rattle.std.specs.Map.{lookup, keys_of}
 use Rattle.std.specs.BinaryHeap.{IsHeap}
 use Rattle.swf_text.specs.Same.{same}
+use Rattle.swf_cloudevents.specs.declared.event.Event.{Event}
 use Rattle.swf_document.specs.declared.document.DocKey.{DocKey}
-use Rattle.swf_meaning.specs.Keys.{Key as WorldKey, Document as OfDocument, Instance as OfInstance, Moment as OfMoment, same_doc, same_key}
+use Rattle.swf_meaning.specs.declared.key.Key.{Key}
+use Rattle.swf_meaning.specs.declared.key.Key.TheVariants as keys
+use Rattle.swf_meaning.specs.Keys.{same_doc, same_key}
 use Rattle.swf_meaning.specs.Wake.{until}
 use Rattle.swf_meaning.specs.World.{Instance}
-use Rattle.swf_meaning.specs.After.{is_used}
-use Rattle.swf_world.specs.declared.key.Key.{Key}
-use Rattle.swf_world.specs.declared.key.Key.TheVariants.{Document, Instance as InstanceKey, Moment}
+use Rattle.swf_meaning.specs.After.{is_used, with_document, with_instance}
 use Rattle.swf_world.specs.declared.world.Loaded.{Loaded}
+use Rattle.swf_world.specs.declared.timers.Timer.{Timer}
 use Rattle.swf_world.specs.Held.{Held}
-use Rattle.swf_world.specs.contracts.key.KeyPartialEq.TheImpl.{ghosts}
-use Rattle.swf_world.specs.UsedKey.{key_of, docs_alike, doc_eq, keys_alike}
-use Rattle.swf_world.specs.Fields.{instances_in, keys_in, world_of, most_labels}
+use Rattle.swf_world.specs.UsedKey.{docs_alike, doc_eq, key_eq, keys_alike}
+use Rattle.swf_world.specs.Fields.{instances_in, loaded_in, loaded_of, world_of, most_labels}
 use Rattle.swf_world.specs.Early.{IsEarly}
 use Rattle.swf_world.specs.Kept.{Kept, New, IsNamed, IsPlaced}
+use Rattle.swf_world.specs.Offers.{put_at}
 use Rattle.swf_world.specs.Queued.{Queued, is_among, enabled_at}
 use Rattle.swf_world.specs.Line.{Line}
-use Rattle.swf_world.specs.Waits.{above, is_at, is_set, timer_cmp}
-use Rattle.swf_world.specs.Changes.{stepped_one, put_at}
-use Rattle.swf_world.specs.declared.timers.Timer.{Timer}
-use Rattle.swf_world.proofs.MachineLemmas.{step_enabled, enabled_put, enabled_within, length_put}
-use Rattle.swf_world.proofs.WaitLemmas.{awake_at, wait_put, wait_pushed}
-
--- what holds of each also holds with one more of which it holds
-all_pushed : {A : Type 0} (P : A → Type 0) (xs : List A) (x : A) → AllByRecursion P xs → P x → AllByRecursion P (xs ++ x ∷ [])
-all_pushed P [] x h p = (p, tt)
-all_pushed P (y ∷ ys) x h p = (h.0, all_pushed P ys x h.1 p)
+use Rattle.swf_world.specs.Waits.{above, is_at, is_set, timer_cmp, wait_at}
+use Rattle.swf_world.proofs.MachineLemmas.{enabled_put, length_put}
+use Rattle.swf_world.proofs.OfferLemmas.{all_pushed}
+use Rattle.swf_world.proofs.WaitLemmas.{wait_put, wait_pushed}
 
 -- a key is found where one of the keys passes
 found_any : {K V : Type 0} (test : K → Bool) (es : List (K × V)) → is_some (lookup test es) ≡ list_any test (keys_of es)
@@ -60,56 +56,57 @@ none_pushed test (x ∷ xs) k v h e = by (test x.0) h (λ g. none_pushed test xs
     by true h rest = cc
     by false h rest = rest h
 
--- the keys with one more
-pub keys_pushed : (ks : List (Key × ℕ)) (k : Key) (n : ℕ) → keys_in (ks ++ (k, n) ∷ []) ≡ keys_in ks ++ (key_of k, n) ∷ []
-keys_pushed ks k n = map-append (λ e. (key_of e.0, e.1)) ks ((k, n) ∷ [])
-
 -- a key that is not among those with one more is neither
-not_among : (k : WorldKey) (ks : List (Key × ℕ)) (used : Key) (n : ℕ) → list_any (λ p. same_key k p.0) (keys_in (ks ++ (used, n) ∷ [])) ≡ false →
-    (list_any (λ p. same_key k p.0) (keys_in ks) ≡ false) × (same_key k (key_of used) ≡ false)
+not_among : (k : Key) (ks : List (Key × ℕ)) (used : Key) (n : ℕ) → list_any (λ p. same_key k p.0) (ks ++ (used, n) ∷ []) ≡ false → (list_any (λ p. same_key k p.0) ks ≡ false) × (same_key k used ≡ false)
 not_among k ks used n h =
-    let e = sym (list_any-append (λ p. same_key k p.0) (keys_in ks) ((key_of used, n) ∷ [])) ∙ sym (ap (list_any (λ p. same_key k p.0)) (keys_pushed ks used n)) ∙ h in
-    let p = or_parts (list_any (λ p. same_key k p.0) (keys_in ks)) (same_key k (key_of used) || false) e in
-    (p.0, (or_parts (same_key k (key_of used)) false p.1).0)
+    let p = or_parts (list_any (λ p. same_key k p.0) ks) (same_key k used || false) (sym (list_any-append (λ p. same_key k p.0) ks ((used, n) ∷ [])) ∙ h) in
+    (p.0, (or_parts (same_key k used) false p.1).0)
 
 -- the places stay early
-early_pushed : (ks : List (Key × ℕ)) (k : Key) (n : ℕ) → AllByRecursion IsEarly (keys_in ks) → n < most_labels → AllByRecursion IsEarly (keys_in (ks ++ (k, n) ∷ []))
-early_pushed ks k n early few = subst (AllByRecursion IsEarly) (sym (keys_pushed ks k n)) (all_pushed IsEarly (keys_in ks) (key_of k, n) early (omega arith))
+early_pushed : (ks : List (Key × ℕ)) (k : Key) (n : ℕ) → AllByRecursion IsEarly ks → n < most_labels → AllByRecursion IsEarly (ks ++ (k, n) ∷ [])
+early_pushed ks k n early few = all_pushed IsEarly ks (k, n) early (omega arith)
 
 -- a key that is neither among those nor the one more
-still_not : (k : WorldKey) (ks : List (Key × ℕ)) (used : Key) (n : ℕ) → list_any (λ p. same_key k p.0) (keys_in ks) ≡ false → same_key k (key_of used) ≡ false → list_any (λ p. same_key k p.0) (keys_in (ks ++ (used, n) ∷ [])) ≡ false
+still_not : (k : Key) (ks : List (Key × ℕ)) (used : Key) (n : ℕ) → list_any (λ p. same_key k p.0) ks ≡ false → same_key k used ≡ false → list_any (λ p. same_key k p.0) (ks ++ (used, n) ∷ []) ≡ false
 still_not k ks used n h e =
-    ap (list_any (λ p. same_key k p.0)) (keys_pushed ks used n) ∙ list_any-append (λ p. same_key k p.0) (keys_in ks) ((key_of used, n) ∷ [])
-    ∙ or_from (list_any (λ p. same_key k p.0) (keys_in ks)) (same_key k (key_of used) || false) h (or_from (same_key k (key_of used)) false e refl)
+    list_any-append (λ p. same_key k p.0) ks ((used, n) ∷ [])
+    ∙ or_from (list_any (λ p. same_key k p.0) ks) (same_key k used || false) h (or_from (same_key k used) false e refl)
 
-new_loaded : (ds : List (DocKey × Loaded)) (is : List (List ℕ × Instance)) (ks : List (Key × ℕ)) (now n : ℕ) (key : DocKey) (used : Key) (l : Loaded) → New ds is ks now → IsNamed (key, l) → used ≡ Document l.document.key → New (ds ++ (key, l) ∷ []) is (ks ++ (used, n) ∷ []) now
+new_loaded : (ds : List (DocKey × Loaded)) (is : List (List ℕ × Instance)) (ks : List (Key × ℕ)) (now n : ℕ) (key : DocKey) (used : Key) (l : Loaded) → New ds is ks now → IsNamed (key, l) → used ≡ keys.Document l.document.key → New (ds ++ (key, l) ∷ []) is (ks ++ (used, n) ∷ []) now
 new_loaded ds is ks now n key used l new named e = record {
   document = λ k h.
-      let p = not_among (OfDocument k) ks used n h in
-      let q : same_doc k l.document.key ≡ false = ap (λ x. same_key (OfDocument k) (key_of x)) (sym e) ∙ p.1 in
+      let p = not_among (keys.Document k) ks used n h in
+      let q : same_doc k l.document.key ≡ false = ap (λ x. same_key (keys.Document k) x) (sym e) ∙ p.1 in
       none_pushed (doc_eq k) ds key l (new.document k p.0) (ap (doc_eq k) named ∙ sym (docs_alike k l.document.key) ∙ q);
-  instance = λ id h. new.instance id (not_among (OfInstance id) ks used n h).0;
-  moment = λ m w. still_not (OfMoment m) ks used n (new.moment m w) (ap (λ x. same_key (OfMoment m) (key_of x)) e);
+  instance = λ id h. new.instance id (not_among (keys.Instance id) ks used n h).0;
+  moment = λ m w. still_not (keys.Moment m) ks used n (new.moment m w) (ap (λ x. same_key (keys.Moment m) x) e);
 }
 
-new_started : (ds : List (DocKey × Loaded)) (is : List (List ℕ × Instance)) (ks : List (Key × ℕ)) (now n : ℕ) (id : List ℕ) (used : Key) (i : Instance) → New ds is ks now → used ≡ InstanceKey id → New ds (is ++ (id, i) ∷ []) (ks ++ (used, n) ∷ []) now
+new_started : (ds : List (DocKey × Loaded)) (is : List (List ℕ × Instance)) (ks : List (Key × ℕ)) (now n : ℕ) (id : List ℕ) (used : Key) (i : Instance) → New ds is ks now → used ≡ keys.Instance id → New ds (is ++ (id, i) ∷ []) (ks ++ (used, n) ∷ []) now
 new_started ds is ks now n id used i new e = record {
-  document = λ k h. new.document k (not_among (OfDocument k) ks used n h).0;
+  document = λ k h. new.document k (not_among (keys.Document k) ks used n h).0;
   instance = λ k h.
-      let p = not_among (OfInstance k) ks used n h in
-      none_pushed (same k) is id i (new.instance k p.0) (ap (λ x. same_key (OfInstance k) (key_of x)) (sym e) ∙ p.1);
-  moment = λ m w. still_not (OfMoment m) ks used n (new.moment m w) (ap (λ x. same_key (OfMoment m) (key_of x)) e);
+      let p = not_among (keys.Instance k) ks used n h in
+      none_pushed (same k) is id i (new.instance k p.0) (ap (λ x. same_key (keys.Instance k) x) (sym e) ∙ p.1);
+  moment = λ m w. still_not (keys.Moment m) ks used n (new.moment m w) (ap (λ x. same_key (keys.Moment m) x) e);
 }
 
-new_reached : (ds : List (DocKey × Loaded)) (is : List (List ℕ × Instance)) (ks : List (Key × ℕ)) (now n moment : ℕ) → New ds is ks now → now < moment → New ds is (ks ++ (Moment moment, n) ∷ []) moment
+new_reached : (ds : List (DocKey × Loaded)) (is : List (List ℕ × Instance)) (ks : List (Key × ℕ)) (now n moment : ℕ) → New ds is ks now → now < moment → New ds is (ks ++ (keys.Moment moment, n) ∷ []) moment
 new_reached ds is ks now n moment new later = record {
-  document = λ k h. new.document k (not_among (OfDocument k) ks (Moment moment) n h).0;
-  instance = λ k h. new.instance k (not_among (OfInstance k) ks (Moment moment) n h).0;
-  moment = λ m w. still_not (OfMoment m) ks (Moment moment) n (new.moment m (omega arith)) (ne_eqb m moment (λ e. omega arith));
+  document = λ k h. new.document k (not_among (keys.Document k) ks (keys.Moment moment) n h).0;
+  instance = λ k h. new.instance k (not_among (keys.Instance k) ks (keys.Moment moment) n h).0;
+  moment = λ m w. still_not (keys.Moment m) ks (keys.Moment moment) n (new.moment m (omega arith)) (ne_eqb m moment (λ e. omega arith));
+}
+
+new_told : (ds : List (DocKey × Loaded)) (is : List (List ℕ × Instance)) (ks : List (Key × ℕ)) (now n : ℕ) (used : Key) (source id : List ℕ) → New ds is ks now → used ≡ keys.Event source id → New ds is (ks ++ (used, n) ∷ []) now
+new_told ds is ks now n used source id new e = record {
+  document = λ k h. new.document k (not_among (keys.Document k) ks used n h).0;
+  instance = λ k h. new.instance k (not_among (keys.Instance k) ks used n h).0;
+  moment = λ m w. still_not (keys.Moment m) ks used n (new.moment m w) (ap (λ x. same_key (keys.Moment m) x) e);
 }
 
 pub kept_loaded : (ds : List (DocKey × Loaded)) (is : List (List ℕ × Instance)) (ks : List (Key × ℕ)) (now n : ℕ) (turns : Line) (timers : List Timer) (key : DocKey) (used : Key) (l : Loaded) →
-    Kept ds is ks now n turns timers → IsNamed (key, l) → used ≡ Document l.document.key → n < most_labels →
+    Kept ds is ks now n turns timers → IsNamed (key, l) → used ≡ keys.Document l.document.key → n < most_labels →
     Kept (ds ++ (key, l) ∷ []) is (ks ++ (used, n) ∷ []) now (n + 1) turns timers
 kept_loaded ds is ks now n turns timers key used l kept named e few = record {
   named = all_pushed IsNamed ds (key, l) kept.named named;
@@ -149,7 +146,7 @@ queued_pushed now xs x queue timers n e awake q = record {
 }
 
 pub kept_started : (ds : List (DocKey × Loaded)) (is : List (List ℕ × Instance)) (ks : List (Key × ℕ)) (now n : ℕ) (turns next : Line) (timers : List Timer) (id : List ℕ) (used : Key) (i : Instance) →
-    Kept ds is ks now n turns timers → IsPlaced (id, i) → used ≡ InstanceKey id → until i.node ≡ None → n < most_labels → next.numbers ≡ turns.numbers ++ turns.count ∷ [] → next.count ≡ turns.count + 1 →
+    Kept ds is ks now n turns timers → IsPlaced (id, i) → used ≡ keys.Instance id → until i.node ≡ None → n < most_labels → next.numbers ≡ turns.numbers ++ turns.count ∷ [] → next.count ≡ turns.count + 1 →
     Kept ds (is ++ (id, i) ∷ []) (ks ++ (used, n) ∷ []) now (n + 1) next timers
 kept_started ds is ks now n turns next timers id used i kept placed e awake few numbers count =
     let all : instances_in (is ++ (id, i) ∷ []) ≡ instances_in is ++ i ∷ [] = map-append (λ e. e.1) is ((id, i) ∷ []) in
@@ -170,64 +167,97 @@ kept_started ds is ks now n turns next timers id used i kept placed e awake few 
 -- a moment that was reached
 pub kept_reached : (ds : List (DocKey × Loaded)) (is : List (List ℕ × Instance)) (ks : List (Key × ℕ)) (now n moment used : ℕ) (turns next : Line) (timers left : List Timer) →
     Kept ds is ks now n turns timers → used ≡ moment → now < moment → n < most_labels → Queued moment (instances_in is) next.numbers left → next.count ≡ turns.count → IsHeap timer_cmp left →
-    Kept ds is (ks ++ (Moment used, n) ∷ []) moment (n + 1) next left
+    Kept ds is (ks ++ (keys.Moment used, n) ∷ []) moment (n + 1) next left
 kept_reached ds is ks now n moment used turns next timers left kept same later few queued count order = record {
   named = kept.named;
   placed = kept.placed;
-  new = subst (λ m. New ds is (ks ++ (Moment m, n) ∷ []) moment) (sym same) (new_reached ds is ks now n moment kept.new later);
+  new = subst (λ m. New ds is (ks ++ (keys.Moment m, n) ∷ []) moment) (sym same) (new_reached ds is ks now n moment kept.new later);
   waiting = record { queued = queued; count = count ∙ kept.waiting.count; order = order };
-  early = early_pushed ks (Moment used) n kept.early few;
+  early = early_pushed ks (keys.Moment used) n kept.early few;
   few = omega arith;
 }
 
--- an instance took its step, and its timer was set
-queued_stepped : (now : ℕ) (is : List Instance) (queue : List ℕ) (timers next : List Timer) (n : ℕ) (j : Instance) → Queued now is queue timers → enabled_at now is n ≡ true →
+-- those that took an event are in their places, and in the queue
+pub kept_heard : (ds : List (DocKey × Loaded)) (is js : List (List ℕ × Instance)) (ks : List (Key × ℕ)) (now n : ℕ) (turns next : Line) (timers : List Timer) →
+    Kept ds is ks now n turns timers → AllByRecursion IsPlaced js → keys_of js ≡ keys_of is → length (instances_in js) ≡ length (instances_in is) → Queued now (instances_in js) next.numbers timers → next.count ≡ turns.count →
+    Kept ds js ks now n next timers
+kept_heard ds is js ks now n turns next timers kept placed ids long queued count = record {
+  named = kept.named;
+  placed = placed;
+  new = record {
+    document = kept.new.document;
+    instance = λ id h. none_again (same id) is js ids (kept.new.instance id h);
+    moment = kept.new.moment;
+  };
+  waiting = record { queued = queued; count = count ∙ kept.waiting.count ∙ sym long; order = kept.waiting.order };
+  early = kept.early;
+  few = kept.few;
+}
+
+-- the key of an event was used
+pub kept_told : (ds : List (DocKey × Loaded)) (is : List (List ℕ × Instance)) (ks : List (Key × ℕ)) (now n : ℕ) (turns : Line) (timers : List Timer) (used : Key) (source id : List ℕ) →
+    Kept ds is ks now n turns timers → used ≡ keys.Event source id → n < most_labels → Kept ds is (ks ++ (used, n) ∷ []) now (n + 1) turns timers
+kept_told ds is ks now n turns timers used source id kept e few = record {
+  named = kept.named;
+  placed = kept.placed;
+  new = new_told ds is ks now n used source id kept.new e;
+  waiting = kept.waiting;
+  early = early_pushed ks used n kept.early few;
+  few = omega arith;
+}
+
+-- the world of a document more, and of an instance more
+pub loaded_world : (ds : List (DocKey × Loaded)) (is : List (List ℕ × Instance)) (ks : List (Key × ℕ)) (now : ℕ) (es : List Event) (n : ℕ) (key : DocKey) (used : Key) (l : Loaded) → used ≡ keys.Document l.document.key →
+    world_of (ds ++ (key, l) ∷ []) is (ks ++ (used, n) ∷ []) now es (n + 1) ≡ with_document (world_of ds is ks now es n) l.value l.document
+loaded_world ds is ks now es n key used l e = λ i. record { documents = map-append (λ e. loaded_of e.1) ds ((key, l) ∷ []) i; instances = instances_in is; keys = ks ++ (e i, n) ∷ []; now = now; outbox = es; count = n + 1 }
+
+pub started_world : (ds : List (DocKey × Loaded)) (is : List (List ℕ × Instance)) (ks : List (Key × ℕ)) (now : ℕ) (es : List Event) (n : ℕ) (id : List ℕ) (used : Key) (j : Instance) → IsPlaced (id, j) → used ≡ keys.Instance id →
+    world_of ds (is ++ (id, j) ∷ []) (ks ++ (used, n) ∷ []) now es (n + 1) ≡ with_instance (world_of ds is ks now es n) j
+started_world ds is ks now es n id used j placed e =
+    let own : used ≡ keys.Instance j.id = e ∙ ap keys.Instance placed in
+    λ i. record { documents = loaded_in ds; instances = map-append (λ e. e.1) is ((id, j) ∷ []) i; keys = ks ++ (own i, n) ∷ []; now = now; outbox = es; count = n + 1 }
+
+-- an instance that was in the queue took its step, and its timer was set
+queued_stepped : (now : ℕ) (is : List Instance) (queue : List ℕ) (timers next : List Timer) (n : ℕ) (j : Instance) → Queued now is queue timers → n < length is → wait_at now is n ≡ None → is_among n queue ≡ true →
     ((k m : ℕ) → is_set k m next ≡ (((k == n) && is_at m (above now (until j.node))) || is_set k m timers)) → Queued now (put_at n j is) queue next
-queued_stepped now is queue timers next n j q can set = record {
-  all = λ m h. q.all m (enabled_put now is n m j can h);
-  waits = λ k m. set k m ∙ ap (λ b. ((k == n) && is_at m (above now (until j.node))) || b) (q.waits k m)
-      ∙ sym (wait_put now is n k m j (enabled_within now is n can) (awake_at now is n can));
+queued_stepped now is queue timers next n j q within awake among set = record {
+  all = λ m h. elim (enabled_put now is n m j h) [
+    | inl e ↦ ap (λ k. is_among k queue) e ∙ among
+    | inr e ↦ q.all m e
+  ];
+  waits = λ k m. set k m ∙ ap (λ b. ((k == n) && is_at m (above now (until j.node))) || b) (q.waits k m) ∙ sym (wait_put now is n k m j within awake);
 }
 
 pub kept_stepped : (ds : List (DocKey × Loaded)) (is js : List (List ℕ × Instance)) (ks : List (Key × ℕ)) (now n : ℕ) (turns : Line) (timers next : List Timer) (number : ℕ) (j : Instance) →
-    Kept ds is ks now n turns timers → option_and_then (stepped_one now) (slice_get (instances_in is) number) ≡ Some j → n < most_labels →
+    Kept ds is ks now n turns timers → number < length (instances_in is) → wait_at now (instances_in is) number ≡ None → is_among number turns.numbers ≡ true → n < most_labels →
     instances_in js ≡ put_at number j (instances_in is) → AllByRecursion IsPlaced js → keys_of js ≡ keys_of is →
     ((k m : ℕ) → is_set k m next ≡ (((k == number) && is_at m (above now (until j.node))) || is_set k m timers)) → IsHeap timer_cmp next →
     Kept ds js ks now (n + 1) turns next
-kept_stepped ds is js ks now n turns timers next number j kept suits few stepped placed ids set order =
-    let can : enabled_at now (instances_in is) number ≡ true = step_enabled now (instances_in is) number j suits in
-    record {
-      named = kept.named;
-      placed = placed;
-      new = record {
-        document = kept.new.document;
-        instance = λ id h. none_again (same id) is js ids (kept.new.instance id h);
-        moment = kept.new.moment;
-      };
-      waiting = record {
-        queued = subst (λ xs. Queued now xs turns.numbers next) (sym stepped) (queued_stepped now (instances_in is) turns.numbers timers next number j kept.waiting.queued can set);
-        count = kept.waiting.count ∙ sym (length_put (instances_in is) number j) ∙ sym (ap length stepped);
-        order = order;
-      };
-      early = kept.early;
-      few = omega arith;
-    }
-
--- the test of the type of keys
-abbrev pub key_eq : Key → Key → Bool
-key_eq = ghosts.eq
-
-no_key : (E : Key → Key → Bool) → ((a b : Key) → same_key (key_of a) (key_of b) ≡ E a b) → (k : Key) (ks : List (Key × ℕ)) → list_any (λ p. same_key (key_of k) p.0) (keys_in ks) ≡ false → lookup (E k) ks ≡ None
-no_key E alike k [] h = refl
-no_key E alike k (x ∷ xs) h =
-    let p = or_parts (same_key (key_of k) (key_of x.0)) (list_any (λ p. same_key (key_of k) p.0) (keys_in xs)) h in
-    ap (λ b. cond b (Some x.1) (lookup (E k) xs)) (sym (alike k x.0) ∙ p.0) ∙ no_key E alike k xs p.1
+kept_stepped ds is js ks now n turns timers next number j kept within awake among few stepped placed ids set order = record {
+  named = kept.named;
+  placed = placed;
+  new = record {
+    document = kept.new.document;
+    instance = λ id h. none_again (same id) is js ids (kept.new.instance id h);
+    moment = kept.new.moment;
+  };
+  waiting = record {
+    queued = subst (λ xs. Queued now xs turns.numbers next) (sym stepped) (queued_stepped now (instances_in is) turns.numbers timers next number j kept.waiting.queued within awake among set);
+    count = kept.waiting.count ∙ sym (length_put (instances_in is) number j) ∙ sym (ap length stepped);
+    order = order;
+  };
+  early = kept.early;
+  few = omega arith;
+}
 
 -- a key that was not used is not in the map of keys
-pub new_key : (k : Key) (ks : List (Key × ℕ)) → list_any (λ p. same_key (key_of k) p.0) (keys_in ks) ≡ false → lookup (key_eq k) ks ≡ None
-new_key k ks h = no_key key_eq (keys_alike key_eq (record { documents = docs_alike; instances = λ a b. refl; moments = λ a b. refl; document_instance = λ a b. (refl, refl); document_moment = λ a b. (refl, refl); instance_moment = λ a b. (refl, refl) })) k ks h
+pub new_key : (k : Key) (ks : List (Key × ℕ)) → list_any (λ p. same_key k p.0) ks ≡ false → lookup (key_eq k) ks ≡ None
+new_key k [] h = refl
+new_key k (x ∷ xs) h =
+    let p = or_parts (same_key k x.0) (list_any (λ p. same_key k p.0) xs) h in
+    ap (λ b. cond b (Some x.1) (lookup (key_eq k) xs)) (sym (keys_alike k x.0) ∙ p.0) ∙ new_key k xs p.1
 
 -- what suits the world that the maps stand for suits the maps
-pub new_in_view : (ds : List (DocKey × Loaded)) (is : List (List ℕ × Instance)) (ks : List (Key × ℕ)) (now n r : ℕ) (h : Held) (used : Key) (k : WorldKey) →
-    record { world = world_of ds is ks now n; room = r } ≡ h → key_of used ≡ k → is_used k h.world ≡ false → list_any (λ p. same_key (key_of used) p.0) (keys_in ks) ≡ false
-new_in_view ds is ks now n r h used k view e new = ap (λ k. list_any (λ p. same_key k p.0) (keys_in ks)) e ∙ ap (λ h. is_used k h.world) view ∙ new
+pub new_in_view : (ds : List (DocKey × Loaded)) (is : List (List ℕ × Instance)) (ks : List (Key × ℕ)) (now n r : ℕ) (es : List Event) (h : Held) (used k : Key) →
+    record { world = world_of ds is ks now es n; room = r } ≡ h → used ≡ k → is_used k h.world ≡ false → list_any (λ p. same_key used p.0) ks ≡ false
+new_in_view ds is ks now n r es h used k view e new = ap (λ k. list_any (λ p. same_key k p.0) ks) e ∙ ap (λ h. is_used k h.world) view ∙ new

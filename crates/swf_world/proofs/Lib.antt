@@ -1,5 +1,7 @@
 pub mod MachineLemmas
+pub mod OfferLemmas
 pub mod WaitLemmas
+pub mod HeardLemmas
 pub mod TimerLemmas
 pub mod TurnLemmas
 pub mod BuiltLemmas
@@ -11,4 +13,5 @@ pub mod RefusalLaws
 pub mod Checks
 pub mod Waiting
 pub mod Versions
+pub mod PendingLemmas
 pub mod EarlyLemmas

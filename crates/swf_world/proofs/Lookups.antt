@@ -1,32 +1,33 @@
 -- What is found in a map is what the definitions find in its list.
-use Rattle.std.proofs.Common.{◌≡◌, ◌∙◌, ap, sym, refl, cond, ℕ, zero, suc, ◌+◌, ◌<◌, ◌||◌, List, [], ◌∷◌, length, Bool, true, false, not, is_some, Option, Some, None, option_map, option_and_then, slice_get, arith}
+use Rattle.std.proofs.Common.{◌≡◌, ◌∙◌, ap, sym, refl, cond, ℕ, zero, suc, ◌+◌, ◌<◌, ◌||◌, List, [], ◌∷◌, length, Bool, true, false, not, is_some, Option, Some, option_map, slice_get, arith}
 use Rattle.std.proofs.lemmas.Option.{same_Some}
 use Rattle.std.specs.List.{AllByRecursion, list_any, position_or_len}
 use Rattle.std.specs.Map.{lookup, keys_of, values_of}
 use Rattle.swf_text.specs.Same.{same}
+use Rattle.swf_cloudevents.specs.declared.event.Event.{Event}
 use Rattle.swf_document.specs.declared.document.DocKey.{DocKey}
 use Rattle.swf_meaning.specs.Complete.{Stepped}
 use Rattle.swf_meaning.specs.Local.{local, is_enabled}
-use Rattle.swf_meaning.specs.Keys.{Key as WorldKey, same_doc, same_key}
+use Rattle.swf_meaning.specs.declared.key.Key.{Key}
+use Rattle.swf_meaning.specs.Keys.{same_doc, same_key}
 use Rattle.swf_meaning.specs.World.{Instance, sight, with_step}
 use Rattle.swf_meaning.specs.Answer.{instance_at}
 use Rattle.swf_meaning.specs.After.{document_at, stepped}
-use Rattle.swf_world.specs.declared.key.Key.{Key}
 use Rattle.swf_world.specs.declared.key.Sought.{Sought}
 use Rattle.swf_world.specs.declared.world.Loaded.{Loaded}
 use Rattle.swf_world.specs.UsedKey.{sought_key, stands_for, used_at, docs_alike, doc_eq}
-use Rattle.swf_world.specs.Fields.{loaded_in, instances_in, keys_in}
+use Rattle.swf_world.specs.Fields.{loaded_in, instances_in}
 use Rattle.swf_world.specs.Kept.{IsNamed, IsPlaced}
 use Rattle.swf_world.specs.Queued.{enabled_at}
-use Rattle.swf_world.specs.Changes.{put_at, stepped_one}
+use Rattle.swf_world.specs.Offers.{put_at}
 
 -- the place of a used key
-pub used_lookup : (q : Sought) (ks : List (Key × ℕ)) → lookup (stands_for q) ks ≡ used_at (sought_key q) (keys_in ks)
+pub used_lookup : (q : Sought) (ks : List (Key × ℕ)) → lookup (stands_for q) ks ≡ used_at (sought_key q) ks
 used_lookup q [] = refl
 used_lookup q (e ∷ es) = ap (cond (stands_for q e.0) (Some e.1)) (used_lookup q es)
 
 -- a key is used exactly where it has a place
-pub used_some : (k : WorldKey) (ps : List (WorldKey × ℕ)) → is_some (used_at k ps) ≡ list_any (λ p. same_key k p.0) ps
+pub used_some : (k : Key) (ps : List (Key × ℕ)) → is_some (used_at k ps) ≡ list_any (λ p. same_key k p.0) ps
 used_some k [] = refl
 used_some k (p ∷ ps) = by (same_key k p.0) (used_some k ps)
   where
@@ -62,22 +63,25 @@ instance_there [] n v e = cc
 instance_there (x ∷ xs) zero v e = e
 instance_there (x ∷ xs) (suc n) v e = instance_there xs n v e
 
-stepped_first : (i j : Instance) (is : List Instance) (o : Option Stepped) → option_map (with_step i) o ≡ Some j → option_map (λ m. with_step i m ∷ is) o ≡ Some (j ∷ is)
-stepped_first i j is None e = cc
-stepped_first i j is (Some m) e = ap (λ j. Some (j ∷ is)) (same_Some (with_step i m) j e)
+-- the first of some instances takes a step, or one of the others
+abbrev pub first_steps : Instance → List Instance → Stepped → List Instance × Option Event
+first_steps i is m = (with_step i m ∷ is, m.emitted)
+
+abbrev pub other_steps : Instance → List Instance × Option Event → List Instance × Option Event
+other_steps i p = (i ∷ p.0, p.1)
 
 -- the first instance of an id takes the step
-pub stepped_there : (now : ℕ) (id : List ℕ) (is : List (List ℕ × Instance)) (n : ℕ) (j : Instance) → AllByRecursion IsPlaced is → position_or_len (same id) (keys_of is) ≡ n → n < length is →
-    option_and_then (stepped_one now) (slice_get (instances_in is) n) ≡ Some j → stepped now id (instances_in is) ≡ Some (put_at n j (instances_in is))
-stepped_there now id [] n j placed p w e = absurd (omega arith)
-stepped_there now id (x ∷ xs) n j placed p w e =
-    ap (λ b. cond b (option_map (λ m. with_step x.1 m ∷ instances_in xs) (local (sight now x.1) x.1.node)) (option_map (λ js. x.1 ∷ js) (stepped now id (instances_in xs)))) (ap (same id) (sym placed.0))
-    ∙ by (same id x.0) n p w e (λ m. stepped_there now id xs m j placed.1)
+pub stepped_there : (now : ℕ) (id : List ℕ) (is : List (List ℕ × Instance)) (n : ℕ) (i : Instance) (m : Stepped) → AllByRecursion IsPlaced is → position_or_len (same id) (keys_of is) ≡ n → n < length is →
+    slice_get (instances_in is) n ≡ Some i → local (sight now i) i.node ≡ Some m → stepped now id (instances_in is) ≡ Some (put_at n (with_step i m) (instances_in is), m.emitted)
+stepped_there now id [] n i m placed p w at e = absurd (omega arith)
+stepped_there now id (x ∷ xs) n i m placed p w at e =
+    ap (λ b. cond b (option_map (first_steps x.1 (instances_in xs)) (local (sight now x.1) x.1.node)) (option_map (other_steps x.1) (stepped now id (instances_in xs)))) (ap (same id) (sym placed.0))
+    ∙ by (same id x.0) n p w at (λ k q v there. stepped_there now id xs k i m placed.1 q v there e)
   where
-    by : (b : Bool) (n : ℕ) → cond (not b) (1 + position_or_len (same id) (keys_of xs)) 0 ≡ n → n < length (x ∷ xs) → option_and_then (stepped_one now) (slice_get (instances_in (x ∷ xs)) n) ≡ Some j →
-        ((m : ℕ) → position_or_len (same id) (keys_of xs) ≡ m → m < length xs → option_and_then (stepped_one now) (slice_get (instances_in xs) m) ≡ Some j → stepped now id (instances_in xs) ≡ Some (put_at m j (instances_in xs))) →
-        cond b (option_map (λ m. with_step x.1 m ∷ instances_in xs) (local (sight now x.1) x.1.node)) (option_map (λ js. x.1 ∷ js) (stepped now id (instances_in xs))) ≡ Some (put_at n j (instances_in (x ∷ xs)))
-    by true zero p w e rest = stepped_first x.1 j (instances_in xs) (local (sight now x.1) x.1.node) e
-    by true (suc n) p w e rest = absurd (omega arith)
-    by false zero p w e rest = absurd (omega arith)
-    by false (suc n) p w e rest = ap (option_map (λ js. x.1 ∷ js)) (rest n (omega arith) (omega arith) e)
+    by : (b : Bool) (n : ℕ) → cond (not b) (1 + position_or_len (same id) (keys_of xs)) 0 ≡ n → n < length (x ∷ xs) → slice_get (instances_in (x ∷ xs)) n ≡ Some i →
+        ((k : ℕ) → position_or_len (same id) (keys_of xs) ≡ k → k < length xs → slice_get (instances_in xs) k ≡ Some i → stepped now id (instances_in xs) ≡ Some (put_at k (with_step i m) (instances_in xs), m.emitted)) →
+        cond b (option_map (first_steps x.1 (instances_in xs)) (local (sight now x.1) x.1.node)) (option_map (other_steps x.1) (stepped now id (instances_in xs))) ≡ Some (put_at n (with_step i m) (instances_in (x ∷ xs)), m.emitted)
+    by true zero p w at rest = ap (λ y. option_map (first_steps y (instances_in xs)) (local (sight now y) y.node)) (same_Some x.1 i at) ∙ ap (option_map (first_steps i (instances_in xs))) e
+    by true (suc n) p w at rest = absurd (omega arith)
+    by false zero p w at rest = absurd (omega arith)
+    by false (suc n) p w at rest = ap (option_map (other_steps x.1)) (rest n (omega arith) (omega arith) at)

@@ -1,22 +1,23 @@
 -- A label has a cause for which it is refused exactly where there is no world after it.
 use Rattle.std.proofs.Common.{◌≡◌, ◌∙◌, ap, sym, refl, cond, ℕ, ◌||◌, ◌&&◌, List, [], ◌∷◌, length, nat_le, Bool, true, false, not, is_some, Option, Some, None, option_map, option_and_then}
 use Rattle.swf_value.specs.Value.{Value}
+use Rattle.swf_cloudevents.specs.declared.event.Event.{Event}
 use Rattle.swf_text.specs.Same.{same}
 use Rattle.swf_document.specs.declared.document.Document.{Document}
 use Rattle.swf_document.specs.declared.fault.Fault.{Fault}
 use Rattle.swf_meaning.specs.declared.label.Label.{Label}
-use Rattle.swf_meaning.specs.declared.label.Label.TheVariants.{Load, Start, Moment, Step}
+use Rattle.swf_meaning.specs.declared.label.Label.TheVariants.{Load, Start, Event as Told, Reply, Moment, Step}
 use Rattle.swf_meaning.specs.Local.{local, is_enabled}
-use Rattle.swf_meaning.specs.Keys.{Document as OfDocument, Instance as OfInstance}
-use Rattle.swf_meaning.specs.World.{World, Instance, sight, with_step, new_instance, is_root}
+use Rattle.swf_meaning.specs.declared.key.Key.TheVariants as keys
+use Rattle.swf_meaning.specs.World.{World, Instance, sight, new_instance, is_root}
 use Rattle.swf_meaning.specs.Answer.{instance_at}
-use Rattle.swf_meaning.specs.After.{after, loaded, load_faults, accepted, document_at, most_documents, most_instances, with_document, with_instance, stepped, with_instances}
+use Rattle.swf_meaning.specs.After.{after, loaded, load_faults, accepted, document_at, most_documents, most_instances, with_document, with_instance, with_event, stepped, with_instances}
 use Rattle.swf_world.specs.declared.refusal.Refusal.{Refusal}
-use Rattle.swf_world.specs.declared.refusal.Refusal.TheVariants.{Full, Past, NotEnabled}
+use Rattle.swf_world.specs.declared.refusal.Refusal.TheVariants.{Stale, Full, Past, NotEnabled}
 use Rattle.swf_world.specs.Changes.{with_moment}
 use Rattle.swf_world.specs.UsedKey.{used_at}
 use Rattle.swf_world.specs.Refusals.{refusal, refusal_of_load, refusal_of_start, refusal_of_step, duplicate, cause}
-use Rattle.swf_world.proofs.Lookups.{used_some}
+use Rattle.swf_world.proofs.Lookups.{used_some, first_steps, other_steps}
 use Rattle.swf_world.proofs.MachineLemmas.{some_mapped, local_enabled}
 
 -- a label that has no refusal has a world after it, and the other way round
@@ -52,9 +53,9 @@ stepped_some now id [] = refl
 stepped_some now id (i ∷ is) = by (same id i.id) (stepped_some now id is)
   where
     by : (b : Bool) → is_some (stepped now id is) ≡ can_go now (instance_at id is) →
-        is_some (cond b (option_map (λ m. with_step i m ∷ is) (local (sight now i) i.node)) (option_map (λ js. i ∷ js) (stepped now id is))) ≡ can_go now (cond b (Some i) (instance_at id is))
-    by true h = some_mapped (λ m. with_step i m ∷ is) (local (sight now i) i.node) ∙ local_enabled (sight now i) i.node
-    by false h = some_mapped (λ js. i ∷ js) (stepped now id is) ∙ h
+        is_some (cond b (option_map (first_steps i is) (local (sight now i) i.node)) (option_map (other_steps i) (stepped now id is))) ≡ can_go now (cond b (Some i) (instance_at id is))
+    by true h = some_mapped (first_steps i is) (local (sight now i) i.node) ∙ local_enabled (sight now i) i.node
+    by false h = some_mapped (other_steps i) (stepped now id is) ∙ h
 
 step_agrees : {A : Type 0} (now : ℕ) (strand : List ℕ) (s : Option A) (o : Option Instance) → is_some s ≡ can_go now o → Agree (cond (is_root strand) s None) (refusal_of_step now strand o)
 step_agrees now strand s None e = by (is_root strand)
@@ -69,17 +70,28 @@ step_agrees now strand s (Some i) e = by (is_root strand) (is_enabled now i.node
     by true false e = e
     by false t e = refl
 
+event_agrees : (w : World) (e : Event) (o : Option ℕ) → Agree (cond (is_some o) None (Some (with_event w e))) (duplicate o None)
+event_agrees w e (Some p) = refl
+event_agrees w e None = refl
+
+reply_agrees : (o : Option ℕ) → false ≡ not (is_some (duplicate o (Some Stale)))
+reply_agrees (Some p) = refl
+reply_agrees None = refl
+
 pub agree : (w : World) (l : Label) → Agree (after w l) (refusal w l)
 agree w (Load v) = by (load_faults v) (accepted v)
   where
     by : (fs : List Fault) (o : Option Document) → Agree (option_and_then (loaded w v) o) (refusal_of_load w fs o)
     by fs None = refl
     by fs (Some d) =
-        ap (λ b. is_some (cond (b || nat_le most_documents (length w.documents)) None (Some (with_document w v d)))) (sym (used_some (OfDocument d.key) w.keys))
-        ∙ load_agrees w d v (used_at (OfDocument d.key) w.keys) (nat_le most_documents (length w.documents))
+        ap (λ b. is_some (cond (b || nat_le most_documents (length w.documents)) None (Some (with_document w v d)))) (sym (used_some (keys.Document d.key) w.keys))
+        ∙ load_agrees w d v (used_at (keys.Document d.key) w.keys) (nat_le most_documents (length w.documents))
 agree w (Start id key input) =
-    ap (λ b. is_some (cond (b || nat_le most_instances (length w.instances)) None (option_map (λ d. with_instance w (new_instance id input w.now d)) (document_at key w.documents)))) (sym (used_some (OfInstance id) w.keys))
-    ∙ start_agrees w (λ d. with_instance w (new_instance id input w.now d)) (used_at (OfInstance id) w.keys) (document_at key w.documents)
+    ap (λ b. is_some (cond (b || nat_le most_instances (length w.instances)) None (option_map (λ d. with_instance w (new_instance id input w.now d)) (document_at key w.documents)))) (sym (used_some (keys.Instance id) w.keys))
+    ∙ start_agrees w (λ d. with_instance w (new_instance id input w.now d)) (used_at (keys.Instance id) w.keys) (document_at key w.documents)
+agree w (Told e) =
+    ap (λ b. is_some (cond b None (Some (with_event w e)))) (sym (used_some (keys.Event e.source e.id) w.keys)) ∙ event_agrees w e (used_at (keys.Event e.source e.id) w.keys)
+agree w (Reply a r) = reply_agrees (used_at (keys.Activity a) w.keys)
 agree w (Moment moment) = by (nat_le moment w.now)
   where
     by : (b : Bool) → Agree (cond b None (Some (with_moment w moment))) (cause b (Past w.now) None)

@@ -8,7 +8,7 @@ use Rattle.swf_meaning.specs.World.{Instance}
 use Rattle.swf_world.specs.Fields.{instances_in}
 use Rattle.swf_world.specs.Kept.{IsPlaced}
 use Rattle.swf_world.specs.Queued.{enabled_at}
-use Rattle.swf_world.specs.Changes.{put_at}
+use Rattle.swf_world.specs.Offers.{put_at}
 use Rattle.swf_world.proofs.MachineLemmas.{enabled_within}
 
 -- an instance that can take a step is in the map

@@ -1,12 +1,13 @@
 -- Until when instances wait, at one moment and at a later one.
-use Rattle.std.proofs.Common.{◌≡◌, ◌∙◌, refl, ap, sym, cond, ℕ, zero, suc, ◌<◌, ◌≤◌, ◌==◌, ◌&&◌, ◌||◌, ◌⊎◌, inl, inr, List, [], ◌∷◌, ◌++◌, length, nat_le, Bool, true, false, Option, Some, None, arith}
+use Rattle.std.proofs.Common.{◌≡◌, ◌∙◌, refl, ap, sym, cond, ℕ, zero, suc, ◌<◌, ◌≤◌, ◌==◌, ◌&&◌, ◌||◌, ◌⊎◌, inl, inr, List, [], ◌∷◌, ◌++◌, length, map, nat_le, Bool, true, false, Option, Some, None, arith}
 use Rattle.std.proofs.lemmas.Bool.{leb-true, leb-false, le-leb, eqb-true, eqb-false, eq-eqb, ne_eqb, or_left, or_right, or_from, false_from_ne_true, cases_Bool}
 use Rattle.std.specs.List.{list_any}
 use Rattle.swf_meaning.specs.Local.{is_enabled, is_enabled_inside}
-use Rattle.swf_meaning.specs.Node.{Node, Fresh, Live, Done, Fault, Inside, At, Later, Sleep}
+use Rattle.swf_document.specs.Task.{Task}
+use Rattle.swf_meaning.specs.Node.{Node, Fresh, Live, Done, Fault, Inside, At, Later, Sleep, Hear}
 use Rattle.swf_meaning.specs.Wake.{until, until_inside, is_by}
 use Rattle.swf_meaning.specs.World.{Instance}
-use Rattle.swf_world.specs.Changes.{put_at}
+use Rattle.swf_world.specs.Offers.{put_at, mark}
 use Rattle.swf_world.specs.Queued.{enabled_at}
 use Rattle.swf_world.specs.Waits.{above, wait_at, is_at}
 
@@ -15,17 +16,18 @@ or_false true = refl
 or_false false = refl
 
 -- what can take a step does not wait
-awake_inside : (now : ℕ) (k : Inside) → is_enabled_inside now k ≡ true → above now (until_inside k) ≡ None
-awake_inside now (At r i (Fresh t v)) e = refl
-awake_inside now (At r i (Live t v u k)) e = awake_inside now k e
-awake_inside now (At r i (Done w f)) e = refl
-awake_inside now (At r i (Fault p)) e = refl
-awake_inside now (Later n m) e = ap (λ b. cond b None (Some m)) e
-awake_inside now (Sleep m) e = ap (λ b. cond b None (Some m)) e
+awake_inside : (now : ℕ) (t : Task) (k : Inside) → is_enabled_inside now t k ≡ true → above now (until_inside k) ≡ None
+awake_inside now s (At r i (Fresh t v)) e = refl
+awake_inside now s (At r i (Live t v u k)) e = awake_inside now t k e
+awake_inside now s (At r i (Done w f)) e = refl
+awake_inside now s (At r i (Fault p)) e = refl
+awake_inside now s (Later n m) e = ap (λ b. cond b None (Some m)) e
+awake_inside now s (Sleep m) e = ap (λ b. cond b None (Some m)) e
+awake_inside now s (Hear bound hs) e = refl
 
 awake : (now : ℕ) (n : Node) → is_enabled now n ≡ true → above now (until n) ≡ None
 awake now (Fresh t v) e = refl
-awake now (Live t v u k) e = awake_inside now k e
+awake now (Live t v u k) e = awake_inside now t k e
 awake now (Done w f) e = refl
 awake now (Fault p) e = refl
 
@@ -33,6 +35,20 @@ pub awake_at : (now : ℕ) (is : List Instance) (n : ℕ) → enabled_at now is 
 awake_at now [] n e = refl
 awake_at now (i ∷ is) zero e = awake now i.node e
 awake_at now (i ∷ is) (suc n) e = awake_at now is n e
+
+-- how long an instance waits is told by its mark
+abbrev marked_wait : ℕ → List (List ℕ × Option ℕ) → ℕ → Option ℕ
+marked_wait now [] n = None
+marked_wait now (m ∷ ms) zero = above now m.1
+marked_wait now (m ∷ ms) (suc n) = marked_wait now ms n
+
+wait_marked : (now : ℕ) (is : List Instance) (n : ℕ) → wait_at now is n ≡ marked_wait now (map mark is) n
+wait_marked now [] n = refl
+wait_marked now (i ∷ is) zero = refl
+wait_marked now (i ∷ is) (suc n) = wait_marked now is n
+
+pub wait_again : (now : ℕ) (is js : List Instance) (n : ℕ) → map mark is ≡ map mark js → wait_at now is n ≡ wait_at now js n
+wait_again now is js n e = wait_marked now is n ∙ ap (λ ms. marked_wait now ms n) e ∙ sym (wait_marked now js n)
 
 -- what waits is there
 pub wait_within : (now : ℕ) (is : List Instance) (n m : ℕ) → is_at m (wait_at now is n) ≡ true → n < length is
@@ -61,19 +77,20 @@ one_woke now moment m e = by (nat_le m now)
     by true = inl refl
     by false = inr (m, eq-eqb m m refl, e)
 
-woke_inside : (now moment : ℕ) (k : Inside) → is_enabled_inside moment k ≡ true → Woke now moment (is_enabled_inside now k) (until_inside k)
+woke_inside : (now moment : ℕ) (t : Task) (k : Inside) → is_enabled_inside moment t k ≡ true → Woke now moment (is_enabled_inside now t k) (until_inside k)
 unfolding Woke
-woke_inside now moment (At r i (Fresh t v)) e = inl refl
-woke_inside now moment (At r i (Live t v u k)) e = woke_inside now moment k e
-woke_inside now moment (At r i (Done w f)) e = inl refl
-woke_inside now moment (At r i (Fault p)) e = inl refl
-woke_inside now moment (Later n m) e = one_woke now moment m e
-woke_inside now moment (Sleep m) e = one_woke now moment m e
+woke_inside now moment s (At r i (Fresh t v)) e = inl refl
+woke_inside now moment s (At r i (Live t v u k)) e = woke_inside now moment t k e
+woke_inside now moment s (At r i (Done w f)) e = inl refl
+woke_inside now moment s (At r i (Fault p)) e = inl refl
+woke_inside now moment s (Later n m) e = one_woke now moment m e
+woke_inside now moment s (Sleep m) e = one_woke now moment m e
+woke_inside now moment s (Hear bound hs) e = inl e
 
 woke : (now moment : ℕ) (n : Node) → is_enabled moment n ≡ true → Woke now moment (is_enabled now n) (until n)
 unfolding Woke
 woke now moment (Fresh t v) e = inl refl
-woke now moment (Live t v u k) e = woke_inside now moment k e
+woke now moment (Live t v u k) e = woke_inside now moment t k e
 woke now moment (Done w f) e = cc
 woke now moment (Fault p) e = cc
 

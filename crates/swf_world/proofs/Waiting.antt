@@ -16,7 +16,7 @@ use Rattle.swf_world.specs.declared.refusal.Refusal.TheVariants.{NotEnabled}
 use Rattle.swf_world.specs.Fields.{instances_in}
 use Rattle.swf_world.specs.Kept.{Kept, IsPlaced}
 use Rattle.swf_document.specs.declared.document.DocKey.{DocKey}
-use Rattle.swf_world.specs.declared.key.Key.{Key}
+use Rattle.swf_meaning.specs.declared.key.Key.{Key}
 use Rattle.swf_world.specs.declared.world.Loaded.{Loaded}
 use Rattle.swf_world.specs.declared.timers.Timer.{Timer}
 use Rattle.swf_world.specs.Queued.{Queued, is_among, enabled_at}

@@ -1,66 +1,95 @@
 -- What a prepared change asks of the world that it is made for, and the world that it makes.
-use Rattle.std.specs.Prelude.{◌≡◌, ◌<◌, ◌≤◌, ℕ, zero, suc, List, [], ◌∷◌, false, Option, Some, None, option_map, option_and_then, slice_get}
+use Rattle.std.specs.Prelude.{◌≡◌, ◌+◌, ◌<◌, ◌≤◌, ℕ, List, ◌++◌, false, length, Option, Some, None, option_map, option_and_then, option_to_list, slice_get}
+use Rattle.std.specs.List.{AllByRecursion}
+use Rattle.swf_cloudevents.specs.declared.event.Event.{Event}
 use Rattle.swf_document.specs.declared.document.DocKey.{DocKey}
-use Rattle.swf_meaning.specs.Keys.{Document as OfDocument, Instance as OfInstance, Moment as OfMoment}
+use Rattle.swf_meaning.specs.declared.key.Key.{Key}
+use Rattle.swf_meaning.specs.declared.key.Key.TheVariants as keys
+use Rattle.swf_meaning.specs.Complete.{Stepped}
 use Rattle.swf_meaning.specs.Local.{local}
+use Rattle.swf_meaning.specs.Offer.{offered_one}
 use Rattle.swf_meaning.specs.Wake.{until}
-use Rattle.swf_meaning.specs.World.{World, Instance as WorldInstance, sight, with_step}
-use Rattle.swf_meaning.specs.After.{is_used, counted, with_document, with_instance, with_instances}
+use Rattle.swf_meaning.specs.World.{World, Instance, sight, with_step}
+use Rattle.swf_meaning.specs.After.{is_used, counted, with_document, with_instance}
 use Rattle.swf_world.specs.declared.change.Change.{Change}
 use Rattle.swf_world.specs.declared.change.ChangeKind.{ChangeKind}
-use Rattle.swf_world.specs.declared.change.ChangeKind.TheVariants.{Load, Start, Moment, Step}
-use Rattle.swf_world.specs.declared.key.Key.{Key}
-use Rattle.swf_world.specs.declared.key.Key.TheVariants.{Document, Instance as InstanceKey}
+use Rattle.swf_world.specs.declared.change.ChangeKind.TheVariants as kinds
+use Rattle.swf_world.specs.declared.offer.Hearing.{Hearing}
 use Rattle.swf_world.specs.declared.world.Loaded.{Loaded}
 use Rattle.swf_world.specs.Kept.{IsNamed, IsPlaced}
+use Rattle.swf_world.specs.Offers.{put_at, put_all, IsHeardFrom}
 
 -- a document under its own key, which was not used
 pub record SuitsLoad (w : World) (key : DocKey) (used : Key) (loaded : Loaded) : Type 0 where
   pub named : IsNamed (key, loaded)
-  pub used_is : used ≡ Document loaded.document.key
-  pub new : is_used (OfDocument loaded.document.key) w ≡ false
+  pub used_is : used ≡ keys.Document loaded.document.key
+  pub new : is_used (keys.Document loaded.document.key) w ≡ false
 
 -- an instance under its own id, which was not used, and that does not wait
-pub record SuitsStart (w : World) (id : List ℕ) (used : Key) (instance : WorldInstance) : Type 0 where
+pub record SuitsStart (w : World) (id : List ℕ) (used : Key) (instance : Instance) : Type 0 where
   pub placed : IsPlaced (id, instance)
-  pub used_is : used ≡ InstanceKey id
-  pub new : is_used (OfInstance id) w ≡ false
+  pub used_is : used ≡ keys.Instance id
+  pub new : is_used (keys.Instance id) w ≡ false
   pub awake : until instance.node ≡ None
+
+-- an event's key, which was not used, and instances that took the event, no more than there are
+pub record SuitsEvent (w : World) (used : Key) (heard : List Hearing) : Type 0 where
+  pub source : List ℕ
+  pub id : List ℕ
+  pub used_is : used ≡ keys.Event source id
+  pub new : is_used used w ≡ false
+  pub from : AllByRecursion (IsHeardFrom w.instances) heard
+  pub few : length heard ≤ length w.instances
 
 -- a moment above the one that was reached, and no later than the last
 pub record SuitsMoment (w : World) (moment : ℕ) : Type 0 where
   pub later : w.now < moment
   pub within : moment ≤ 4503599627370495
 
--- an instance after its step at a moment; none where it can take none
-abbrev pub stepped_one : ℕ → WorldInstance → Option WorldInstance
-stepped_one now i = option_map (with_step i) (local (sight now i) i.node)
+-- an instance that is offered the event which goes out, where one does
+abbrev pub offered_own : Option Event → Instance → Instance
+offered_own None i = i
+offered_own (Some e) i = offered_one e i
 
--- with another instance in place of that of a number
-abbrev pub put_at : ℕ → WorldInstance → List WorldInstance → List WorldInstance
-put_at n j [] = []
-put_at zero j (i ∷ is) = j ∷ is
-put_at (suc n) j (i ∷ is) = i ∷ put_at n j is
+-- an instance after a step, offered the event that goes out, and that event
+abbrev pub after_step : Instance → Stepped → Instance × Option Event
+after_step i m = (offered_own m.emitted (with_step i m), m.emitted)
 
--- the instance of that number after its step is this one
-abbrev pub SuitsStep : World → ℕ → WorldInstance → Type 0
-SuitsStep w n j = option_and_then (stepped_one w.now) (slice_get w.instances n) ≡ Some j
+-- the same after its step at a moment; none where it can take none
+abbrev pub stepped_one : ℕ → Instance → Option (Instance × Option Event)
+stepped_one now i = option_map (after_step i) (local (sight now i) i.node)
+
+-- the instance of that number after its step is this one, this event goes out, and these took it, no more than there are
+pub record SuitsStep (w : World) (n : ℕ) (j : Instance) (emitted : Option Event) (heard : List Hearing) : Type 0 where
+  pub stepped : option_and_then (stepped_one w.now) (slice_get w.instances n) ≡ Some (j, emitted)
+  pub from : AllByRecursion (IsHeardFrom w.instances) heard
+  pub few : length heard ≤ length w.instances
+
+-- an event was told
+abbrev pub with_heard : World → Key → List Hearing → World
+with_heard w used heard = record (counted used w) { instances = put_all heard w.instances }
 
 -- a moment was reached
 abbrev pub with_moment : World → ℕ → World
-with_moment w moment = record (counted (OfMoment moment) w) { now = moment }
+with_moment w moment = record (counted (keys.Moment moment) w) { now = moment }
+
+-- an instance took its step
+abbrev pub with_stepped : World → ℕ → Instance → Option Event → List Hearing → World
+with_stepped w n j emitted heard = record w { instances = put_at n j (put_all heard w.instances); outbox = w.outbox ++ option_to_list emitted; count = w.count + 1 }
 
 abbrev pub suits : World → ChangeKind → Type 0
-suits w (Load key used loaded) = SuitsLoad w key used loaded
-suits w (Start id used instance) = SuitsStart w id used instance
-suits w (Moment moment) = SuitsMoment w moment
-suits w (Step n j) = SuitsStep w n j
+suits w (kinds.Load key used loaded) = SuitsLoad w key used loaded
+suits w (kinds.Start id used instance) = SuitsStart w id used instance
+suits w (kinds.Event used heard) = SuitsEvent w used heard.items
+suits w (kinds.Moment moment) = SuitsMoment w moment
+suits w (kinds.Step n j emitted heard) = SuitsStep w n j emitted heard.items
 
 abbrev pub changed_by : World → ChangeKind → World
-changed_by w (Load key used loaded) = with_document w loaded.value loaded.document
-changed_by w (Start id used instance) = with_instance w instance
-changed_by w (Moment moment) = with_moment w moment
-changed_by w (Step n j) = with_instances w (put_at n j w.instances)
+changed_by w (kinds.Load key used loaded) = with_document w loaded.value loaded.document
+changed_by w (kinds.Start id used instance) = with_instance w instance
+changed_by w (kinds.Event used heard) = with_heard w used heard.items
+changed_by w (kinds.Moment moment) = with_moment w moment
+changed_by w (kinds.Step n j emitted heard) = with_stepped w n j emitted heard.items
 
 -- the change was made for a world in this state
 abbrev pub Suits : World → Change → Type 0

@@ -1,8 +1,8 @@
 -- How large the places of used keys are.
 use Rattle.std.specs.Prelude.{ℕ, ◌≤◌}
-use Rattle.swf_meaning.specs.Keys.{Key}
+use Rattle.swf_meaning.specs.declared.key.Key.{Key}
 use Rattle.swf_world.specs.declared.refusal.Refusal.{Refusal}
-use Rattle.swf_world.specs.declared.refusal.Refusal.TheVariants.{Refused, Duplicate, UnknownDocument, UnknownInstance, Full, Past, NotEnabled}
+use Rattle.swf_world.specs.declared.refusal.Refusal.TheVariants.{Refused, Duplicate, Stale, UnknownDocument, UnknownInstance, Full, Past, NotEnabled}
 use Rattle.swf_world.specs.Fields.{most_labels}
 
 -- a key was used at a place that a world has
@@ -13,6 +13,7 @@ IsEarly p = p.1 ≤ most_labels
 abbrev pub IsEarlyRefusal : Refusal → Type 0
 IsEarlyRefusal (Refused faults) = Unit {0}
 IsEarlyRefusal (Duplicate place) = place ≤ most_labels
+IsEarlyRefusal Stale = Unit {0}
 IsEarlyRefusal UnknownDocument = Unit {0}
 IsEarlyRefusal UnknownInstance = Unit {0}
 IsEarlyRefusal Full = Unit {0}

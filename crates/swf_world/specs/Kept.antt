@@ -5,8 +5,9 @@ use Rattle.std.specs.Map.{lookup}
 use Rattle.std.specs.BinaryHeap.{IsHeap}
 use Rattle.swf_text.specs.Same.{same}
 use Rattle.swf_document.specs.declared.document.DocKey.{DocKey}
-use Rattle.swf_meaning.specs.Keys.{Document as OfDocument, Instance as OfInstance, Moment as OfMoment, same_key}
-use Rattle.swf_world.specs.declared.key.Key.{Key}
+use Rattle.swf_meaning.specs.declared.key.Key.{Key}
+use Rattle.swf_meaning.specs.declared.key.Key.TheVariants as keys
+use Rattle.swf_meaning.specs.Keys.{same_key}
 use Rattle.swf_meaning.specs.World.{Instance}
 use Rattle.swf_world.specs.declared.timers.Timer.{Timer}
 use Rattle.swf_world.specs.declared.world.Loaded.{Loaded}
@@ -15,7 +16,7 @@ use Rattle.swf_world.specs.Waits.{timer_cmp}
 use Rattle.swf_world.specs.Queued.{Queued}
 use Rattle.swf_world.specs.Line.{Line}
 use Rattle.swf_world.specs.Early.{IsEarly}
-use Rattle.swf_world.specs.Fields.{keys_in, instances_in, most_labels}
+use Rattle.swf_world.specs.Fields.{instances_in, most_labels}
 
 -- a document is kept under its own key
 abbrev pub IsNamed : DocKey × Loaded → Type 0
@@ -27,9 +28,9 @@ IsPlaced e = e.0 ≡ e.1.id
 
 -- what is kept has a used key, and no moment above now has one
 pub record New (ds : List (DocKey × Loaded)) (is : List (List ℕ × Instance)) (ks : List (Key × ℕ)) (now : ℕ) : Type 0 where
-  pub document : (k : DocKey) → list_any (λ p. same_key (OfDocument k) p.0) (keys_in ks) ≡ false → lookup (doc_eq k) ds ≡ None
-  pub instance : (id : List ℕ) → list_any (λ p. same_key (OfInstance id) p.0) (keys_in ks) ≡ false → lookup (same id) is ≡ None
-  pub moment : (m : ℕ) → now < m → list_any (λ p. same_key (OfMoment m) p.0) (keys_in ks) ≡ false
+  pub document : (k : DocKey) → list_any (λ p. same_key (keys.Document k) p.0) ks ≡ false → lookup (doc_eq k) ds ≡ None
+  pub instance : (id : List ℕ) → list_any (λ p. same_key (keys.Instance id) p.0) ks ≡ false → lookup (same id) is ≡ None
+  pub moment : (m : ℕ) → now < m → list_any (λ p. same_key (keys.Moment m) p.0) ks ≡ false
 
 -- the queue and the timers agree with the instances
 pub record Waiting (is : List Instance) (now : ℕ) (turns : Line) (timers : List Timer) : Type 0 where
@@ -43,5 +44,5 @@ pub record Kept (ds : List (DocKey × Loaded)) (is : List (List ℕ × Instance)
   pub placed : AllByRecursion IsPlaced is
   pub new : New ds is ks now
   pub waiting : Waiting (instances_in is) now turns timers
-  pub early : AllByRecursion IsEarly (keys_in ks)
+  pub early : AllByRecursion IsEarly ks
   pub few : n ≤ most_labels

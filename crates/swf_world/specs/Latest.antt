@@ -3,9 +3,9 @@ use Rattle.std.specs.Prelude.{◌&&◌, ℕ, List, [], ◌∷◌, Bool, codes, i
 use Rattle.swf_text.specs.Same.{same}
 use Rattle.swf_document.specs.declared.document.DocKey.{DocKey}
 use Rattle.swf_meaning.specs.declared.label.Label.{Label}
-use Rattle.swf_meaning.specs.declared.label.Label.TheVariants.{Load, Start, Moment}
+use Rattle.swf_meaning.specs.declared.label.Label.TheVariants.{Load, Start, Event, Reply, Moment}
 use Rattle.swf_meaning.specs.declared.label.Outcome.{Outcome}
-use Rattle.swf_meaning.specs.declared.label.Outcome.TheVariants.{Load as Loads, Start as Starts, Moment as Moments}
+use Rattle.swf_meaning.specs.declared.label.Outcome.TheVariants as outcomes
 use Rattle.swf_meaning.specs.World.{World, Loaded}
 
 -- two keys are of one document, in whatever version
@@ -25,6 +25,8 @@ abbrev pub resolved : World → DocKey → DocKey
 resolved w k = if same k.version (codes "latest") then with_version k (last_version k w.documents k.version) else k
 
 abbrev pub label_of : World → Outcome → Label
-label_of w (Loads v) = Load v
-label_of w (Starts id key input) = Start id (resolved w key) input
-label_of w (Moments moment) = Moment moment
+label_of w (outcomes.Load v) = Load v
+label_of w (outcomes.Start id key input) = Start id (resolved w key) input
+label_of w (outcomes.Event e) = Event e
+label_of w (outcomes.Reply a r) = Reply a r
+label_of w (outcomes.Moment moment) = Moment moment

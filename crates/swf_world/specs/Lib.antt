@@ -6,6 +6,7 @@ pub mod Queued
 pub mod Line
 pub mod Early
 pub mod Kept
+pub mod Offers
 pub mod Refusals
 pub mod Changes
 pub mod Prepares

@@ -1,34 +1,68 @@
 -- What preparing a label answers in a world that has room.
-use Rattle.std.specs.Prelude.{◌≡◌, List, ℕ, Some, None, Result, Ok, Err}
+use Rattle.std.specs.Prelude.{◌≡◌, List, ℕ, length, option_and_then, slice_get, Some, None, Result, Ok, Err}
 use Rattle.swf_value.specs.Value.{Value}
+use Rattle.swf_cloudevents.specs.declared.event.Event.{Event}
 use Rattle.swf_document.specs.declared.document.Document.{Document}
+use Rattle.swf_meaning.specs.declared.key.Key.TheVariants as keys
 use Rattle.swf_meaning.specs.declared.label.Label.{Label}
-use Rattle.swf_meaning.specs.World.{World, new_instance}
-use Rattle.swf_meaning.specs.After.{after}
+use Rattle.swf_meaning.specs.Complete.{Stepped}
+use Rattle.swf_meaning.specs.Local.{local}
+use Rattle.swf_meaning.specs.Offer.{takers}
+use Rattle.swf_meaning.specs.World.{World, Instance, new_instance, sight, with_step}
+use Rattle.swf_meaning.specs.After.{after, stepped, taken_by}
 use Rattle.swf_world.specs.declared.change.Change.{Change}
 use Rattle.swf_world.specs.declared.change.ChangeKind.{ChangeKind}
-use Rattle.swf_world.specs.declared.change.ChangeKind.TheVariants.{Load, Start}
-use Rattle.swf_world.specs.declared.key.Key.TheVariants.{Document as DocumentKey, Instance as InstanceKey}
+use Rattle.swf_world.specs.declared.change.ChangeKind.TheVariants as kinds
 use Rattle.swf_world.specs.declared.refusal.PrepareFault.{PrepareFault}
 use Rattle.swf_world.specs.declared.refusal.PrepareFault.TheVariants.{Refused, OutOfMemory}
-use Rattle.swf_world.specs.Changes.{Suits, changed}
+use Rattle.swf_world.specs.Changes.{Suits, changed, stepped_one}
+use Rattle.swf_world.specs.Offers.{put_at, IsOffer, IsSent}
 use Rattle.swf_world.specs.Refusals.{refusal}
 
+-- a change of that kind, of which no task takes an event that is told
+abbrev pub untold : ChangeKind → Change
+untold k = record { kind = k; taken = 0 }
+
 -- the change that adds a document which was read from that value
-abbrev pub load_of : Value → Document → ChangeKind
-load_of v d = Load d.key (DocumentKey d.key) (record { value = v; document = d })
+abbrev pub load_of : Value → Document → Change
+load_of v d = untold (kinds.Load d.key (keys.Document d.key) (record { value = v; document = d }))
 
 -- the change that adds an instance which has not begun
-abbrev pub start_of : List ℕ → Document → Value → ℕ → ChangeKind
-start_of id d input now = Start id (InstanceKey id) (new_instance id input now d)
+abbrev pub start_of : List ℕ → Document → Value → ℕ → Change
+start_of id d input now = untold (kinds.Start id (keys.Instance id) (new_instance id input now d))
+
+-- the event is told to all of these instances
+abbrev pub TellsTo : List Instance → Event → ChangeKind → Type 0
+TellsTo is e (kinds.Event used heard) = (used ≡ keys.Event e.source e.id) × IsOffer (length is) e is heard.items
+TellsTo is e k = ⊥
+
+-- the change that tells an event, and how many tasks take it
+pub record IsTelling (is : List Instance) (e : Event) (c : Change) : Type 0 where
+  pub tells : TellsTo is e c.kind
+  pub taken : c.taken ≡ takers e is
+
+-- the instance of that number takes its step at a moment, and the others are told the event that goes out
+abbrev pub Steps : ℕ → ℕ → List Instance → ChangeKind → Type 0
+Steps now n is (kinds.Step m j emitted heard) = (m ≡ n) × (option_and_then (stepped_one now) (slice_get is n) ≡ Some (j, emitted)) × IsSent n emitted is heard.items
+Steps now n is k = ⊥
+
+-- the change of a step
+pub record IsStepping (now n : ℕ) (is : List Instance) (c : Change) : Type 0 where
+  pub steps : Steps now n is c.kind
+  pub taken : c.taken ≡ 0
+
+-- the instance of that number is the first of its id: its step is the one of the definitions
+abbrev pub StepsFirst : World → List ℕ → ℕ → Type 0
+StepsFirst w id n = (i : Instance) (m : Stepped) → slice_get w.instances n ≡ Some i → local (sight w.now i) i.node ≡ Some m → stepped w.now id w.instances ≡ Some (put_at n (with_step i m) w.instances, m.emitted)
 
 -- what was made, or want of memory
 abbrev pub or_memory : {E : Type 0} → Result Change E → Result Change PrepareFault
 or_memory (Ok c) = Ok c
 or_memory (Err e) = Err OutOfMemory
 
--- a change that suits the world and leads to the one after the label, or the first cause for which there is none
+-- a change that suits the world and leads to the one after the label, and how many tasks take the event that it tells; or the first
+-- cause for which there is no such world
 abbrev pub Prepares : World → Label → Result Change PrepareFault → Type 0
-Prepares w l (Ok c) = Suits w c × (after w l ≡ Some (changed w c)) × (refusal w l ≡ None)
+Prepares w l (Ok c) = Suits w c × (after w l ≡ Some (changed w c)) × (refusal w l ≡ None) × (c.taken ≡ taken_by w l)
 Prepares w l (Err (Refused r)) = refusal w l ≡ Some r
 Prepares w l (Err OutOfMemory) = Unit {0}

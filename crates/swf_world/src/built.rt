@@ -12,13 +12,15 @@ fn is_built(kind: &Kind) -> bool
 {
     match kind {
         Kind::Do(_)
+        | Kind::Emit(_)
         | Kind::For(_)
+        | Kind::Listen(_)
         | Kind::Raise(_)
         | Kind::Set(_)
         | Kind::Switch(_)
         | Kind::Try(_)
         | Kind::Wait(_) => true,
-        Kind::Call(_) | Kind::Emit(_) | Kind::Fork(_) | Kind::Listen(_) | Kind::Run(_) => false,
+        Kind::Call(_) | Kind::Fork(_) | Kind::Run(_) => false,
     }
 }
 

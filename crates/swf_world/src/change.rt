@@ -1,19 +1,26 @@
 // Changes of the world, and how they are made.
-ghost use Rattle.std.specs.Prelude.{◌≡◌, ◌≤◌, ◌<◌, ◌^◌, ◌++◌, ◌∷◌, [], None, Some, option_map, slice_get};
+ghost use Rattle.std.specs.Prelude.{◌≡◌, ◌≤◌, ◌<◌, ◌^◌, ◌++◌, ◌∷◌, [], ℕ, List, None, Some, length, option_map, option_to_list, slice_get, true};
 ghost use Rattle.std.specs.List.{AllByRecursion};
+ghost use Rattle.std.specs.Vec.{vec_len, vec_capacity};
 ghost use Rattle.indexmap.specs.IndexMap.{get, keys, spare};
-ghost use Rattle.swf_meaning.specs.After.{with_document, with_instance, with_instances};
+ghost use Rattle.swf_meaning.specs.After.{with_document, with_instance};
 ghost use Rattle.swf_world.specs.Fields.{instances_in};
 ghost use Rattle.swf_world.specs.Kept.{IsPlaced};
-ghost use Rattle.swf_world.specs.Changes.{Suits, SuitsLoad, SuitsStart, SuitsMoment, SuitsStep, put_at, with_moment, changed};
+ghost use Rattle.swf_world.specs.Changes.{Suits, SuitsLoad, SuitsStart, SuitsEvent, SuitsMoment, SuitsStep, with_heard, with_moment, with_stepped, changed};
+ghost use Rattle.swf_world.specs.Offers.{put_at, put_all, IsHeardFrom};
+ghost use Rattle.swf_world.specs.Queued.{Queued, is_among};
+ghost use Rattle.swf_world.specs.declared.timers.Timer.{Timer};
 
-use crate::key::Key;
+use crate::offer::Hearing;
 use crate::timers::{set_timer, wake};
+use crate::turns::Turns;
 use crate::world::{Loaded, World};
 use indexmap::IndexMap;
 use std::hash::Hash;
+use swf_cloudevents::Event;
 use swf_document::DocKey;
 use swf_duration::Moment;
+use swf_meaning::Key;
 use swf_tasks::Machine;
 use swf_text::Text;
 
@@ -22,7 +29,7 @@ use swf_text::Text;
 pub struct Installed {
     /// The number of labels before.
     pub place: u64,
-    /// How many listens took the event.
+    /// How many listens took the event that was told.
     pub taken: u32,
 }
 
@@ -39,12 +46,19 @@ pub enum ChangeKind {
         used: Key,
         instance: Machine,
     },
+    /// Those that took the event.
+    Event {
+        used: Key,
+        heard: Vec<Hearing>,
+    },
     /// The moment that is reached, in milliseconds.
     Moment(u64),
-    /// The instance of that number after its step.
+    /// The instance of that number after its step, the event that goes out, and the others that took it.
     Step {
         number: usize,
         instance: Machine,
+        emitted: Option<Event>,
+        heard: Vec<Hearing>,
     },
 }
 
@@ -52,6 +66,8 @@ pub enum ChangeKind {
 #[derive(Drop)]
 pub struct Change {
     pub(crate) kind: ChangeKind,
+    /// How many listens take the event that is told.
+    pub(crate) taken: u32,
 }
 
 impl World {
@@ -61,17 +77,24 @@ impl World {
         requires room { 0 < self.old.room }
         ensures world { self.new.world ≡ changed self.old.world change }
         ensures place { result.place ≡ self.old.world.count }
-        ensures taken { result.taken ≡ 0 }
+        ensures taken { result.taken ≡ change.taken }
         ensures few { result.place ≤ 2 ^ 40 }
     {
         let place = self.count;
+        let taken = change.taken;
         match change.kind {
             ChangeKind::Load { key, used, loaded } => self.install_load(key, used, loaded),
             ChangeKind::Start { id, used, instance } => self.install_start(id, used, instance),
+            ChangeKind::Event { used, heard } => self.install_event(used, heard),
             ChangeKind::Moment(moment) => self.install_moment(moment),
-            ChangeKind::Step { number, instance } => self.install_step(number, instance),
+            ChangeKind::Step {
+                number,
+                instance,
+                emitted,
+                heard,
+            } => self.install_step(number, instance, emitted, heard),
         }
-        Installed { place, taken: 0 }
+        Installed { place, taken }
     }
 
     fn install_load(&mut self, key: DocKey, used: Key, loaded: Loaded)
@@ -95,6 +118,16 @@ impl World {
         self.count += 1;
     }
 
+    fn install_event(&mut self, used: Key, heard: Vec<Hearing>)
+        requires suits { SuitsEvent self.old.world used heard.items }
+        requires room { 0 < self.old.room }
+        ensures { self.new.world ≡ with_heard self.old.world used heard.items }
+    {
+        install_heard(&mut self.instances, &mut self.turns, heard);
+        add(&mut self.keys, used, self.count);
+        self.count += 1;
+    }
+
     // The instances whose wait is over get turns.
     fn install_moment(&mut self, milliseconds: u64)
         requires suits { SuitsMoment self.old.world milliseconds }
@@ -108,14 +141,42 @@ impl World {
         self.count += 1;
     }
 
-    fn install_step(&mut self, number: usize, instance: Machine)
-        requires suits { SuitsStep self.old.world number instance }
+    // The others that took the event are in their places before the instance itself.
+    fn install_step(
+        &mut self,
+        number: usize,
+        instance: Machine,
+        emitted: Option<Event>,
+        heard: Vec<Hearing>,
+    )
+        requires suits { SuitsStep self.old.world number instance emitted heard.items }
         requires room { 0 < self.old.room }
-        ensures { self.new.world ≡ with_instances self.old.world (put_at number instance self.old.world.instances) }
+        ensures { self.new.world ≡ with_stepped self.old.world number instance emitted heard.items }
     {
+        install_heard(&mut self.instances, &mut self.turns, heard);
         set_timer(&mut self.timers, number, instance.until(), self.moment);
         go_on(&mut self.instances, number, instance);
+        put_out(&mut self.outbox, emitted);
         self.count += 1;
+    }
+}
+
+// Those that took an event are in their places now, and get turns.
+fn install_heard(instances: &mut IndexMap<Text, Machine>, turns: &mut Turns, heard: Vec<Hearing>)
+    requires placed { AllByRecursion IsPlaced instances.old.entries }
+    requires from { AllByRecursion (IsHeardFrom (instances_in instances.old.entries)) heard.items }
+    requires count { turns.old.count ≡ length (instances_in instances.old.entries) }
+    requires room { length heard.items ≤ turns.old.room }
+    ensures heard { instances_in instances.new.entries ≡ put_all heard.items (instances_in instances.old.entries) }
+    ensures placed { AllByRecursion IsPlaced instances.new.entries }
+    ensures ids { keys instances.new ≡ keys instances.old }
+    ensures count { turns.new.count ≡ turns.old.count }
+    ensures still { (n : ℕ) → is_among n turns.old.numbers ≡ true → is_among n turns.new.numbers ≡ true }
+    ensures queued { (now : ℕ) (timers : List Timer) → Queued now (instances_in instances.old.entries) turns.old.numbers timers → Queued now (instances_in instances.new.entries) turns.new.numbers timers }
+{
+    for Hearing { number, instance } in heard {
+        turns.put(number);
+        go_on(instances, number, instance);
     }
 }
 
@@ -128,6 +189,16 @@ fn go_on(instances: &mut IndexMap<Text, Machine>, number: usize, instance: Machi
     ensures ids { keys instances.new ≡ keys instances.old }
 {
     instances[number] = instance;
+}
+
+// The event that goes out is kept, where one does.
+fn put_out(outbox: &mut Vec<Event>, emitted: Option<Event>)
+    requires { vec_len outbox.old < vec_capacity outbox.old }
+    ensures { outbox.new.items ≡ outbox.old.items ++ option_to_list emitted }
+{
+    if let Some(event) = emitted {
+        outbox.push(event).unwrap();
+    }
 }
 
 // Adds a pair whose key is new, where there is room.

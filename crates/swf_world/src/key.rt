@@ -1,40 +1,38 @@
-// By what an outcome is known, and how it is looked up without a copy.
+// How a used key is looked up without a copy.
 ghost use Rattle.std.specs.Prelude.{◌≡◌, refl};
-ghost use Rattle.swf_world.specs.UsedKey.{stands_for, hashed_alike, stands_alike, keys_alike, sought_alike, docs_alike, used_at, sought_key};
-ghost use Rattle.swf_world.specs.Fields.{keys_in};
+ghost use Rattle.swf_world.specs.UsedKey.{stands_for, hashed_alike, stands_alike, sought_alike, used_at, sought_key};
 ghost use Rattle.swf_meaning.specs.Keys.{same_doc};
 
 use indexmap::{Equivalent, IndexMap};
 use std::hash::Hash;
 use swf_document::DocKey;
+use swf_meaning::Key;
 use swf_text::{Text, same_texts};
-
-/// The key of a document, the id of an instance, or a moment in milliseconds.
-#[derive(PartialEq, Eq, Hash, Drop)]
-pub enum Key {
-    Document(DocKey),
-    Instance(Text),
-    Moment(u64),
-}
 
 /// A key that is looked up.
 #[derive(Clone, Copy, PartialEq, Eq, Hash)]
 pub enum Sought<'a> {
     Document(&'a DocKey),
     Instance(&'a Text),
+    Event(&'a Text, &'a Text),
+    Activity(&'a Text),
 }
 
 impl<'a> Equivalent<Key> for Sought<'a> {
     ghost equivalent = { stands_for };
 
-    ghost respects_hash = { hashed_alike ⟦<Sought<'a> as Hash>⟧.hash_input ⟦<Key as Hash>⟧.hash_input (sought_alike ⟦<Sought<'a> as Hash>⟧.hash_input ⟦<Key as Hash>⟧.hash_input (λ k. refl) (λ id. refl)) };
+    ghost respects_hash = { hashed_alike ⟦<Sought<'a> as Hash>⟧.hash_input ⟦<Key as Hash>⟧.hash_input (sought_alike ⟦<Sought<'a> as Hash>⟧.hash_input ⟦<Key as Hash>⟧.hash_input (λ k. refl) (λ id. refl) (λ source id. refl) (λ a. refl)) };
 
-    ghost respects_eq = { stands_alike ⟦<Key as PartialEq>⟧.eq (keys_alike ⟦<Key as PartialEq>⟧.eq (record { documents = docs_alike; instances = λ a b. refl; moments = λ a b. refl; document_instance = λ a b. (refl, refl); document_moment = λ a b. (refl, refl); instance_moment = λ a b. (refl, refl) })) };
+    ghost respects_eq = { stands_alike };
 
     fn equivalent(&self, key: &Key) -> bool {
         match (*self, key) {
             (Sought::Document(a), Key::Document(b)) => same_key(a, b),
             (Sought::Instance(a), Key::Instance(b)) => same_texts(a, b),
+            (Sought::Event(source, id), Key::Event(other, own)) => {
+                same_texts(source, other) && same_texts(id, own)
+            }
+            (Sought::Activity(a), Key::Activity(b)) => same_texts(a, b),
             _ => false,
         }
     }
@@ -51,7 +49,7 @@ fn same_key(a: &DocKey, b: &DocKey) -> bool
 
 /// The place at which a key was used.
 pub fn used_place(keys: &IndexMap<Key, u64>, sought: Sought<'_>) -> Option<u64>
-    ensures { result ≡ used_at (sought_key sought.entry) (keys_in keys.now.entries) }
+    ensures { result ≡ used_at (sought_key sought.entry) keys.now.entries }
 {
     keys.get(sought).copied()
 }

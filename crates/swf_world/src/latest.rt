@@ -20,6 +20,8 @@ impl World {
                 let key = self.resolved(key)?;
                 Ok(Label::Start { id, key, input })
             }
+            Outcome::Event(event) => Ok(Label::Event(event)),
+            Outcome::Reply { activity, reply } => Ok(Label::Reply { activity, reply }),
             Outcome::Moment(moment) => Ok(Label::Moment(moment)),
         }
     }

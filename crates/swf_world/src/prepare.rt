@@ -1,30 +1,33 @@
 // Whether a label is taken, and the change that it makes.
-ghost use Rattle.std.specs.Prelude.{◌≡◌, ◌<◌, List, Err, IfOk, OnOk, None, Some, true};
+ghost use Rattle.std.specs.Prelude.{◌≡◌, ◌<◌, List, length, Err, IfOk, OnOk, None, Some, true};
+ghost use Rattle.swf_calls.specs.declared.reply.CallReply.{CallReply as Reply};
 ghost use Rattle.swf_document.specs.declared.document.Document.{Document as Read};
 ghost use Rattle.swf_document.specs.declared.fault.Fault.{Fault};
-ghost use Rattle.swf_meaning.specs.Keys.{Instance as OfInstance};
-ghost use Rattle.swf_meaning.specs.World.{Instance as WorldInstance, is_root};
+ghost use Rattle.swf_meaning.specs.declared.key.Key.TheVariants as keys;
+ghost use Rattle.swf_meaning.specs.World.{is_root};
 ghost use Rattle.swf_meaning.specs.Answer.{instance_at};
-ghost use Rattle.swf_meaning.specs.After.{after, accepted, document_at, load_faults, stepped};
+ghost use Rattle.swf_meaning.specs.After.{after, accepted, document_at, load_faults, taken_by};
 ghost use Rattle.std.specs.List.{AllByRecursion};
 ghost use Rattle.swf_world.specs.Early.{IsEarly, IsEarlyRefusal};
-ghost use Rattle.swf_world.specs.Changes.{Suits, SuitsStep, stepped_one, put_at, changed};
+ghost use Rattle.swf_world.specs.Changes.{Suits, changed};
 ghost use Rattle.swf_world.specs.Refusals.{refusal, refusal_of_load, refusal_of_start, refusal_of_moment, refusal_of_step, duplicate, refused_by, IsLoad};
 ghost use Rattle.swf_world.specs.Queued.{enabled_at};
 ghost use Rattle.swf_world.specs.UsedKey.{used_at};
-ghost use Rattle.swf_world.specs.Prepares.{Prepares, load_of, start_of, or_memory};
+ghost use Rattle.swf_world.specs.Prepares.{Prepares, StepsFirst, IsStepping, or_memory};
 
 use crate::built::not_built;
 use crate::change::{Change, ChangeKind};
-use crate::key::{Key, Sought, used_place};
+use crate::key::{Sought, used_place};
+use crate::make::{event_change, load_change, start_change, step_change};
 use crate::refusal::{PrepareFault, Refusal};
 use crate::world::{Loaded, World};
 use std::alloc::{AllocError, Global};
+use swf_cloudevents::{Event, key};
 use swf_document::DocKey;
 use swf_duration::Moment;
 use swf_meaning::Label;
 use swf_reader::ReadFault;
-use swf_tasks::Machine;
+use swf_tasks::{Site, Words};
 use swf_text::{Strand, Text};
 use swf_validate::{Accepted, accept};
 use swf_value::Json;
@@ -50,6 +53,8 @@ impl World {
                 Ok(_) => Ok(()),
                 Err(refusal) => Err(refusal),
             },
+            Label::Event(event) => self.tellable(event),
+            Label::Reply { activity, .. } => Err(self.reply_refusal(activity)),
             Label::Moment(moment) => self.reachable(*moment),
             Label::Step { id, strand } => match self.steppable(id, strand) {
                 Ok(_) => Ok(()),
@@ -64,6 +69,7 @@ impl World {
         ensures ready { IfOk result (λ c. Suits self.new.world c × (after self.old.world label.now ≡ Some (changed self.old.world c)) × (0 < self.new.room)) }
         ensures refused { (r : Refusal) → result ≡ Err (PrepareFault.Refused r) → (refusal self.old.world label.now ≡ Some r) × (after self.old.world label.now ≡ None) }
         ensures taken { IfOk result (λ _. refusal self.old.world label.now ≡ None) }
+        ensures listens { IfOk result (λ c. c.taken ≡ taken_by self.old.world label.now) }
         ensures early { (r : Refusal) → result ≡ Err (PrepareFault.Refused r) → IsEarlyRefusal r }
     {
         if self.make_room().is_err() {
@@ -72,12 +78,26 @@ impl World {
         match label {
             Label::Load(value) => self.prepare_load(value),
             Label::Start { id, key, input } => self.prepare_start(id, key, input),
+            Label::Event(event) => self.prepare_event(event),
+            Label::Reply { activity, .. } => {
+                Err(PrepareFault::Refused(self.reply_refusal(activity)))
+            }
             Label::Moment(moment) => self.prepare_moment(*moment),
             Label::Step { id, strand } => self.prepare_step(id, strand),
         }
     }
 
-    // Makes room for one change more. A moment may give each that waits a turn.
+    // Makes the names of variables, the first time.
+    fn make_words(&mut self) -> Result<(), AllocError>
+        ensures { self.new.world ≡ self.old.world }
+    {
+        if self.words.is_none() {
+            self.words = Some(Words::new(self.alloc)?);
+        }
+        Ok(())
+    }
+
+    // Makes room for one change more. A moment may give each that waits a turn, and an event each that listens.
     fn make_room(&mut self) -> Result<(), AllocError>
         ensures same { self.new.world ≡ self.old.world }
         ensures room { OnOk result (0 < self.new.room) }
@@ -86,11 +106,14 @@ impl World {
         if self.count >= MOST_LABELS {
             return Err(AllocError);
         }
+        self.make_words()?;
         self.documents.reserve(1)?;
         self.instances.reserve(1)?;
         self.keys.reserve(1)?;
         self.timers.reserve(1)?;
-        self.turns.reserve(self.timers.len() + 1)
+        self.outbox.reserve(1)?;
+        self.turns
+            .reserve(self.timers.len() + self.instances.len() + 1)
     }
 
     fn prepare_load(&self, value: &Json) -> Result<Change, PrepareFault>
@@ -123,10 +146,28 @@ impl World {
     {
         match self.steppable(id, strand) {
             Err(refusal) => Err(PrepareFault::Refused(refusal)),
-            Ok(number) => {
-                let instance = &self.instances[number];
-                ready(step_change(self.alloc, number, instance, strand, self.moment))
-            }
+            Ok(number) => ready(self.step_change(number, strand)),
+        }
+    }
+
+    fn step_change(&self, number: usize, strand: &Strand) -> Result<Change, AllocError>
+        requires { number < length self.now.world.instances }
+        ensures { IfOk result (IsStepping self.now.world.now number self.now.world.instances) }
+    {
+        let words = self.words.as_ref().ok_or(AllocError)?;
+        let site = Site {
+            now: self.moment,
+            words,
+        };
+        step_change(self.alloc, number, &self.instances, strand, &site)
+    }
+
+    fn prepare_event(&self, event: &Event) -> Result<Change, PrepareFault>
+        ensures { Prepares self.now.world (Label.Event event.now) result }
+    {
+        match self.tellable(event) {
+            Err(refusal) => Err(PrepareFault::Refused(refusal)),
+            Ok(()) => ready(event_change(self.alloc, event, &self.instances)),
         }
     }
 
@@ -137,6 +178,7 @@ impl World {
             Err(refusal) => Err(PrepareFault::Refused(refusal)),
             Ok(()) => Ok(Change {
                 kind: ChangeKind::Moment(moment.milliseconds()),
+                taken: 0,
             }),
         }
     }
@@ -156,7 +198,7 @@ impl World {
 
     // The document of an instance that can be started, or why it cannot.
     fn startable(&self, id: &Text, key: &DocKey) -> Result<&Loaded, Refusal>
-        ensures refused { refused_by result ≡ duplicate (used_at (OfInstance id.now) self.now.world.keys) (refusal_of_start self.now.world (document_at key.now self.now.world.documents)) }
+        ensures refused { refused_by result ≡ duplicate (used_at (keys.Instance id.now) self.now.world.keys) (refusal_of_start self.now.world (document_at key.now self.now.world.documents)) }
         ensures found { IfOk result (λ l. document_at key.now self.now.world.documents ≡ Some l.now.document) }
     {
         if let Some(place) = used_place(&self.keys, Sought::Instance(id)) {
@@ -169,6 +211,27 @@ impl World {
             return Err(Refusal::Full);
         }
         Ok(loaded)
+    }
+
+    // Whether an event is new.
+    fn tellable(&self, event: &Event) -> Result<(), Refusal>
+        ensures { refused_by result ≡ refusal self.now.world (Label.Event event.now) }
+    {
+        let (source, id) = key(event);
+        match used_place(&self.keys, Sought::Event(source, id)) {
+            Some(place) => Err(Refusal::Duplicate { place }),
+            None => Ok(()),
+        }
+    }
+
+    // Why a reply is not taken. No task that is built makes a call, so that none is open.
+    fn reply_refusal(&self, activity: &Text) -> Refusal
+        ensures { (reply : Reply) → refusal self.now.world (Label.Reply activity.now reply) ≡ Some result }
+    {
+        match used_place(&self.keys, Sought::Activity(activity)) {
+            Some(place) => Refusal::Duplicate { place },
+            None => Refusal::Stale,
+        }
     }
 
     // Whether a moment is above the one that was reached.
@@ -184,7 +247,7 @@ impl World {
     // The number of the instance that can take a step, or why it cannot.
     fn steppable(&self, id: &Text, strand: &Strand) -> Result<usize, Refusal>
         ensures refused { refused_by result ≡ refusal_of_step self.now.world.now strand.now (instance_at id.now self.now.world.instances) }
-        ensures found { IfOk result (λ n. (enabled_at self.now.world.now self.now.world.instances n ≡ true) × (is_root strand.now ≡ true) × ((m : WorldInstance) → SuitsStep self.now.world n m → stepped self.now.world.now id.now self.now.world.instances ≡ Some (put_at n m self.now.world.instances))) }
+        ensures found { IfOk result (λ n. (enabled_at self.now.world.now self.now.world.instances n ≡ true) × (is_root strand.now ≡ true) × StepsFirst self.now.world id.now n) }
     {
         let Some(number) = self.instances.get_index_of(id) else {
             return Err(Refusal::UnknownInstance);
@@ -217,61 +280,5 @@ fn loadable_document(alloc: Global, value: &Json) -> Result<Accepted, ReadFault>
         Ok(faults) if faults.is_empty() => Ok(accepted),
         Ok(faults) => Err(ReadFault::Faults(faults)),
         Err(_) => Err(ReadFault::OutOfMemory),
-    }
-}
-
-// The change that adds a document.
-fn load_change(value: &Json, document: Accepted) -> Result<Change, AllocError>
-    ensures { IfOk result (λ c. c ≡ record { kind = load_of value.now document }) }
-{
-    let key = document.document().key.copy()?;
-    let used = Key::Document(document.document().key.copy()?);
-    let value = value.copy()?;
-    Ok(Change {
-        kind: ChangeKind::Load {
-            key,
-            used,
-            loaded: Loaded { value, document },
-        },
-    })
-}
-
-// The change that adds an instance which has not begun.
-fn start_change(
-    alloc: Global,
-    id: &Text,
-    document: &Accepted,
-    input: &Json,
-    now: Moment,
-) -> Result<Change, AllocError>
-    ensures { IfOk result (λ c. c ≡ record { kind = start_of id.now document.now input.now now }) }
-{
-    let used = Key::Instance(id.copy()?);
-    let instance = Machine::begin(alloc, id.copy()?, document.copy()?, input.copy()?, now)?;
-    Ok(Change {
-        kind: ChangeKind::Start {
-            id: id.copy()?,
-            used,
-            instance,
-        },
-    })
-}
-
-// The change that puts an instance after its step in its place.
-fn step_change(
-    alloc: Global,
-    number: usize,
-    instance: &Machine,
-    strand: &Strand,
-    now: Moment,
-) -> Result<Change, AllocError>
-    ensures { IfOk result (λ c. (i : WorldInstance) × (c ≡ record { kind = ChangeKind.Step number i }) × (stepped_one now instance.now ≡ Some i)) }
-{
-    let mut instance = instance.copy(alloc)?;
-    match instance.step(alloc, strand, now) {
-        Ok(()) => Ok(Change {
-            kind: ChangeKind::Step { number, instance },
-        }),
-        Err(_) => Err(AllocError),
     }
 }

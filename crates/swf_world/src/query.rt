@@ -8,6 +8,7 @@ ghost use Rattle.swf_world.specs.Fields.{instances_in};
 ghost use Rattle.swf_world.specs.Kept.{IsPlaced};
 ghost use Rattle.std.specs.List.{AllByRecursion};
 
+use crate::pending::{outbox, pending};
 use crate::reports::report;
 use crate::world::World;
 use indexmap::IndexMap;
@@ -35,6 +36,14 @@ impl World {
     {
         match query {
             Query::Status(id) => self.status(id),
+            Query::Pending => match pending(self.alloc, &self.instances, self.moment) {
+                Ok(value) => Ok(Answer::Pending(value)),
+                Err(_) => Err(QueryFault::OutOfMemory),
+            },
+            Query::Outbox(from) => match outbox(self.alloc, self.outbox.as_slice(), *from) {
+                Ok(value) => Ok(Answer::Outbox(value)),
+                Err(_) => Err(QueryFault::OutOfMemory),
+            },
             Query::History(_) => unreachable!(),
         }
     }

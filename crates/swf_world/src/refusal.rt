@@ -9,6 +9,8 @@ pub enum Refusal {
     Refused(Faults),
     /// Its key was used at this place.
     Duplicate { place: u64 },
+    /// The call is not open.
+    Stale,
     /// The document of the key is not loaded.
     UnknownDocument,
     /// No instance has the id.

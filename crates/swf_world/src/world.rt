@@ -3,16 +3,17 @@ ghost use Rattle.std.specs.Prelude.{◌≡◌, slice_get, option_map};
 ghost use Rattle.swf_meaning.specs.World.{empty};
 ghost use Rattle.swf_world.specs.Waits.{is_due};
 
-use crate::key::Key;
 use crate::timers::Timer;
 use crate::turns::Turns;
 use indexmap::IndexMap;
 use std::alloc::Global;
 use std::collections::BinaryHeap;
 use std::marker::Model;
+use swf_cloudevents::Event;
 use swf_document::DocKey;
 use swf_duration::Moment;
-use swf_tasks::Machine;
+use swf_meaning::Key;
+use swf_tasks::{Machine, Words};
 use swf_text::Text;
 use swf_validate::Accepted;
 use swf_value::Json;
@@ -38,12 +39,17 @@ pub struct World {
     pub(crate) timers: BinaryHeap<Timer>,
     /// The one that was reached last.
     pub(crate) moment: Moment,
+    /// The events that went out.
+    pub(crate) outbox: Vec<Event>,
     /// How many labels came.
     pub(crate) count: u64,
+    /// The names that steps need, once a change was prepared.
+    pub(crate) words: Option<Words>,
 }
 
 impl Model for World {
-    ghost use Rattle.std.specs.Prelude.{◌-◌};
+    ghost use Rattle.std.specs.Prelude.{◌-◌, ◌+◌, length};
+    ghost use Rattle.std.specs.Vec.{vec_len, vec_capacity};
     ghost use Rattle.std.specs.BinaryHeap.{heap_items, heap_len, heap_capacity};
     ghost use Rattle.indexmap.specs.IndexMap.{spare};
     ghost use Rattle.swf_world.specs.Held.{Held, held_code};
@@ -55,7 +61,7 @@ impl Model for World {
     ghost use Rattle.swf_world.specs.Fields.{world_of, room_of};
     ghost use Rattle.swf_world.specs.Kept.{Kept};
 
-    ghost view = { λ w. record { world = world_of w.documents.entries w.instances.entries w.keys.entries w.moment w.count; room = room_of (spare w.documents) (spare w.instances) (spare w.keys) (w.turns.room - heap_len w.timers) (heap_capacity w.timers - heap_len w.timers) w.count } };
+    ghost view = { λ w. record { world = world_of w.documents.entries w.instances.entries w.keys.entries w.moment w.outbox.items w.count; room = room_of (spare w.documents) (spare w.instances) (spare w.keys) (w.turns.room - (heap_len w.timers + length w.instances.entries)) (heap_capacity w.timers - heap_len w.timers) (vec_capacity w.outbox - vec_len w.outbox) w.count } };
 
     ghost invariant = { λ w. Kept w.documents.entries w.instances.entries w.keys.entries w.moment w.count w.turns (heap_items w.timers) };
 }
@@ -73,7 +79,9 @@ impl World {
             turns: Turns::new(alloc),
             timers: BinaryHeap::new(alloc),
             moment: Moment::new(0),
+            outbox: Vec::new(alloc),
             count: 0,
+            words: None,
         }
     }
 

@@ -1,6 +1,6 @@
 use Rattle.std.proofs.Common.{sym, inr, arith}
-use Rattle.swf_record.specs.Decodes.{load_in, start_in, moment_in, step_in, label_in}
-use Rattle.swf_record.proofs.Read.{no_label, load_label, start_label, moment_label, step_label, other_label, tells_same}
+use Rattle.swf_record.specs.Decodes.{load_in, start_in, event_in, reply_in, moment_in, step_in, label_in}
+use Rattle.swf_record.proofs.Read.{no_label, load_label, start_label, event_label, reply_label, moment_label, step_label, other_label, tells_same}
 use Rattle.swf_record.proofs.decode.read_label.Goals as goal
 
 pub returns-in_default : goal.returns-in_default
@@ -18,6 +18,18 @@ returns-in-2 c =
     let rest = c.in-Some.rest.now in
     tells_same (λ l. l) c.read_start.result c.read_start.new.reader.rest.now (start_in rest) (label_in field) (start_label field rest c.in-Some.tag.now c.in-Some.ensures.cases.0 c.in-2.is) c.read_start.ensures
 
+pub returns-in-3 : goal.returns-in-3
+returns-in-3 c =
+    let field = c.args.reader.now.rest.now in
+    let rest = c.in-Some.rest.now in
+    tells_same (λ l. l) c.read_event.result c.read_event.new.reader.rest.now (event_in rest) (label_in field) (event_label field rest c.in-Some.tag.now c.in-Some.ensures.cases.0 c.in-3.is) c.read_event.ensures
+
+pub returns-in-4 : goal.returns-in-4
+returns-in-4 c =
+    let field = c.args.reader.now.rest.now in
+    let rest = c.in-Some.rest.now in
+    tells_same (λ l. l) c.read_answered.result c.read_answered.new.reader.rest.now (reply_in rest) (label_in field) (reply_label field rest c.in-Some.tag.now c.in-Some.ensures.cases.0 c.in-4.is) c.read_answered.ensures
+
 pub returns-in-5 : goal.returns-in-5
 returns-in-5 c =
     let field = c.args.reader.now.rest.now in
@@ -32,4 +44,4 @@ returns-in-6 c =
 
 pub returns-in_default-tag : goal.returns-in_default-tag
 returns-in_default-tag c =
-    inr (sym (other_label c.args.reader.now.rest.now c.in-Some.rest.now c.in-Some.tag.now c.in-Some.ensures.cases.0 (λ e. omega arith) (λ e. omega arith) (λ e. omega arith) (λ e. omega arith)))
+    inr (sym (other_label c.args.reader.now.rest.now c.in-Some.rest.now c.in-Some.tag.now c.in-Some.ensures.cases.0 (λ e. omega arith) (λ e. omega arith) (λ e. omega arith) (λ e. omega arith) (λ e. omega arith) (λ e. omega arith)))

@@ -12,12 +12,12 @@ loaded v = Ok (Load v.0, v.1)
 pub returns-in_err-value : goal.returns-in_err-value
 unfolding load_in
 returns-in_err-value c =
-    passed_on (λ v. v) (λ l. l) c.from_residual.result c.in_err-value.field-0.0 c.value.new.self.rest.now (value_in c.args.reader.now.rest.now) loaded c.from_residual.ensures.1 c.in_err-value.ensures
+    passed_on (λ v. v) (λ l. l) c.from_residual.result c.in_err-value.field-0.0 c.value.new.self.rest.now (value_in 64 c.args.reader.now.rest.now) loaded c.from_residual.ensures.1 c.in_err-value.ensures
 
 pub returns : goal.returns
 unfolding load_in
 returns c =
     let v = c.in_ok-value.field-0 in
     let behind = c.value.new.self.rest.now in
-    let value = read (λ v. v) v behind (value_in c.args.reader.now.rest.now) c.in_ok-value.ensures in
-    then_tells (λ l. l) (Ok (Load v)) behind (value_in c.args.reader.now.rest.now) (v, behind) loaded value (inr refl)
+    let value = read (λ v. v) v behind (value_in 64 c.args.reader.now.rest.now) c.in_ok-value.ensures in
+    then_tells (λ l. l) (Ok (Load v)) behind (value_in 64 c.args.reader.now.rest.now) (v, behind) loaded value (inr refl)

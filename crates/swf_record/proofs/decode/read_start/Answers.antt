@@ -10,7 +10,7 @@ abbrev with_input : List ℕ → List ℕ → List ℕ → List ℕ → Value ×
 with_input id namespace name version input = Ok (Start id (record { namespace = namespace; name = name; version = version }) input.0, input.1)
 
 abbrev with_version : List ℕ → List ℕ → List ℕ → List ℕ × List ℕ → Reading Label
-with_version id namespace name version = value_in version.1 >>= with_input id namespace name version.0
+with_version id namespace name version = value_in 64 version.1 >>= with_input id namespace name version.0
 
 abbrev with_name : List ℕ → List ℕ → List ℕ × List ℕ → Reading Label
 with_name id namespace name = text_in name.1 >>= with_version id namespace name.0
@@ -89,7 +89,7 @@ returns-in_err-input c =
     (then_tells (λ l. l) result left (text_in at_namespace) (namespace, at_name) (with_namespace id) (read (λ x. x) namespace at_name (text_in at_namespace) c.in_ok-namespace.ensures)
     (then_tells (λ l. l) result left (text_in at_name) (name, at_version) (with_name id namespace) (read (λ x. x) name at_version (text_in at_name) c.in_ok-name.ensures)
     (then_tells (λ l. l) result left (text_in at_version) (version, at_input) (with_version id namespace name) (read (λ x. x) version at_input (text_in at_version) c.in_ok-version.ensures)
-    (passed_on (λ x. x) (λ l. l) result c.in_err-input.field-0.0 left (value_in at_input) (with_input id namespace name version) c.from_residual-in_err-input.ensures.1 c.in_err-input.ensures))))
+    (passed_on (λ x. x) (λ l. l) result c.in_err-input.field-0.0 left (value_in 64 at_input) (with_input id namespace name version) c.from_residual-in_err-input.ensures.1 c.in_err-input.ensures))))
 
 pub returns : goal.returns
 unfolding start_in
@@ -110,5 +110,5 @@ returns c =
     (then_tells (λ l. l) result behind (text_in at_namespace) (namespace, at_name) (with_namespace id) (read (λ x. x) namespace at_name (text_in at_namespace) c.in_ok-namespace.ensures)
     (then_tells (λ l. l) result behind (text_in at_name) (name, at_version) (with_name id namespace) (read (λ x. x) name at_version (text_in at_name) c.in_ok-name.ensures)
     (then_tells (λ l. l) result behind (text_in at_version) (version, at_input) (with_version id namespace name) (read (λ x. x) version at_input (text_in at_version) c.in_ok-version.ensures)
-    (then_tells (λ l. l) result behind (value_in at_input) (input, behind) (with_input id namespace name version) (read (λ x. x) input behind (value_in at_input) c.in_ok-input.ensures)
+    (then_tells (λ l. l) result behind (value_in 64 at_input) (input, behind) (with_input id namespace name version) (read (λ x. x) input behind (value_in 64 at_input) c.in_ok-input.ensures)
     (inr refl)))))

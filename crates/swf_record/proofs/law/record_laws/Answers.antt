@@ -12,4 +12,4 @@ pub returns-clause-one : goal.returns-clause-one
 returns-clause-one c = one_list
 
 pub returns-clause-values : goal.returns-clause-values
-returns-clause-values c = λ v valued nests short. record { short = short; again = read_again v valued nests }
+returns-clause-values c = λ most v below valued nests short. record { short = short; again = read_again most v below valued nests }

@@ -1,6 +1,6 @@
 use Rattle.std.proofs.Common.{◌<◌, ap, sym, arith}
 use Rattle.std.specs.BinaryHeap.{heap_items}
-use Rattle.swf_world.specs.declared.key.Key.TheVariants.{Moment}
+use Rattle.swf_meaning.specs.declared.key.Key.TheVariants.{Moment}
 use Rattle.swf_world.specs.Fields.{instances_in}
 use Rattle.swf_world.proofs.Grows.{kept_reached, new_key}
 use Rattle.swf_world.proofs.TimerLemmas.{set_known}

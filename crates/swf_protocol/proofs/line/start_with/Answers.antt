@@ -1,0 +1,6 @@
+use Rattle.swf_protocol.proofs.Unspaced.{id_read}
+use Rattle.swf_protocol.proofs.line.start_with.Goals as goal
+
+pub returns-clause-speakable : goal.returns-clause-speakable
+returns-clause-speakable c =
+    (id_read c.in_ok-id.id c.args.id.now c.in_ok-id.ensures (let a = c.if-not-is_id.false in let b = c.is_id.ensures in let d = c.as_bytes.ensures.value in cc), c.requires.namespace, c.requires.name, c.requires.version, c.in_ok-input.ensures.said)

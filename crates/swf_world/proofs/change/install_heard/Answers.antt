@@ -1,0 +1,71 @@
+use Rattle.std.proofs.Common.{◌≡◌, ◌∙◌, ap, sym, subst, refl, List, length, map, option_map, arith}
+use Rattle.std.specs.List.{AllByRecursion}
+use Rattle.std.proofs.lemmas.Bool.{or_left}
+use Rattle.std.proofs.lemmas.List.{nil_from_length}
+use Rattle.swf_world.specs.declared.offer.Hearing.{Hearing}
+use Rattle.swf_world.specs.Fields.{instances_in}
+use Rattle.swf_world.specs.Offers.{put_all, IsHeardFrom, mark}
+use Rattle.swf_world.specs.Queued.{Queued, is_among}
+use Rattle.swf_world.proofs.HeardLemmas.{heard_within, queued_heard}
+use Rattle.swf_world.proofs.MachineLemmas.{length_put}
+use Rattle.swf_world.proofs.OfferLemmas.{from_again, marked_id, marks_put}
+use Rattle.swf_world.proofs.change.install_heard.Goals as goal
+
+pub loop-number-init : goal.loop-number-init
+loop-number-init c =
+    let is = instances_in c.args.instances.now.entries in
+    let same = c.into_iter-number-iterator.ensures.into_iter_gives.0 in
+    record {
+      heard = ap (λ hs. put_all hs is) same;
+      placed = c.requires.placed;
+      ids = refl;
+      from = subst (AllByRecursion (IsHeardFrom is)) (sym same) c.requires.from;
+      count = refl;
+      long = refl;
+      room = omega (arith, c.requires.room, ap (λ (hs : List Hearing). length hs) same);
+      still = λ n e. e;
+      queued = λ now timers q. q;
+    }
+
+pub put-requires-clause-known : goal.put-requires-clause-known
+put-requires-clause-known c =
+    let is = instances_in c.loop-number.instances.entries in
+    let from = subst (AllByRecursion (IsHeardFrom is)) c.in-Some.ensures.steps.0 c.loop-number.invariant.from in
+    omega (arith, heard_within is c.in-Some.field-0.number c.in-Some.field-0.instance from.0, c.loop-number.invariant.count, c.loop-number.invariant.long, c.requires.count)
+
+pub put-requires-clause-room : goal.put-requires-clause-room
+put-requires-clause-room c = omega (arith, c.loop-number.invariant.room, ap (λ (hs : List Hearing). length hs) c.in-Some.ensures.steps.0)
+
+pub go_on-requires-clause-same : goal.go_on-requires-clause-same
+go_on-requires-clause-same c =
+    let is = instances_in c.loop-number.instances.entries in
+    let from = subst (AllByRecursion (IsHeardFrom is)) c.in-Some.ensures.steps.0 c.loop-number.invariant.from in
+    marked_id is c.in-Some.field-0.number ∙ ap (option_map (λ m. m.0)) from.0
+
+pub loop-number-preserved : goal.loop-number-preserved
+loop-number-preserved c =
+    let is = instances_in c.loop-number.instances.entries in
+    let hs = c.next.new.self.rest.items in
+    let n = c.in-Some.field-0.number in
+    let j = c.in-Some.field-0.instance in
+    let put = c.go_on.ensures.stepped in
+    let from = subst (AllByRecursion (IsHeardFrom is)) c.in-Some.ensures.steps.0 c.loop-number.invariant.from in
+    let marks : map mark is ≡ map mark (instances_in c.go_on.new.instances.entries) = sym (ap (map mark) put ∙ marks_put is n j from.0) in
+    record {
+      heard = ap (put_all hs) put ∙ sym (ap (λ hs. put_all hs is) c.in-Some.ensures.steps.0) ∙ c.loop-number.invariant.heard;
+      placed = c.go_on.ensures.placed;
+      ids = c.go_on.ensures.ids ∙ c.loop-number.invariant.ids;
+      from = from_again is (instances_in c.go_on.new.instances.entries) hs marks from.1;
+      count = c.put.ensures.count ∙ c.loop-number.invariant.count;
+      long = ap length put ∙ length_put is n j ∙ c.loop-number.invariant.long;
+      room = omega (arith, c.loop-number.invariant.room, c.put.ensures.room, ap (λ (hs : List Hearing). length hs) c.in-Some.ensures.steps.0);
+      still = λ m e. c.put.ensures.among m ∙ or_left (is_among m c.loop-number.turns.numbers) _ (c.loop-number.invariant.still m e);
+      queued = λ now timers q.
+          subst (λ xs. Queued now xs c.put.new.self.numbers timers) (sym put)
+          (queued_heard now is c.loop-number.turns.numbers c.put.new.self.numbers timers n j from.0 c.put.ensures.among (c.loop-number.invariant.queued now timers q));
+    }
+
+pub returns-clause-heard : goal.returns-clause-heard
+returns-clause-heard c =
+    let none = nil_from_length c.loop-number.number-iterator.rest.items (omega (arith, c.loop-number.number-iterator.rest.ok.0, c.in-None.ensures.steps.0)) in
+    ap (λ hs. put_all hs (instances_in c.loop-number.instances.entries)) (sym none) ∙ c.loop-number.invariant.heard

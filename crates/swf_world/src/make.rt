@@ -1,0 +1,102 @@
+// The changes that labels make.
+ghost use Rattle.std.specs.Prelude.{◌≡◌, ◌<◌, length, IfOk};
+ghost use Rattle.swf_world.specs.Fields.{instances_in};
+ghost use Rattle.swf_world.specs.Prepares.{untold, load_of, start_of, IsTelling, IsStepping};
+
+use crate::change::{Change, ChangeKind};
+use crate::offer::{Offered, offer};
+use crate::world::Loaded;
+use indexmap::IndexMap;
+use std::alloc::{AllocError, Global};
+use swf_cloudevents::Event;
+use swf_duration::Moment;
+use swf_meaning::Key;
+use swf_tasks::{Machine, Site, StepResult};
+use swf_text::{Strand, Text};
+use swf_validate::Accepted;
+use swf_value::Json;
+
+// A change of which no listen takes an event that is told.
+fn untold(kind: ChangeKind) -> Change
+    ensures { result ≡ untold kind }
+{
+    Change { kind, taken: 0 }
+}
+
+/// The change that adds a document.
+pub fn load_change(value: &Json, document: Accepted) -> Result<Change, AllocError>
+    ensures { IfOk result (λ c. c ≡ load_of value.now document) }
+{
+    let key = document.document().key.copy()?;
+    let used = Key::Document(document.document().key.copy()?);
+    let value = value.copy()?;
+    Ok(untold(ChangeKind::Load {
+        key,
+        used,
+        loaded: Loaded { value, document },
+    }))
+}
+
+/// The change that adds an instance which has not begun.
+pub fn start_change(
+    alloc: Global,
+    id: &Text,
+    document: &Accepted,
+    input: &Json,
+    now: Moment,
+) -> Result<Change, AllocError>
+    ensures { IfOk result (λ c. c ≡ start_of id.now document.now input.now now) }
+{
+    let used = Key::Instance(id.copy()?);
+    let instance = Machine::begin(alloc, id.copy()?, document.copy()?, input.copy()?, now)?;
+    Ok(untold(ChangeKind::Start {
+        id: id.copy()?,
+        used,
+        instance,
+    }))
+}
+
+/// The change that tells an event to all instances.
+pub fn event_change(
+    alloc: Global,
+    event: &Event,
+    instances: &IndexMap<Text, Machine>,
+) -> Result<Change, AllocError>
+    ensures { IfOk result (IsTelling (instances_in instances.now.entries) event.now) }
+{
+    let used = Key::Event(event.source.copy()?, event.id.copy()?);
+    let Offered { heard, taken } = offer(alloc, event, instances, instances.len())?;
+    Ok(Change {
+        kind: ChangeKind::Event { used, heard },
+        taken,
+    })
+}
+
+/// The change that puts an instance after its step in its place. An event that goes out is offered to all, and to it as well.
+pub fn step_change(
+    alloc: Global,
+    number: usize,
+    instances: &IndexMap<Text, Machine>,
+    strand: &Strand,
+    site: &Site<'_>,
+) -> Result<Change, AllocError>
+    requires { number < length instances.now.entries }
+    ensures { IfOk result (IsStepping site.entry.now.now number (instances_in instances.now.entries)) }
+{
+    let mut instance = instances[number].copy(alloc)?;
+    let (emitted, heard) = match instance.step(alloc, strand, site) {
+        Ok(StepResult::Quiet) => (None, Vec::new(alloc)),
+        Ok(StepResult::Emitted(event)) => {
+            instance.deliver_event(alloc, &event)?;
+            let offered = offer(alloc, &event, instances, number)?;
+            (Some(event), offered.heard)
+        }
+        Err(_) => return Err(AllocError),
+    };
+    Ok(untold(ChangeKind::Step {
+        number,
+        instance,
+        emitted,
+        heard,
+    }))
+}

@@ -1,0 +1,73 @@
+// An event is offered to all that listen.
+ghost use Rattle.std.specs.Prelude.{◌≡◌, ◌≤◌, ◌+◌, ◌++◌, ◌∷◌, [], length, nat_lt, if◌then◌else◌, IfOk};
+ghost use Rattle.swf_meaning.specs.Offer.{takers, takers_in, offered_one};
+ghost use Rattle.swf_world.specs.Fields.{instances_in};
+ghost use Rattle.swf_world.specs.Offers.{IsOffer};
+
+use indexmap::IndexMap;
+use std::alloc::{AllocError, Global};
+use swf_cloudevents::Event;
+use swf_tasks::Machine;
+use swf_text::Text;
+
+/// An instance that took an event, after it took it.
+#[derive(Drop)]
+pub struct Hearing {
+    pub number: usize,
+    pub instance: Machine,
+}
+
+/// Those that took an event, and how many of their tasks did.
+#[derive(Drop)]
+pub struct Offered {
+    pub heard: Vec<Hearing>,
+    pub taken: u32,
+}
+
+/// Offers an event to all instances but that of a number, each of which is copied if it takes it.
+pub fn offer(
+    alloc: Global,
+    event: &Event,
+    instances: &IndexMap<Text, Machine>,
+    but: usize,
+) -> Result<Offered, AllocError>
+    ensures heard { IfOk result (λ o. IsOffer but event.now (instances_in instances.now.entries) o.heard.items) }
+    ensures taken { IfOk result (λ o. length (instances_in instances.now.entries) ≤ but → o.taken ≡ takers event.now (instances_in instances.now.entries)) }
+{
+    let mut heard = Vec::new(alloc);
+    let mut taken: u32 = 0;
+    for number in 0..instances.len() {
+        if number != but {
+            let more = offer_one(alloc, event, number, &instances[number], &mut heard)?;
+            taken = sum(taken, more)?;
+        }
+    }
+    Ok(Offered { heard, taken })
+}
+
+// There is none behind the greatest.
+fn sum(a: u32, b: u32) -> Result<u32, AllocError>
+    ensures { IfOk result (λ n. n ≡ a + b) }
+{
+    a.checked_add(b).ok_or(AllocError)
+}
+
+// Offers an event to an instance. Answers how many of its tasks took it.
+fn offer_one(
+    alloc: Global,
+    event: &Event,
+    number: usize,
+    instance: &Machine,
+    heard: &mut Vec<Hearing>,
+) -> Result<u32, AllocError>
+    ensures taken { IfOk result (λ n. n ≡ takers_in event.now instance.now) }
+    ensures heard { IfOk result (λ n. heard.new.items ≡ heard.old.items ++ (if nat_lt 0 n then (record { number = number; instance = offered_one event.now instance.now }) ∷ [] else [])) }
+{
+    if !instance.hears(alloc, event)? {
+        return Ok(0);
+    }
+    let mut instance = instance.copy(alloc)?;
+    let taken = instance.deliver_event(alloc, event)?;
+    heard.push(Hearing { number, instance })?;
+    Ok(taken)
+}
