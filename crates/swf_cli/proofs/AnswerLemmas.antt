@@ -11,9 +11,9 @@ use Rattle.swf_store.specs.declared.said.Piece.{Piece}
 use Rattle.swf_store.specs.Said.{IsSaid}
 use Rattle.swf_meaning.specs.declared.label.Label.{Label}
 use Rattle.swf_meaning.specs.declared.label.Outcome.{Outcome}
-use Rattle.swf_meaning.specs.declared.label.Outcome.TheVariants.{Load, Start, Moment}
+use Rattle.swf_meaning.specs.declared.label.Outcome.TheVariants.{Load, Start, Event, Reply as Replies, Moment}
 use Rattle.swf_meaning.specs.declared.label.Query.{Query}
-use Rattle.swf_meaning.specs.declared.label.Query.TheVariants.{Status as OfStatus, History as OfHistory}
+use Rattle.swf_meaning.specs.declared.label.Query.TheVariants.{Status as OfStatus, Pending as OfPending, Outbox as OfOutbox, History as OfHistory}
 use Rattle.swf_meaning.specs.declared.label.Answer.{Answer}
 use Rattle.swf_meaning.specs.Answer.{status}
 use Rattle.swf_meaning.specs.Runs.{run, world_at, is_quiet}
@@ -26,7 +26,7 @@ use Rattle.swf_world.specs.declared.query.QueryFault.TheVariants.{OutOfMemory as
 use Rattle.swf_world.specs.Latest.{label_of}
 use Rattle.swf_world.specs.Refusals.{refusal}
 use Rattle.swf_world.specs.declared.refusal.Refusal.{Refusal}
-use Rattle.swf_world.specs.declared.refusal.Refusal.TheVariants.{Refused as NotRead, Duplicate, UnknownDocument, UnknownInstance, Past, Full as TooMany, NotEnabled}
+use Rattle.swf_world.specs.declared.refusal.Refusal.TheVariants.{Refused as NotRead, Duplicate, UnknownDocument, UnknownInstance, Stale, Past, Full as TooMany, NotEnabled}
 use Rattle.swf_engine.specs.declared.engine.Settled.{Settled as HasSettled}
 use Rattle.swf_engine.specs.declared.engine.Submitted.{Submitted}
 use Rattle.swf_engine.specs.declared.engine.Submitted.TheVariants.{Accepted, Refused}
@@ -41,15 +41,17 @@ use Rattle.swf_engine.proofs.HistoryLemmas.{left_history, not_grown}
 use Rattle.swf_engine.specs.Moves.{Adds, Breaks, IsStep, AreSteps}
 use Rattle.swf_engine.proofs.MoveLemmas.{some_of, stays_adds}
 use Rattle.swf_protocol.specs.Line.{is_quit}
+use Rattle.swf_protocol.specs.Reading.{Reads}
 use Rattle.swf_protocol.specs.Sayable.{IsSayable, IsModest}
 use Rattle.swf_protocol.specs.declared.command.Command.{Command}
 use Rattle.swf_protocol.specs.declared.command.Command.TheVariants.{Do, Ask, Settle, Quit}
-use Rattle.swf_protocol.specs.declared.command.LineFault.{LineFault}
+use Rattle.swf_protocol.specs.declared.command.CommandFault.{CommandFault}
+use Rattle.swf_protocol.specs.declared.command.CommandFault.TheVariants as faults
 use Rattle.swf_protocol.specs.declared.reply.Reply.{Reply}
 use Rattle.swf_protocol.specs.declared.reply.Reply.TheVariants.{Memory}
 use Rattle.swf_cli.specs.Follows.{MayAdd}
 use Rattle.swf_cli.specs.Steps.{CommandDone, LineDone, Passes, Stand, IsFilled, IsBreak, or_memory, queried}
-use Rattle.swf_cli.specs.Turns.{Outcomes, Settled, Lacks, LineTurn, accepted, refused, settle_reply, query_reply}
+use Rattle.swf_cli.specs.Turns.{Outcomes, Settled, Lacks, LineTurn, accepted, refused, fault_reply, settle_reply, query_reply}
 use Rattle.swf_cli.specs.Sorts.{sort_of, accepted_as}
 use Rattle.swf_cli.specs.declared.answer.Sort.{Sort}
 use Rattle.swf_cli.specs.declared.words.Words.{Words}
@@ -58,33 +60,45 @@ use Rattle.swf_cli.specs.declared.words.Words.{Words}
 pub shallow_nests : (w : World) (o : Outcome) → IsModest (Do o) → Nests (label_of w o)
 shallow_nests w (Load v) m = m
 shallow_nests w (Start id key input) m = m
+shallow_nests w (Event e) m = m
+shallow_nests w (Replies a r) m = m
 shallow_nests w (Moment moment) m = m
 
-accepted_by : (o : Outcome) (n : ℕ) → accepted_as (sort_of o) n ≡ accepted o n
-accepted_by (Load v) n = refl
-accepted_by (Start id key input) n = refl
-accepted_by (Moment moment) n = refl
+accepted_by : (o : Outcome) (n t : ℕ) → accepted_as (sort_of o) n t ≡ accepted o n t
+accepted_by (Load v) n t = refl
+accepted_by (Start id key input) n t = refl
+accepted_by (Event e) n t = refl
+accepted_by (Replies a r) n t = refl
+accepted_by (Moment moment) n t = refl
 
-accepted_sayable : (o : Outcome) (n : ℕ) → n ≤ 2 ^ 40 → IsSayable (accepted o n)
-accepted_sayable (Load v) n h = h
-accepted_sayable (Start id key input) n h = h
-accepted_sayable (Moment moment) n h = h
+accepted_sayable : (o : Outcome) (n t : ℕ) → n ≤ 2 ^ 40 → IsSayable (accepted o n t)
+accepted_sayable (Load v) n t h = h
+accepted_sayable (Start id key input) n t h = h
+accepted_sayable (Event e) n t h = h
+accepted_sayable (Replies a r) n t h = h
+accepted_sayable (Moment moment) n t h = h
 
 -- what the code says of an outcome that was taken
-pub accepted_so : (o : Outcome) (n : ℕ) (s : Sort) (reply : Reply) → s ≡ sort_of o → reply ≡ accepted_as s n → accepted o n ≡ reply
-accepted_so o n s reply e is = sym (is ∙ ap (λ (x : Sort). accepted_as x n) e ∙ accepted_by o n)
+pub accepted_so : (o : Outcome) (n t : ℕ) (s : Sort) (reply : Reply) → s ≡ sort_of o → reply ≡ accepted_as s n t → accepted o n t ≡ reply
+accepted_so o n t s reply e is = sym (is ∙ ap (λ (x : Sort). accepted_as x n t) e ∙ accepted_by o n t)
 
-pub said_accepted : (o : Outcome) (n : ℕ) (reply : Reply) → accepted o n ≡ reply → n ≤ 2 ^ 40 → IsSayable reply
-said_accepted o n reply e h = subst IsSayable e (accepted_sayable o n h)
+pub said_accepted : (o : Outcome) (n t : ℕ) (reply : Reply) → accepted o n t ≡ reply → n ≤ 2 ^ 40 → IsSayable reply
+said_accepted o n t reply e h = subst IsSayable e (accepted_sayable o n t h)
 
 pub refused_sayable : (r : Refusal) → IsSmallRefusal r → IsSayable (refused r)
 refused_sayable (NotRead faults) h = tt
 refused_sayable (Duplicate place) h = h
 refused_sayable UnknownDocument h = tt
 refused_sayable UnknownInstance h = tt
+refused_sayable Stale h = tt
 refused_sayable (Past now) h = tt
 refused_sayable TooMany h = tt
 refused_sayable NotEnabled h = tt
+
+-- a command that was read is the line's
+pub read_line_is : (read line : Result Command CommandFault) (command : Command) → read ≡ Ok command → Reads read line → line ≡ Ok command
+read_line_is read line command is (inl none) = absurd (cc)
+read_line_is read line command is (inr same) = sym same ∙ is
 
 -- where the world is that of the history, so is the answer
 outcome_in : (v w : World) (o : Outcome) (r : Option Refusal) (labels : List Label) (reply : Reply) → v ≡ w → refusal w (label_of w o) ≡ r → Outcomes w o r labels reply
@@ -157,7 +171,7 @@ sayable_or_memory OutOfMemory = tt
 
 -- the reply to an outcome that was handed in, and to a settling
 abbrev pub submit_reply : Outcome → Result Submitted EngineFault → Result Reply EngineFault
-submit_reply o (Ok (Accepted i)) = Ok (accepted o i.place)
+submit_reply o (Ok (Accepted i)) = Ok (accepted o i.place i.taken)
 submit_reply o (Ok (Refused r)) = Ok (refused r)
 submit_reply o (Err fault) = or_memory fault
 
@@ -175,6 +189,8 @@ found_reply (Some v) = refl
 
 pub answer_reply : (history : List Label) (w : World) (q : Query) → queried (answer history w q) ≡ query_reply (answer history w q)
 answer_reply history w (OfStatus id) = found_reply (status w id)
+answer_reply history w OfPending = refl
+answer_reply history w (OfOutbox n) = refl
 answer_reply history w (OfHistory place) = refl
 
 -- a settling's numbers fit
@@ -274,7 +290,7 @@ module _ (words : Words) where
   module _ {S : Type 0} (moment : S → ℕ) (left_since : S → ℕ → Image → List Piece → Type 0) (said : S → Option (List Piece)) (may_leave : S → Image → Type 0) (seen : S → Option Image)
       (only_now : (s : S) (image : Image) (pieces : List Piece) → left_since s (moment s) image pieces → may_leave s image × IsSaid (said s) pieces) where
     -- a line that adds nothing
-    pub line_stays : (command : Result Command LineFault) (old : S) (engine : Core) (reply : Reply) → ((history : List Label) → run history ≡ Some engine.world → LineTurn words history command [] reply)
+    pub line_stays : (command : Result Command CommandFault) (old : S) (engine : Core) (reply : Reply) → ((history : List Label) → run history ≡ Some engine.world → LineTurn words history command [] reply)
         → LineDone words moment left_since said may_leave seen command old old engine engine (Ok reply)
     line_stays command old engine reply does = λ image is history stands.
         done_by moment left_since said may_leave seen only_now (MayAdd words history command) (LineTurn words history command) old old engine engine image history [] reply (stays_adds moment left_since said may_leave seen only_now old engine) is stands (does history stands.run)
@@ -285,8 +301,8 @@ module _ (words : Words) where
     submit_done o old new before after (Ok (Accepted i)) h = λ image is history stands.
         let l = label_of before.world o in
         let e : world_at history ≡ before.world = world_of_run history before.world stands.run in
-        done_by moment left_since said may_leave seen only_now (MayAdd words history (Ok (Do o))) (LineTurn words history (Ok (Do o))) old new before after image history (l ∷ []) (accepted o i.place) h.0 is stands
-        (inl (outcome_in (world_at history) before.world o None (l ∷ []) (accepted o i.place) e h.1 (refl, ap (accepted o) h.3)))
+        done_by moment left_since said may_leave seen only_now (MayAdd words history (Ok (Do o))) (LineTurn words history (Ok (Do o))) old new before after image history (l ∷ []) (accepted o i.place i.taken) h.0 is stands
+        (inl (outcome_in (world_at history) before.world o None (l ∷ []) (accepted o i.place i.taken) e h.1 (refl, ap (λ (n : ℕ). accepted o n i.taken) h.3 ∙ ap (accepted o before.world.count) h.4)))
     submit_done o old new before after (Ok (Refused r)) h = λ image is history stands.
         let e : world_at history ≡ before.world = world_of_run history before.world stands.run in
         done_by moment left_since said may_leave seen only_now (MayAdd words history (Ok (Do o))) (LineTurn words history (Ok (Do o))) old new before after image history [] (refused r) (adds_none moment left_since said may_leave seen only_now old new before after h.2) is stands
@@ -375,10 +391,10 @@ module _ (words : Words) where
         subst (λ (x : Result Reply EngineFault). LineDone words moment left_since said may_leave seen (Ok (Ask q)) old new before after x) e (asked_done q old new before after result same unseen stop only answers)
 
     -- the same of equal commands and answers
-    pub line_as : (a b : Result Command LineFault) (old new : S) (before after : Core) (r s : Result Reply EngineFault) → a ≡ b → r ≡ s
+    pub line_as : (a b : Result Command CommandFault) (old new : S) (before after : Core) (r s : Result Reply EngineFault) → a ≡ b → r ≡ s
         → LineDone words moment left_since said may_leave seen b old new before after r → LineDone words moment left_since said may_leave seen a old new before after s
     line_as a b old new before after r s e f h =
-        subst (λ (c : Result Command LineFault). LineDone words moment left_since said may_leave seen c old new before after s) (sym e)
+        subst (λ (c : Result Command CommandFault). LineDone words moment left_since said may_leave seen c old new before after s) (sym e)
         (subst (λ (x : Result Reply EngineFault). LineDone words moment left_since said may_leave seen b old new before after x) f h)
 
   -- no settling takes more than a million steps
@@ -386,9 +402,18 @@ module _ (words : Words) where
   limit_small None limit is small m = omega (arith, is, small)
   limit_small (Some n) limit is small m = omega (arith, is, m)
 
-  pub lacks_none : (command : Result Command LineFault) → is_quit command ≡ false → Lacks words command []
+  pub lacks_none : (command : Result Command CommandFault) → is_quit command ≡ false → Lacks words command []
   lacks_none (Err f) e = refl
   lacks_none (Ok (Do o)) e = refl
   lacks_none (Ok (Ask q)) e = refl
   lacks_none (Ok (Settle limit)) e = steps_none (unwrap_or limit words.steps)
   lacks_none (Ok Quit) e = absurd (cc)
+
+  -- a line that spells no command adds nothing, and its fault is said; so is want of memory
+  pub unread_turn : (history : List Label) (command read : Result Command CommandFault) (fault : CommandFault) → read ≡ Err fault → Reads read command → (read ≡ Err faults.OutOfMemory → is_quit command ≡ false)
+      → LineTurn words history command [] (fault_reply fault)
+  unread_turn history command read fault is (inl none) memory =
+      let e : fault ≡ faults.OutOfMemory = cc in
+      inr (ap fault_reply e, lacks_none command (memory none))
+  unread_turn history command read fault is (inr same) memory =
+      subst (λ (c : Result Command CommandFault). LineTurn words history c [] (fault_reply fault)) (sym is ∙ same) (inl (refl, refl))

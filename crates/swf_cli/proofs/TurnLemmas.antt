@@ -24,7 +24,7 @@ use Rattle.swf_protocol.specs.Line.{command_of}
 use Rattle.swf_protocol.specs.Spoken.{spoken, full_bytes}
 use Rattle.swf_protocol.specs.declared.command.Command.{Command}
 use Rattle.swf_protocol.specs.declared.command.Command.TheVariants.{Do, Ask, Settle, Quit}
-use Rattle.swf_protocol.specs.declared.command.LineFault.{LineFault}
+use Rattle.swf_protocol.specs.declared.command.CommandFault.{CommandFault}
 use Rattle.swf_protocol.specs.declared.reply.Reply.{Reply}
 use Rattle.swf_protocol.specs.declared.reply.Reply.TheVariants.{TooLong}
 use Rattle.swf_cli.specs.declared.answer.Answered.{Answered}
@@ -48,7 +48,7 @@ module _ (words : Words) where
   may_do history o (Some r) labels reply part is h b = inl (begins_no part labels h.0 b)
 
   -- a line adds what it may add
-  pub line_may : (history : List Label) (command : Result Command LineFault) (labels : List Label) (reply : Reply) (part : List Label) → LineTurn words history command labels reply → Begins part labels → MayAdd words history command part
+  pub line_may : (history : List Label) (command : Result Command CommandFault) (labels : List Label) (reply : Reply) (part : List Label) → LineTurn words history command labels reply → Begins part labels → MayAdd words history command part
   line_may history (Err f) labels reply part (inl a) b = begins_no part labels a.0 b
   line_may history (Ok (Do o)) labels reply part (inl a) b = may_do history o (refusal (world_at history) (label_of (world_at history) o)) labels reply part refl a b
   line_may history (Ok (Ask q)) labels reply part (inl a) b = begins_no part labels a.0 b

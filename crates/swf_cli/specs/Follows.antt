@@ -11,7 +11,7 @@ use Rattle.swf_protocol.specs.Line.{command_of}
 use Rattle.swf_protocol.specs.Spoken.{spoken}
 use Rattle.swf_protocol.specs.declared.command.Command.{Command}
 use Rattle.swf_protocol.specs.declared.command.Command.TheVariants.{Do, Settle}
-use Rattle.swf_protocol.specs.declared.command.LineFault.{LineFault}
+use Rattle.swf_protocol.specs.declared.command.CommandFault.{CommandFault}
 use Rattle.swf_protocol.specs.declared.reply.Reply.{Reply}
 use Rattle.swf_cli.specs.Turns.{Turn, AreTurns, is_long, ends, labels_of, inputs_of}
 use Rattle.swf_cli.specs.declared.words.Words.{Words}
@@ -43,7 +43,7 @@ AreOpen (t ∷ ts) = (ends t.input ≡ false) × AreOpen ts
 -- by the words of the program
 module _ (words : Words) where
   -- a command has added these labels so far
-  abbrev pub MayAdd : List Label → Result Command LineFault → List Label → Type 0
+  abbrev pub MayAdd : List Label → Result Command CommandFault → List Label → Type 0
   MayAdd before (Ok (Do o)) part = (part ≡ []) ⊎ ((refusal (world_at before) (label_of (world_at before) o) ≡ None) × (part ≡ label_of (world_at before) o ∷ []))
   MayAdd before (Ok (Settle limit)) part = AreSteps part (unwrap_or limit words.steps)
   MayAdd before command part = part ≡ []

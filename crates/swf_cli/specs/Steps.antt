@@ -14,16 +14,16 @@ use Rattle.swf_engine.specs.Core.{Core, StandFor}
 use Rattle.swf_engine.specs.History.{IsHistory, Begins, IsGrown}
 use Rattle.swf_engine.specs.Moves.{IsFull}
 use Rattle.swf_meaning.specs.declared.label.Answer.{Answer}
-use Rattle.swf_meaning.specs.declared.label.Answer.TheVariants.{Status, History}
+use Rattle.swf_meaning.specs.declared.label.Answer.TheVariants.{Status, Pending as Waits, Outbox as Sent, History}
 use Rattle.swf_world.specs.Refusals.{refusal}
 use Rattle.swf_world.specs.declared.query.QueryFault.{QueryFault}
 use Rattle.swf_world.specs.declared.query.QueryFault.TheVariants.{UnknownInstance, OutOfMemory as NoMemory}
 use Rattle.swf_protocol.specs.Line.{command_of}
 use Rattle.swf_protocol.specs.Spoken.{full_bytes}
 use Rattle.swf_protocol.specs.declared.command.Command.{Command}
-use Rattle.swf_protocol.specs.declared.command.LineFault.{LineFault}
+use Rattle.swf_protocol.specs.declared.command.CommandFault.{CommandFault}
 use Rattle.swf_protocol.specs.declared.reply.Reply.{Reply}
-use Rattle.swf_protocol.specs.declared.reply.Reply.TheVariants.{Report, History as Labels, UnknownInstance as NoInstance, Memory}
+use Rattle.swf_protocol.specs.declared.reply.Reply.TheVariants.{Report, Pending, Outbox, History as Labels, UnknownInstance as NoInstance, Memory}
 use Rattle.swf_cli.specs.declared.answer.Answered.{Answered}
 use Rattle.swf_cli.specs.declared.turn.After.{After}
 use Rattle.swf_cli.specs.declared.turn.After.TheVariants.{GoesOn, Ends, Stops}
@@ -57,6 +57,8 @@ or_memory OutOfMemory = Ok Memory
 -- the reply to a query by its answer, or that no memory was found
 abbrev pub queried : Result Answer QueryFault → Reply
 queried (Ok (Status v)) = Report v
+queried (Ok (Waits v)) = Pending v
+queried (Ok (Sent v)) = Outbox v
 queried (Ok (History v)) = Labels v
 queried (Err UnknownInstance) = NoInstance
 queried (Err NoMemory) = Memory
@@ -151,7 +153,7 @@ module _ {S : Type 0} (moment : S → ℕ) (left_since : S → ℕ → Image →
 -- by the words of the program
 module _ (words : Words) {S : Type 0} (moment : S → ℕ) (left_since : S → ℕ → Image → List Piece → Type 0) (said : S → Option (List Piece)) (may_leave : S → Image → Type 0) (seen : S → Option Image) where
   -- where engine and store stood for a history before it, a line was answered so
-  abbrev pub LineDone : Result Command LineFault → S → S → Core → Core → Result Reply EngineFault → Type 0
+  abbrev pub LineDone : Result Command CommandFault → S → S → Core → Core → Result Reply EngineFault → Type 0
   LineDone command old new before after result = ForSome (seen old) (λ image. (history : List Label) → StandFor image (may_leave old) before history
       → CommandDone moment left_since said may_leave seen (MayAdd words history command) (LineTurn words history command) history old new after result)
 

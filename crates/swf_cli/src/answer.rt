@@ -6,16 +6,16 @@ ghost use Rattle.swf_protocol.specs.Line.{command_of, is_quit};
 ghost use Rattle.swf_protocol.specs.Sayable.{IsSayable, IsModest};
 ghost use Rattle.swf_cli.specs.Steps.{LineDone, reply_of, or_memory, queried, IsBreak};
 ghost use Rattle.swf_cli.specs.Sorts.{sort_of, accepted_as};
-ghost use Rattle.swf_cli.specs.Turns.{refused, settle_reply};
+ghost use Rattle.swf_cli.specs.Turns.{refused, settle_reply, fault_reply};
 ghost use Rattle.swf_cli.specs.declared.words.Words.{Words as Meaning};
 
 use crate::words::Words;
 use std::alloc::Global;
 use swf_engine::{Engine, EngineFault, Settled, Submitted};
 use swf_meaning::{Answer, Outcome, Query};
-use swf_protocol::{Command, ReadFault, Reply, read_line};
+use swf_protocol::{Command, CommandFault, Reply, read_command};
 use swf_store::Store;
-use swf_world::{QueryFault, Refusal};
+use swf_world::{Installed, QueryFault, Refusal};
 
 /// What a line is answered, and whether the input ends with it.
 #[derive(Drop)]
@@ -29,6 +29,8 @@ pub struct Answered {
 pub enum Sort {
     Load,
     Start,
+    Event,
+    Reply,
     Moment,
 }
 
@@ -38,17 +40,22 @@ fn sort_of(outcome: &Outcome) -> Sort
     match outcome {
         Outcome::Load(_) => Sort::Load,
         Outcome::Start { .. } => Sort::Start,
+        Outcome::Event(_) => Sort::Event,
+        Outcome::Reply { .. } => Sort::Reply,
         Outcome::Moment(_) => Sort::Moment,
     }
 }
 
-// The reply to an outcome whose label was added at this place.
-fn accepted(sort: Sort, place: u64) -> Reply
-    ensures { result ≡ accepted_as sort place }
+// The reply to an outcome whose label was added.
+fn accepted(sort: Sort, installed: Installed) -> Reply
+    ensures { result ≡ accepted_as sort installed.place installed.taken }
 {
+    let Installed { place, taken } = installed;
     match sort {
         Sort::Load => Reply::Loaded(place),
         Sort::Start => Reply::Started(place),
+        Sort::Event => Reply::Accepted { place, taken },
+        Sort::Reply => Reply::Replied(place),
         Sort::Moment => Reply::Reached(place),
     }
 }
@@ -61,6 +68,7 @@ fn refused(refusal: Refusal) -> Reply
         Refusal::Duplicate { place } => Reply::Duplicate(place),
         Refusal::UnknownDocument => Reply::UnknownDocument,
         Refusal::UnknownInstance => Reply::UnknownInstance,
+        Refusal::Stale => Reply::Stale,
         Refusal::Past { now } => Reply::Past(now),
         Refusal::Full => Reply::Full,
         Refusal::NotEnabled => Reply::UnknownInstance,
@@ -97,7 +105,7 @@ fn submit<S: Store>(
 {
     let sort = sort_of(&outcome);
     match engine.submit(store, outcome) {
-        Ok(Submitted::Accepted(installed)) => Ok(accepted(sort, installed.place)),
+        Ok(Submitted::Accepted(installed)) => Ok(accepted(sort, installed)),
         Ok(Submitted::Refused(refusal)) => Ok(refused(refusal)),
         Err(fault) => or_memory(fault),
     }
@@ -147,6 +155,8 @@ pub fn queried(answer: Result<Answer, QueryFault>) -> Reply
 {
     match answer {
         Ok(Answer::Status(value)) => Reply::Report(value),
+        Ok(Answer::Pending(value)) => Reply::Pending(value),
+        Ok(Answer::Outbox(value)) => Reply::Outbox(value),
         Ok(Answer::History(value)) => Reply::History(value),
         Err(QueryFault::UnknownInstance) => Reply::UnknownInstance,
         Err(QueryFault::OutOfMemory) => Reply::Memory,
@@ -197,6 +207,18 @@ fn obey<S: Store>(
     }
 }
 
+// The reply to a line that spells no command.
+fn unread(fault: CommandFault) -> Reply
+    ensures reply { result ≡ fault_reply fault }
+    ensures sayable { IsSayable result }
+{
+    match fault {
+        CommandFault::BadLine(fault) => Reply::BadLine(fault),
+        CommandFault::BadEvent { attribute, kind } => Reply::BadEvent { attribute, kind },
+        CommandFault::OutOfMemory => Reply::Memory,
+    }
+}
+
 fn is_quit(command: &Command) -> bool
     ensures { result ≡ is_quit (Ok command.now) }
 {
@@ -223,7 +245,7 @@ pub fn answer_line<S: Store>(
     ensures honest { is_some (S.seen store.new) ≡ is_some (S.seen store.old) }
     ensures cause { EngineCause (S.store_faults store.old) (S.store_faults store.new) result }
 {
-    match read_line(alloc, line) {
+    match read_command(alloc, line) {
         Ok(command) => {
             let ends = is_quit(&command);
             match obey(words, store, engine, command) {
@@ -231,12 +253,8 @@ pub fn answer_line<S: Store>(
                 Err(fault) => Err(fault),
             }
         }
-        Err(ReadFault::Line(fault)) => Ok(Answered {
-            reply: Reply::BadLine(fault),
-            ends: false,
-        }),
-        Err(ReadFault::OutOfMemory) => Ok(Answered {
-            reply: Reply::Memory,
+        Err(fault) => Ok(Answered {
+            reply: unread(fault),
             ends: false,
         }),
     }

@@ -14,10 +14,10 @@ ghost use Rattle.swf_cli.specs.Turns.{is_long};
 
 use crate::answer::{Answered, answer_line};
 use crate::words::Words;
-use std::alloc::Global;
+use std::alloc::{AllocError, Global};
 use swf_engine::{Engine, EngineFault};
 use swf_host::{Host, Input, MOST_LINE};
-use swf_protocol::{Reply, damaged_line, full_line, reply_line};
+use swf_protocol::{Reply, damaged_line, full_line, reply_bytes};
 
 /// The store failed.
 pub const STORE_FAULT: u8 = 3;
@@ -74,6 +74,16 @@ fn answer_ask<H: Host>(
     answer_line(alloc, words, host, engine, line)
 }
 
+// The line of a reply.
+fn line_of(alloc: Global, reply: &Reply) -> Result<Vec<u8>, AllocError>
+    requires { IsSayable reply.now }
+    ensures { IfOk result (λ bytes. bytes.items ≡ spoken reply.now) }
+{
+    let mut line = reply_bytes(alloc, reply)?;
+    line.push(b'\n')?;
+    Ok(line)
+}
+
 /// Says a reply to the connection that asked.
 pub fn say<H: Host>(alloc: Global, host: &mut H, conn: u64, answered: Answered) -> After
     requires { IsSayable answered.reply }
@@ -82,7 +92,7 @@ pub fn say<H: Host>(alloc: Global, host: &mut H, conn: u64, answered: Answered) 
     ensures blamed { IsBlamed (status_of result) (H.host_faults host.old) (H.host_faults host.new) (H.store_faults host.old) (H.store_faults host.new) }
 {
     let ends = answered.ends;
-    let Ok(line) = reply_line(alloc, answered.reply) else {
+    let Ok(line) = line_of(alloc, &answered.reply) else {
         return After::Stops(NO_MEMORY);
     };
     match host.say(conn, &line) {

@@ -14,7 +14,7 @@ use Rattle.swf_world.specs.Early.{IsEarlyRefusal}
 use Rattle.swf_world.specs.Enabled.{CanGo}
 use Rattle.swf_world.specs.Refusals.{refusal}
 use Rattle.swf_world.specs.declared.refusal.Refusal.{Refusal}
-use Rattle.swf_world.specs.declared.refusal.Refusal.TheVariants.{Refused as NotRead, Duplicate, UnknownDocument, UnknownInstance, Full as TooMany, Past, NotEnabled}
+use Rattle.swf_world.specs.declared.refusal.Refusal.TheVariants.{Refused as NotRead, Duplicate, UnknownDocument, UnknownInstance, Stale, Full as TooMany, Past, NotEnabled}
 use Rattle.swf_engine.specs.declared.engine.Submitted.{Submitted}
 use Rattle.swf_engine.specs.declared.engine.Submitted.TheVariants.{Accepted, Refused}
 use Rattle.swf_engine.specs.declared.fault.EngineFault.{EngineFault}
@@ -63,6 +63,7 @@ small_refusal (NotRead faults) e = tt
 small_refusal (Duplicate place) e = e
 small_refusal UnknownDocument e = tt
 small_refusal UnknownInstance e = tt
+small_refusal Stale e = tt
 small_refusal TooMany e = tt
 small_refusal (Past now) e = tt
 small_refusal NotEnabled e = tt

@@ -3,14 +3,14 @@ use Rattle.std.specs.Prelude.{◌≡◌, ℕ, ◌+◌, ◌≤◌, Bool, true, fa
 use Rattle.swf_store.specs.declared.image.Image.{Image}
 use Rattle.swf_store.specs.declared.said.Piece.{Piece}
 use Rattle.swf_meaning.specs.declared.label.Label.{Label}
-use Rattle.swf_meaning.specs.After.{after}
+use Rattle.swf_meaning.specs.After.{after, taken_by}
 use Rattle.swf_meaning.specs.Runs.{is_quiet}
 use Rattle.swf_record.specs.Encodes.{labels_bytes}
 use Rattle.swf_world.specs.Refusals.{refusal}
 use Rattle.swf_world.specs.declared.refusal.PrepareFault.{PrepareFault}
 use Rattle.swf_world.specs.declared.refusal.PrepareFault.TheVariants as unready
 use Rattle.swf_world.specs.declared.refusal.Refusal.{Refusal}
-use Rattle.swf_world.specs.declared.refusal.Refusal.TheVariants.{Refused as NotRead, Duplicate, UnknownDocument, UnknownInstance, Full as TooMany, Past, NotEnabled}
+use Rattle.swf_world.specs.declared.refusal.Refusal.TheVariants.{Refused as NotRead, Duplicate, UnknownDocument, UnknownInstance, Stale, Full as TooMany, Past, NotEnabled}
 use Rattle.swf_engine.specs.declared.engine.Settled.{Settled}
 use Rattle.swf_engine.specs.declared.engine.Submitted.{Submitted}
 use Rattle.swf_engine.specs.declared.engine.Submitted.TheVariants.{Accepted, Refused}
@@ -33,6 +33,7 @@ IsSmallRefusal (NotRead faults) = Unit {0}
 IsSmallRefusal (Duplicate place) = place ≤ most_bytes
 IsSmallRefusal UnknownDocument = Unit {0}
 IsSmallRefusal UnknownInstance = Unit {0}
+IsSmallRefusal Stale = Unit {0}
 IsSmallRefusal TooMany = Unit {0}
 IsSmallRefusal (Past now) = Unit {0}
 IsSmallRefusal NotEnabled = Unit {0}
@@ -46,7 +47,7 @@ module _ {S : Type 0} (moment : S → ℕ) (left_since : S → ℕ → Image →
   -- handing a label in: it was added, or refused for its first cause, or the call was not done
   abbrev pub Submits : S → S → Core → Core → Label → Result Submitted EngineFault → Type 0
   Submits old new before later label (Ok (Accepted i)) =
-      Adds moment left_since said may_leave seen old new before later (label ∷ []) × (refusal before.world label ≡ None) × HasRoom before label × (i.place ≡ before.world.count) × (i.taken ≡ 0)
+      Adds moment left_since said may_leave seen old new before later (label ∷ []) × (refusal before.world label ≡ None) × HasRoom before label × (i.place ≡ before.world.count) × (i.taken ≡ taken_by before.world label)
   Submits old new before later label (Ok (Refused r)) = (refusal before.world label ≡ Some r) × (after before.world label ≡ None) × Stays old new before later
   Submits old new before later label (Err Store) = Breaks moment left_since said may_leave seen old new before (label ∷ []) × (refusal before.world label ≡ None) × HasRoom before label
   Submits old new before later label (Err (Damaged at)) = ⊥

@@ -6,7 +6,7 @@ use Rattle.swf_store.specs.declared.image.Image.{Image}
 use Rattle.swf_store.specs.declared.said.Piece.{Piece}
 use Rattle.swf_store.specs.Stops.{LeavesOnly}
 use Rattle.swf_meaning.specs.declared.label.Label.{Label}
-use Rattle.swf_meaning.specs.declared.label.Label.TheVariants.{Load, Start, Moment, Step}
+use Rattle.swf_meaning.specs.declared.label.Label.TheVariants.{Load, Start, Event, Reply, Moment, Step}
 use Rattle.swf_meaning.specs.Runs.{run_from, is_quiet}
 use Rattle.swf_meaning.specs.World.{World}
 use Rattle.swf_record.specs.Encodes.{labels_bytes}
@@ -35,6 +35,8 @@ module _ {S : Type 0} (moment : S → ℕ) (left_since : S → ℕ → Image →
 abbrev pub IsStep : Label → Type 0
 IsStep (Load v) = ⊥
 IsStep (Start id key input) = ⊥
+IsStep (Event e) = ⊥
+IsStep (Reply a r) = ⊥
 IsStep (Moment moment) = ⊥
 IsStep (Step id strand) = Unit {0}
 

@@ -8,9 +8,9 @@ use Rattle.swf_journal.specs.Place.{Place, HasRead}
 use Rattle.swf_journal.specs.Stands.{Fits, IsShutAfter}
 use Rattle.swf_meaning.specs.declared.label.Label.{Label}
 use Rattle.swf_meaning.specs.declared.label.Query.{Query}
-use Rattle.swf_meaning.specs.declared.label.Query.TheVariants.{Status as OfStatus, History as OfHistory}
+use Rattle.swf_meaning.specs.declared.label.Query.TheVariants.{Status as OfStatus, Pending as OfPending, Outbox as OfOutbox, History as OfHistory}
 use Rattle.swf_meaning.specs.declared.label.Answer.{Answer}
-use Rattle.swf_meaning.specs.declared.label.Answer.TheVariants.{Status, History}
+use Rattle.swf_meaning.specs.declared.label.Answer.TheVariants.{Status, Pending, Outbox, History}
 use Rattle.swf_meaning.specs.Printed.{printed, most_told, told_from, labels_value, history_value}
 use Rattle.swf_meaning.specs.World.{World}
 use Rattle.swf_world.specs.Answers.{answer}
@@ -92,6 +92,8 @@ Retells journal place (Err OutOfMemory) = Unit {0}
 abbrev pub AnswersHistory : List ℕ → ℕ → Result (Result Answer QueryFault) EngineFault → Type 0
 AnswersHistory journal place (Ok (Ok (History value))) = IsRetold journal place value
 AnswersHistory journal place (Ok (Ok (Status value))) = ⊥
+AnswersHistory journal place (Ok (Ok (Pending value))) = ⊥
+AnswersHistory journal place (Ok (Ok (Outbox value))) = ⊥
 AnswersHistory journal place (Ok (Err f)) = ⊥
 AnswersHistory journal place (Err Store) = Unit {0}
 AnswersHistory journal place (Err (Damaged at)) = IsMisread journal place at
@@ -101,6 +103,8 @@ AnswersHistory journal place (Err OutOfMemory) = Unit {0}
 -- a history is told from the journal, and any other query is answered
 abbrev pub Queries : List ℕ → Query → Result (Result Answer QueryFault) EngineFault → Type 0
 Queries journal (OfStatus id) r = Unit {0}
+Queries journal OfPending r = Unit {0}
+Queries journal (OfOutbox n) r = Unit {0}
 Queries journal (OfHistory place) r = AnswersHistory journal place r
 
 -- behind this history a query is answered so, unless memory or the store is missing

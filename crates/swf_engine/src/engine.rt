@@ -169,6 +169,8 @@ impl Engine {
                 Err(fault) => Err(fault),
             },
             Query::Status(_) => Ok(self.world.answer(query)),
+            Query::Pending => Ok(self.world.answer(query)),
+            Query::Outbox(_) => Ok(self.world.answer(query)),
         }
     }
 

@@ -6,6 +6,8 @@ ghost use Rattle.swf_text.specs.Same.{is_ascii};
 ghost use Rattle.swf_meaning.specs.Printed.{key_text, printed};
 
 use std::alloc::{AllocError, Global};
+use swf_calls::{CallReply, reply_json};
+use swf_cloudevents::{Event, event_json};
 use swf_document::DocKey;
 use swf_duration::Moment;
 use swf_meaning::Label;
@@ -53,6 +55,25 @@ fn print_start(alloc: Global, id: &Text, key: &DocKey, input: &Json) -> Result<J
     Json::object(alloc, members)
 }
 
+fn print_event(alloc: Global, event: &Event) -> Result<Json, AllocError>
+    ensures { IfOk result (λ v. v ≡ printed (Label.Event event.now)) }
+{
+    let mut members = Vec::new(alloc);
+    members.push(member(alloc, "event", event_json(alloc, event)?)?)?;
+    members.push(label_member(alloc, "event")?)?;
+    Json::object(alloc, members)
+}
+
+fn print_reply(alloc: Global, activity: &Text, reply: &CallReply) -> Result<Json, AllocError>
+    ensures { IfOk result (λ v. v ≡ printed (Label.Reply activity.now reply.now)) }
+{
+    let mut members = Vec::new(alloc);
+    members.push(member(alloc, "activity", Json::text(activity.copy()?))?)?;
+    members.push(label_member(alloc, "reply")?)?;
+    members.push(member(alloc, "reply", reply_json(alloc, reply)?)?)?;
+    Json::object(alloc, members)
+}
+
 // A moment is at most 4,503,599,627,370,495.
 fn print_moment(alloc: Global, moment: Moment) -> Result<Json, AllocError>
     ensures { IfOk result (λ v. v ≡ printed (Label.Moment moment)) }
@@ -91,6 +112,8 @@ pub fn print_label(alloc: Global, label: &Label) -> Result<Json, AllocError>
     match label {
         Label::Load(document) => print_load(alloc, document),
         Label::Start { id, key, input } => print_start(alloc, id, key, input),
+        Label::Event(event) => print_event(alloc, event),
+        Label::Reply { activity, reply } => print_reply(alloc, activity, reply),
         Label::Moment(moment) => print_moment(alloc, *moment),
         Label::Step { id, strand } => print_step(alloc, id, strand),
     }

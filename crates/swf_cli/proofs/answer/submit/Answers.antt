@@ -18,13 +18,13 @@ returns-in-Ok-Accepted-clause-done g c = λ words.
     let o = c.args.outcome in
     submit_done_as words H.moment H.left_since H.said H.may_leave H.seen g.met.S.Store.only_now o c.args.store.now c.submit.new.store c.args.engine.now c.submit.new.self c.submit.result (Ok c.accepted.result)
     c.submit.ensures.submits
-    (ap (submit_reply o) (c.in-Ok-Accepted.is ∙ ap Ok c.in-Ok-Accepted.field-0-is) ∙ ap Ok (accepted_so o c.in-Ok-Accepted.installed.place c.sort_of-sort.result c.accepted.result c.sort_of-sort.ensures c.accepted.ensures))
+    (ap (submit_reply o) (c.in-Ok-Accepted.is ∙ ap Ok c.in-Ok-Accepted.field-0-is) ∙ ap Ok (accepted_so o c.in-Ok-Accepted.installed.place c.in-Ok-Accepted.installed.taken c.sort_of-sort.result c.accepted.result c.sort_of-sort.ensures c.accepted.ensures))
 
 pub returns-in-Ok-Accepted-clause-sayable : goal.returns-in-Ok-Accepted-clause-sayable
 returns-in-Ok-Accepted-clause-sayable g c =
     let small = subst (λ (r : Result Submitted EngineFault). IfOk r IsSmall) (c.in-Ok-Accepted.is ∙ ap Ok c.in-Ok-Accepted.field-0-is) c.submit.ensures.small in
-    said_accepted c.args.outcome c.in-Ok-Accepted.installed.place c.accepted.result
-    (accepted_so c.args.outcome c.in-Ok-Accepted.installed.place c.sort_of-sort.result c.accepted.result c.sort_of-sort.ensures c.accepted.ensures) small
+    said_accepted c.args.outcome c.in-Ok-Accepted.installed.place c.in-Ok-Accepted.installed.taken c.accepted.result
+    (accepted_so c.args.outcome c.in-Ok-Accepted.installed.place c.in-Ok-Accepted.installed.taken c.sort_of-sort.result c.accepted.result c.sort_of-sort.ensures c.accepted.ensures) small
 
 pub returns-in-Ok-Refused-clause-done : goal.returns-in-Ok-Refused-clause-done
 returns-in-Ok-Refused-clause-done g c = λ words.

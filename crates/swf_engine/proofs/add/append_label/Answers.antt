@@ -35,7 +35,7 @@ returns-in-Ok-append-clause-submits g c =
       c.in-Ok.ensures.taken,
       had_room S.moment S.left_since S.said S.may_leave S.seen c.args.journal.now.at c.args.journal.now.limit c.in-Ok-frame_of.frame label c.requires.limit c.in-Ok-frame_of.ensures c.in-Ok-append.ensures.full,
       c.install.ensures.place ∙ ap (λ (w : World). w.count) c.prepare.ensures.same,
-      c.install.ensures.taken,
+      c.install.ensures.taken ∙ c.in-Ok.ensures.listens,
     )
 
 pub returns-clause-submits : goal.returns-clause-submits

@@ -7,7 +7,7 @@ use Rattle.swf_engine.specs.Core.{Core}
 use Rattle.swf_engine.specs.Retelling.{AnswersQuery}
 use Rattle.swf_engine.proofs.RetellLemmas.{answered_told, answered_failed}
 use Rattle.swf_engine.proofs.engine.Engine.query.Goals as goal
-use Rattle.swf_engine.proofs.engine.Engine.query.Goals.{in-History+in-Ok, in-History+in-Err, in-Status}
+use Rattle.swf_engine.proofs.engine.Engine.query.Goals.{in-History+in-Ok, in-History+in-Err, in-Status, in-Pending, in-Outbox}
 
 pub returns-clause-answers : goal.returns-clause-answers
 returns-clause-answers g c = λ image seen history stands.
@@ -22,4 +22,10 @@ returns-clause-answers g c = λ image seen history stands.
       | in-Status w ↦
           let same : c.self.inside.world.world ≡ engine.world = ap (λ (e : Core). e.world) c.self.view_is in
           subst P (sym w.result-is) (subst (λ (v : World). AnswersQuery history v c.args.query.now (Ok w.answer.result)) same (w.answer.ensures history))
+      | in-Pending w ↦
+          let same : c.self.inside.world.world ≡ engine.world = ap (λ (e : Core). e.world) c.self.view_is in
+          subst P (sym w.result-is) (subst (λ (v : World). AnswersQuery history v c.args.query.now (Ok w.answer-in-Pending.result)) same (w.answer-in-Pending.ensures history))
+      | in-Outbox w ↦
+          let same : c.self.inside.world.world ≡ engine.world = ap (λ (e : Core). e.world) c.self.view_is in
+          subst P (sym w.result-is) (subst (λ (v : World). AnswersQuery history v c.args.query.now (Ok w.answer-in-Outbox.result)) same (w.answer-in-Outbox.ensures history))
     ]
