@@ -702,8 +702,8 @@ def whole(v):
     return not is_int(v) or abs(v) <= 9007199254740991
 
 
-def read(s):
-    """A word for bytes that are no value, or None and the value."""
+def read(s, most=64):
+    """A word for bytes that are no value, or None and the value. Lists and objects nest at most so deep."""
 
     def num(t):
         return -0.5 if t == "-0" else int(t)
@@ -723,7 +723,7 @@ def read(s):
         return ("not-json", None)
     if nest(s) > 127:
         return ("not-json", None)
-    if depth(v) > 64:
+    if depth(v) > most:
         return ("too-deep", None)
     if not whole(v):
         return ("not-whole", None)

@@ -2,17 +2,24 @@
 """A second reading of what workflow instances do, told without the program: it reads sessions, a block of commands each, and
 prints the transcript that the program has to give for them.
 
-The rules are those of the Serverless Workflow DSL 1.0.0 reference ("Workflow", "Task", "Do", "For", "Raise", "Set", "Switch",
-"Try", "Wait", "Data Flow", "Flow Directive", "Error", "Duration", "Runtime Expressions") with the choices that docs/MEANING.md
-tells. An instance is a tree of nodes, and a step rewrites it at one place. It runs set, do, switch, raise, for, try and wait;
-what documents may hold is asked of judge.py. Expressions are evaluated by the program `jq`, so a value never comes from here.
+The rules are those of the Serverless Workflow DSL 1.0.0 reference ("Workflow", "Task", "Do", "Emit", "For", "Listen", "Raise",
+"Set", "Switch", "Try", "Wait", "Data Flow", "Flow Directive", "Error", "Event Consumption Strategy", "Event Filter", "Duration",
+"Runtime Expressions") with the choices that docs/MEANING.md tells. Events are those of CloudEvents 1.0.2 and its JSON format,
+with instants by RFC 3339 and base64 by RFC 4648. An instance is a tree of nodes, and a step rewrites it at one place. It runs
+set, do, switch, raise, for, try, wait, listen and emit; what documents may hold is asked of judge.py. Expressions are evaluated
+by the program `jq`, so a value never comes from here.
 
-Where jq and the profile differ (the texts of errors, texts times numbers, the limit on turns, an `if` without `else` before jq
-1.7), a session is of no use here. Errors of jq are told in the profile's words where that can be done. Where a session comes to
-what is not modelled, a line that begins with `! not modelled` ends it.
+Where jq and the profile differ (the texts of errors, texts times numbers, an `if` without `else` before jq 1.7), a session is of
+no use here. Errors of jq are told in the profile's words where that can be done. The limit on turns is known of one form alone:
+an expression with a `range` of 499,999 or more is taken to be above it. Where a session comes to what is not modelled, a line
+that begins with `! not modelled` ends it. Of the lines that begin with `!` it knows `! reopen` and `! fail say N`.
 
-Usage: bench/meaning.py < sessions.txt, the blocks of crates/swf_cases/data. JQ names another program than `jq`.
+Usage: bench/meaning.py < sessions.txt, the blocks of crates/swf_cases/data; `bench/meaning.py stops < stops.txt` tells what
+comes of stops: how many calls of the store the session takes, and how many of its stops came to another end. JQ names another
+program than `jq`.
 """
+import base64
+import datetime
 import functools
 import json
 import os
@@ -27,7 +34,13 @@ import judge
 GREATEST = 9007199254740991
 LAST_MOMENT = 4503599627370495
 STANDARD = "https://serverlessworkflow.io/spec/1.0.0/errors/"
-STATUSES = {"expression": 400, "runtime": 500}
+STATUSES = {"expression": 400, "runtime": 500, "validation": 400}
+
+# A `range` of so many takes more turns than an expression may.
+LONG_RANGE = 499999
+
+# Calls of the store by which a journal is opened that is not there yet, and those that add a label.
+OPENING, ADDING = 5, 4
 
 # What jq says of an error, and what the profile does.
 WORDS = [
@@ -45,7 +58,7 @@ WORDS = [
 # A task of a document: its name, its place, and what stands there.
 Task = namedtuple("Task", "name place body")
 
-# The four kinds of node. `inside` is what a task that runs is at: one of the six forms below.
+# The four kinds of node. `inside` is what a task that runs is at: one of the seven forms below.
 Fresh = namedtuple("Fresh", "task raw")
 Live = namedtuple("Live", "task raw input inside")
 Done = namedtuple("Done", "output flow")
@@ -58,6 +71,9 @@ Try = namedtuple("Try", "retries at node")
 Catch = namedtuple("Catch", "problem at node")
 Later = namedtuple("Later", "retries until")
 Sleep = namedtuple("Sleep", "until")
+
+# The values of names, and the events that a `listen` took, each behind the number of its filter.
+Hear = namedtuple("Hear", "bound heard")
 
 
 class Raised(Exception):
@@ -124,6 +140,8 @@ def asked(text, given):
 def value_of(text, value, sight):
     """The first output of an expression, or null."""
     inner = judge.braced(text)
+    if any(int(most) >= LONG_RANGE for most in re.findall(r"\brange\(([0-9]+)\)", text)):
+        raise Raised("expression limit", "runtime")
     used = {name: it for name, it in sight.items() if "$" + name in text}
     answer = json.loads(asked(text if inner is None else inner, text_of([value, used])))
     if "v" in answer:
@@ -158,6 +176,167 @@ def transformed(by, value, sight):
     if by is None:
         return value
     return within_limits(value_of(by, value, sight) if isinstance(by, str) else filled(by, value, sight))
+
+
+# --- Events and replies
+
+# The attributes that an event needs, and those whose value is a text that is not empty where they are there.
+NEEDED = ("id", "source", "specversion", "type")
+TEXTS = ("datacontenttype", "dataschema", "subject")
+
+DATE = "([0-9]{4})-([0-9]{2})-([0-9]{2})"
+CLOCK = "([0-9]{2}):([0-9]{2}):([0-9]{2})([.][0-9]{1,9})?"
+TIME = re.compile(DATE + "T" + CLOCK + "(?:Z|([+-])([0-9]{2}):([0-9]{2}))")
+
+# The last instant that jiff has, 9999-12-30T22:00:00.999999999Z, in whole seconds since the first day of the year 1.
+LAST_INSTANT = datetime.date(9999, 12, 30).toordinal() * 86400 + 22 * 3600
+
+
+def seconds_of(day, hour, minute, second, sign, ahead):
+    """Whole seconds since the first day of the year 1, of a time that is so many minutes ahead of UTC; a second 60 is a 59."""
+    offset = -ahead if sign == "-" else ahead
+    return day.toordinal() * 86400 + (hour * 60 + minute - offset) * 60 + min(second, 59)
+
+
+def is_time(text):
+    """An instant that jiff reads, in which a second 60 stands for any leap second."""
+    found = TIME.fullmatch(text)
+    if not found:
+        return False
+    year, month, day, hour, minute, second, _, sign, *offset = found.groups(default="0")
+    leap = int(year) % 4 == 0 and (int(year) % 100 != 0 or int(year) % 400 == 0)
+    days = {2: 29 if leap else 28, 4: 30, 6: 30, 9: 30, 11: 30}.get(int(month), 31)
+    if not (1 <= int(month) <= 12 and 1 <= int(day) <= days):
+        return False
+    if not (int(hour) < 24 and int(minute) < 60 and int(second) < 61 and int(offset[0]) < 24 and int(offset[1]) < 60):
+        return False
+    if int(year) < 9999:
+        return True
+    ahead = int(offset[0]) * 60 + int(offset[1])
+    return seconds_of(datetime.date(9999, int(month), int(day)), int(hour), int(minute), int(second), sign, ahead) <= LAST_INSTANT
+
+
+def is_base64(text):
+    """The one spelling of some bytes."""
+    try:
+        return base64.b64encode(base64.b64decode(text, validate=True)).decode() == text
+    except ValueError:
+        return False
+
+
+def text_fault(value):
+    """Why an attribute's value is no text of at least one character."""
+    if not isinstance(value, str):
+        return "wrong-kind"
+    return None if value else "empty"
+
+
+def known_faults(value, given):
+    """What may be wrong with each attribute that the standard names, in order; `given` has those that are there."""
+    for name in NEEDED:
+        yield name, text_fault(given[name]) if name in given else "missing"
+        if name == "specversion":
+            yield name, None if given[name] == "1.0" else "bad-value"
+    for name in TEXTS:
+        yield name, text_fault(given[name]) if name in given else None
+    if "time" in given:
+        yield "time", "wrong-kind" if not isinstance(given["time"], str) else None if is_time(given["time"]) else "bad-value"
+    if "data_base64" in given:
+        spelled = given["data_base64"]
+        yield "data_base64", "wrong-kind" if not isinstance(spelled, str) else None if is_base64(spelled) else "bad-value"
+        yield "data_base64", "conflict" if "data" in value else None
+
+
+def extension_fault(name, value):
+    if not re.fullmatch("[a-z0-9]+", name):
+        return "bad-name"
+    is_simple = isinstance(value, (str, bool)) or (judge.is_int(value) and -(2**31) <= value < 2**31)
+    return None if is_simple else "wrong-kind"
+
+
+def event_fault(value):
+    """The first fault of a value as an event, an attribute and a kind, or None where it is one."""
+    if not isinstance(value, dict):
+        return "", "wrong-kind"
+    given = {name: it for name, it in value.items() if it is not None}
+    for name, kind in known_faults(value, given):
+        if kind is not None:
+            return name, kind
+    for name in sorted(set(given) - {*NEEDED, *TEXTS, "time", "data", "data_base64"}):
+        if extension_fault(name, given[name]) is not None:
+            return name, extension_fault(name, given[name])
+    return None
+
+
+def envelope(value):
+    """An event as it prints: an attribute that is null is not there, and `data` may be null."""
+    return {name: it for name, it in value.items() if it is not None or name == "data"}
+
+
+def is_reply(value):
+    """What a call may be answered."""
+    if text_of(value) == '{"unreached":true}':
+        return True
+    if not isinstance(value, dict) or set(value) != {"content", "headers", "status"}:
+        return False
+    status, headers = value["status"], value["headers"]
+    if not judge.is_int(status) or not 100 <= status <= 599 or not isinstance(headers, dict):
+        return False
+    return all(isinstance(it, str) for it in headers.values())
+
+
+# --- What a `listen` takes
+
+
+def fits(wanted, name, event):
+    """Whether what a filter says of an attribute is so."""
+    if isinstance(wanted, str) and judge.braced(wanted) is not None:
+        return is_true(wanted, event.get(name), {})
+    return name in event and text_of(filled(wanted, event[name], {})) == text_of(event[name])
+
+
+def correlated(asked, bound, event):
+    """The values of names where a filter takes an event, or None where it does not."""
+    try:
+        if not all(fits(wanted, name, event) for name, wanted in asked["with"].items()):
+            return None
+        for name, rule in asked.get("correlate", {}).items():
+            found = value_of(rule["from"], event, {})
+            if found is None or text_of(bound.get(name, found)) != text_of(found):
+                return None
+            bound = {**bound, name: found}
+    except Raised:
+        return None
+    return bound
+
+
+def filters_of(task):
+    """How many of its filters a `listen` needs an event for, and the filters."""
+    (word, asked), = task.body["listen"]["to"].items()
+    filters = [asked] if word == "one" else asked
+    return len(filters) if word == "all" else 1, filters
+
+
+def is_satisfied(task, inside):
+    return len(inside.heard) >= filters_of(task)[0]
+
+
+def taken(task, inside, event):
+    """What a `listen` is at behind an offer, or None where it does not take the event."""
+    if is_satisfied(task, inside):
+        return None
+    for number, asked in enumerate(filters_of(task)[1]):
+        if all(number != other for other, _ in inside.heard):
+            bound = correlated(asked, inside.bound, event)
+            if bound is not None:
+                return Hear(bound, inside.heard + [(number, event)])
+    return None
+
+
+def read(task, event):
+    """What a `listen` gives of an event: its data, or all of it."""
+    is_whole = task.body["listen"].get("read") == "envelope"
+    return event if is_whole else event.get("data", event.get("data_base64"))
 
 
 # --- One instance
@@ -199,6 +378,13 @@ def matches(wanted, problem):
     return all(problem.get("detail" if name == "details" else name) == it for name, it in wanted.items())
 
 
+def with_inside(node, inside):
+    """A node in which the innermost one is at something else."""
+    if isinstance(node.inside, Hear):
+        return node._replace(inside=inside)
+    return node._replace(inside=node.inside._replace(node=with_inside(node.inside.node, inside)))
+
+
 class Instance:
     """An instance, and the rules that rewrite its tree. `around` has the loop variables and caught errors around a node."""
 
@@ -206,21 +392,44 @@ class Instance:
         self.document, self.context = document, None
         self.workflow = {"id": name, "input": given, "startedAt": {"epoch": {"milliseconds": now}}}
         self.root = Fresh(Task(None, [], document), given)
+        self.events, self.sent = 0, None
+
+    def waits(self):
+        """The innermost node, where it waits for something."""
+        node = self.root
+        while isinstance(node, Live) and not isinstance(node.inside, (Sleep, Later, Hear)):
+            node = node.inside.node
+        return node if isinstance(node, Live) else None
 
     def until(self):
-        """The moment that the innermost node waits for, where it does."""
-        node = self.root
-        while isinstance(node, Live) and not isinstance(node.inside, (Sleep, Later)):
-            node = node.inside.node
-        return node.inside.until if isinstance(node, Live) else None
+        """The moment that it waits for, where it does."""
+        node = self.waits()
+        return node.inside.until if node and not isinstance(node.inside, Hear) else None
+
+    def listens(self):
+        """Whether it waits for an event."""
+        node = self.waits()
+        return node is not None and isinstance(node.inside, Hear) and not is_satisfied(node.task, node.inside)
 
     def can_go(self, now):
-        if isinstance(self.root, (Done, Fault)):
+        if isinstance(self.root, (Done, Fault)) or self.listens():
             return False
         return self.until() is None or self.until() <= now
 
     def step(self, now):
+        """Takes a step, and gives the event that goes out, where one does."""
+        self.sent = None
         self.root = self.stepped(self.root, {}, now)
+        return self.sent
+
+    def offer(self, event):
+        """Offers an event to the `listen` that it waits in. Says whether that takes it."""
+        node = self.waits()
+        inside = taken(node.task, node.inside, event) if self.listens() else None
+        if inside is None:
+            return False
+        self.root = with_inside(self.root, inside)
+        return True
 
     def stepped(self, node, around, now):
         """The node after the one step that can be taken in it. A step that raises ends its own task and no other."""
@@ -239,6 +448,8 @@ class Instance:
         inside = node.inside
         if isinstance(inside, Sleep):
             return self.completed(node, node.input, around)
+        if isinstance(inside, Hear):
+            return self.completed(node, [read(node.task, event) for _, event in inside.heard], around)
         if isinstance(inside, Later):
             first = begun(node.task.place + ["try"], node.task.body["try"], node.input)
             return node._replace(inside=Try(inside.retries, 0, first))
@@ -288,6 +499,12 @@ class Instance:
             return Fault(self.problem_of(body["raise"]["error"], live, sight))
         if "wait" in body:
             return live._replace(inside=Sleep(now + judge.duration(body["wait"])))
+        if "listen" in body:
+            return live._replace(inside=Hear(self.expected(live, sight), []))
+        if "emit" in body:
+            self.sent = self.event_of(body["emit"]["event"]["with"], live, sight)
+            self.events += 1
+            return self.completed(live, value, around)
         if "for" in body:
             items = value_of(body["for"]["in"], value, sight)
             if not isinstance(items, list):
@@ -298,6 +515,26 @@ class Instance:
         if "do" in body:
             return live._replace(inside=Seq(0, begun(task.place + ["do"], body["do"], value)))
         raise NotModelled("a task of " + ", ".join(sorted(body)))
+
+    @staticmethod
+    def expected(live, sight):
+        """The values of the names that a `listen` begins with."""
+        bound = {}
+        for asked in filters_of(live.task)[1]:
+            for name, rule in sorted(asked.get("correlate", {}).items()):
+                if "expect" in rule:
+                    found = within_limits(filled(rule["expect"], live.input, sight))
+                    if text_of(bound.setdefault(name, found)) != text_of(found):
+                        raise Raised("cannot correlate")
+        return bound
+
+    def event_of(self, template, live, sight):
+        """The event that an `emit` sends."""
+        given = within_limits(filled(template, live.input, sight))
+        event = {**given, "id": f"{self.workflow['id']}/{self.events}", "specversion": "1.0"}
+        if event_fault(event) is not None:
+            raise Raised("bad event", "validation")
+        return envelope(event)
 
     @staticmethod
     def case_of(cases, value, sight):
@@ -392,6 +629,7 @@ class World:
     def __init__(self):
         self.labels, self.places, self.documents, self.latest = ([], {}, {}, {})
         self.instances, self.turns, self.now = ({}, deque(), 0)
+        self.outbox, self.takers = [], 0
 
     def add(self, label):
         """Does what a label says, and gives its place."""
@@ -408,16 +646,30 @@ class World:
             self.turns.append(label["id"])
         elif kind == "moment":
             self.now = label["moment"]
-            self.turns.extend(
-                name for name, it in self.instances.items() if name not in self.turns and it.can_go(self.now)
-            )
+            self.wake()
+        elif kind == "event":
+            self.places[label["event"]["source"], label["event"]["id"]] = len(self.labels)
+            self.takers = self.offer(label["event"])
         else:
             self.turns.remove(label["id"])
-            self.instances[label["id"]].step(self.now)
+            sent = self.instances[label["id"]].step(self.now)
             if self.instances[label["id"]].can_go(self.now):
                 self.turns.append(label["id"])
+            if sent is not None:
+                self.outbox.append(sent)
+                self.offer(sent)
         self.labels.append(label)
         return len(self.labels) - 1
+
+    def wake(self):
+        """Gives a turn to each instance that can go on and has none."""
+        self.turns.extend(name for name, it in self.instances.items() if name not in self.turns and it.can_go(self.now))
+
+    def offer(self, event):
+        """Offers an event to all, and counts those that take it."""
+        takers = [it for it in self.instances.values() if it.offer(event)]
+        self.wake()
+        return len(takers)
 
     def status(self, name):
         it = self.instances[name]
@@ -436,7 +688,7 @@ class BadLine(Exception):
 def words(line, count):
     """The words behind the command, of which the last is the rest of the line where there are several."""
     found = line.split(" ", count)[1:]
-    if len(found) != count or (count == 1 and not line.startswith("load ") and " " in found[0]):
+    if len(found) != count or (count == 1 and not line.startswith(("load ", "event ")) and " " in found[0]):
         raise BadLine("command")
     return found
 
@@ -453,8 +705,8 @@ def identifier(text):
     return text
 
 
-def json_of(text):
-    fault, value = judge.read(text)
+def json_of(text, most=64):
+    fault, value = judge.read(text, most)
     if fault:
         raise BadLine(fault)
     return value
@@ -494,6 +746,25 @@ def moment(world, line):
     return {"ok": "moment", "place": world.add({"label": "moment", "moment": now})}
 
 
+def event(world, line):
+    value = json_of(words(line, 1)[0])
+    fault = event_fault(value)
+    if fault is not None:
+        return {"attribute": fault[0], "error": "bad-event", "kind": fault[1]}
+    key = (value["source"], value["id"])
+    if key in world.places:
+        return {"error": "duplicate", "place": world.places[key]}
+    place = world.add({"label": "event", "event": envelope(value)})
+    return {"ok": "accepted", "place": place, "taken": world.takers}
+
+
+def reply(_, line):
+    """An answer to a call, of which none can be open. The answer is an object round its content."""
+    if not is_reply(json_of(words(line, 2)[1], 65)):
+        raise BadLine("reply")
+    return {"error": "stale"}
+
+
 def settle(world, line):
     most = 1000 if line == "settle" else number(words(line, 1)[0], 1, 1000000)
     for steps in range(most):
@@ -518,10 +789,16 @@ def pending(world, line):
         raise BadLine("command")
     asleep = [(name, it.until()) for name, it in world.instances.items() if it.until() is not None]
     timers = [{"instance": name, "strand": [], "until": until} for name, until in asleep]
-    return {"calls": [], "listens": [], "timers": timers}
+    listens = [{"instance": name, "strand": []} for name, it in world.instances.items() if it.listens()]
+    return {"calls": [], "listens": listens, "timers": timers}
 
 
-COMMANDS = {it.__name__: it for it in (load, start, moment, settle, status, history, pending)}
+def outbox(world, line):
+    first = number(words(line, 1)[0], 0, 18446744073709551615)
+    return {"events": world.outbox[first:first + 100]}
+
+
+COMMANDS = {it.__name__: it for it in (load, start, event, reply, moment, settle, status, history, pending, outbox)}
 
 
 def answer(world, line):
@@ -535,27 +812,63 @@ def answer(world, line):
         return {"error": "bad-line", "fault": str(bad)}
 
 
-def session(lines):
-    world, is_open = World(), True
+def replayed(labels):
+    world = World()
+    for label in labels:
+        world.add(label)
+    return world
+
+
+def part(world, lines):
+    """What is printed from one opening of the store to the next. Where a reply cannot be said, the program ends with 4."""
+    failing = [int(line[len("! fail say "):]) for line in lines if line.startswith("! fail say ")]
+    said, is_open, failed = 0, True, False
     for line in lines:
-        if line.startswith("#"):
-            print(line)
-        elif line == "! reopen":
-            print(line)
-            before, world, is_open = world.labels, World(), True
-            for label in before:
-                world.add(label)
-        else:
-            print("> " + line)
-            if is_open:
-                print(text_of(answer(world, line)))
-            is_open = is_open and line != "quit"
+        print(line if line.startswith(("#", "!")) else "> " + line)
+        if not is_open or line.startswith(("#", "!")):
+            continue
+        told, failed = answer(world, line), said in failing
+        is_open = line != "quit" and not failed
+        said += 1
+        if not failed:
+            print(text_of(told))
+    if failed:
+        print("! status 4")
+
+
+def session(lines):
+    labels = []
+    while "! reopen" in lines:
+        at = lines.index("! reopen")
+        world = replayed(labels)
+        part(world, lines[:at])
+        print("! reopen")
+        labels, lines = world.labels, lines[at + 1:]
+    part(replayed(labels), lines)
+
+
+def ended(world, lines):
+    """Gives a session, and tells its statuses and, of one instance, the labels."""
+    told = [text_of(answer(world, line)) for line in lines]
+    statuses = [it for line, it in zip(lines, told) if line.startswith("status ")]
+    is_one = sum(line.startswith("start ") for line in lines) == 1
+    return statuses, text_of(world.labels[:100]) if is_one else None
+
+
+def stops(name, *lines):
+    """Stops a session behind each of its labels, and gives it once more."""
+    whole = World()
+    wanted = ended(whole, lines)
+    wrong = sum(ended(replayed(whole.labels[:count]), lines) != wanted for count in range(len(whole.labels) + 1))
+    print(name)
+    print(f"{OPENING + ADDING * len(whole.labels)} calls, {wrong} wrong")
 
 
 def main():
     for block in sys.stdin.read().split("\n\n"):
+        lines = [line for line in block.split("\n") if line]
         try:
-            session([line for line in block.split("\n") if line])
+            stops(*lines) if sys.argv[1:] == ["stops"] else session(lines)
         except NotModelled as why:
             print("! not modelled:", why)
 

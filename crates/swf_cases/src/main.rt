@@ -1,10 +1,11 @@
 //! Runs the documents and the sessions of its folder over a host in memory, and prints a transcript of them; and what comes of
 //! a whole session in which a call fails, and of a stop.
 //!
-//! A line of documents.txt is a document, and is followed by what `check` prints. The sessions of sessions.txt and script.txt
-//! have empty lines between them; each line is a command, followed by its reply, or begins with `!` (`src/session.rt` has the
-//! words), and `! reopen` ends the input and opens the store again. A line of faults.txt names a call that fails or the calls
-//! before a stop (`src/faults.rt`). A session of stops.txt is stopped after each call of its store, and given once more.
+//! A line of documents.txt is a document, and is followed by what `check` prints. The sessions of sessions.txt, events.txt,
+//! events-read.txt and script.txt have empty lines between them; each line is a command, followed by its reply, or begins with
+//! `!` (`src/session.rt` has the words), and `! reopen` ends the input and opens the store again. A line of faults.txt names a
+//! call that fails or the calls before a stop (`src/faults.rt`). A session of stops.txt is stopped after each call of its store,
+//! and given once more.
 //! A line that begins with `#` names what follows, and stands in the transcript as it is.
 #![tactic(auto)]
 
@@ -144,7 +145,12 @@ fn main(rt: HostRuntime) -> io::Result<()> {
     let mut transcript = Vec::new(alloc);
     let documents = fs::read_to_string(&rt, "documents.txt")?;
     add_documents(alloc, &mut transcript, documents.as_str())?;
-    for name in ["sessions.txt", "script.txt"] {
+    for name in [
+        "sessions.txt",
+        "events.txt",
+        "events-read.txt",
+        "script.txt",
+    ] {
         let sessions = fs::read_to_string(&rt, name)?;
         add_sessions(alloc, &mut transcript, sessions.as_str())?;
     }

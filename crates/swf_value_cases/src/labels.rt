@@ -1,23 +1,27 @@
 // Rows on labels: their bytes, and what is read in bytes.
-ghost use Rattle.std.specs.Prelude.{IsTrue};
+ghost use Rattle.std.specs.Prelude.{IsTrue, IfOk};
 ghost use Rattle.swf_record.specs.Encodes.{Nests};
 
-use crate::values::lists_round;
+use crate::values::{lists_round, text_of};
 use crate::{bytes_of, no_row, number_of, split};
 use std::alloc::{AllocError, Global};
 use std::io;
+use swf_calls::{CallReply, read_reply, reply_json};
+use swf_cloudevents::{Event, event_json, read_event};
 use swf_document::DocKey;
 use swf_duration::Moment;
 use swf_meaning::Label;
 use swf_record::{RecordFault, decode_labels, encode_labels};
 use swf_text::{Strand, Text};
-use swf_value::{Json, depth, read_json};
+use swf_value::{Json, depth, read_json, read_json_within};
 
 /// What comes of a row on labels.
 pub(crate) fn told(alloc: Global, word: &str, rest: &str) -> io::Result<String> {
     match word {
         "load" => spelled(alloc, Label::Load(value_of(alloc, rest)?)),
         "start" => spelled(alloc, start(alloc, rest)?),
+        "event" => spelled(alloc, event(alloc, rest)?),
+        "reply" => spelled(alloc, reply(alloc, rest)?),
         "moment" => spelled(alloc, moment(rest)?),
         "step" => spelled(alloc, step(alloc, rest)?),
         "again" => again(alloc, &bytes_of(alloc, rest)?),
@@ -27,21 +31,29 @@ pub(crate) fn told(alloc: Global, word: &str, rest: &str) -> io::Result<String> 
     }
 }
 
-/// Whether the values of a label nest at most 64 deep.
-fn nests(label: &Label) -> bool
-    ensures { IsTrue result → Nests label.now }
+/// Whether the values of a label nest at most 64 deep, and that of a reply at most 65.
+fn nests(alloc: Global, label: &Label) -> Result<bool, AllocError>
+    ensures { IfOk result (λ nests. IsTrue nests → Nests label.now) }
 {
     match label {
-        Label::Load(document) => depth(document) <= 64,
-        Label::Start { input, .. } => depth(input) <= 64,
-        Label::Moment(_) => true,
-        Label::Step { .. } => true,
+        Label::Load(document) => Ok(depth(document) <= 64),
+        Label::Start { input, .. } => Ok(depth(input) <= 64),
+        Label::Event(event) => {
+            let value = event_json(alloc, event)?;
+            Ok(depth(&value) <= 64)
+        }
+        Label::Reply { reply, .. } => {
+            let value = reply_json(alloc, reply)?;
+            Ok(depth(&value) <= 65)
+        }
+        Label::Moment(_) => Ok(true),
+        Label::Step { .. } => Ok(true),
     }
 }
 
 /// The bytes of one label.
 fn encoded(alloc: Global, label: Label) -> io::Result<Vec<u8>> {
-    if !nests(&label) {
+    if !nests(alloc, &label)? {
         return Err(no_row());
     }
     let labels = [label];
@@ -74,6 +86,28 @@ fn start(alloc: Global, row: &str) -> io::Result<Label> {
     let id = Text::copy_of(alloc, id)?;
     let input = value_of(alloc, input)?;
     Ok(Label::Start { id, key, input })
+}
+
+/// The label of an event.
+fn event(alloc: Global, row: &str) -> io::Result<Label> {
+    let value = value_of(alloc, row)?;
+    match read_event(alloc, &value) {
+        Ok(event) => Ok(Label::Event(event)),
+        Err(_) => Err(no_row()),
+    }
+}
+
+/// The label of an answer to a call: its activity, and what was answered.
+fn reply(alloc: Global, row: &str) -> io::Result<Label> {
+    let (activity, text) = split(row)?;
+    let Ok(value) = read_json_within(alloc, text.as_bytes(), 65) else {
+        return Err(no_row());
+    };
+    let Some(reply) = read_reply(alloc, &value)? else {
+        return Err(no_row());
+    };
+    let activity = Text::copy_of(alloc, activity)?;
+    Ok(Label::Reply { activity, reply })
 }
 
 /// The label of a moment, in milliseconds.
@@ -112,11 +146,29 @@ fn again(alloc: Global, bytes: &[u8]) -> io::Result<String> {
     Ok(format!(in alloc; "{is_again}")?)
 }
 
-/// A label in words: of a load the depth of its document, of a moment its milliseconds, of the others the id.
+/// An event as a history tells it.
+fn event_words(alloc: Global, event: &Event) -> Result<String, AllocError> {
+    let value = event_json(alloc, event)?;
+    let event = text_of(alloc, &value)?;
+    format!(in alloc; "{{\"event\":{event},\"label\":\"event\"}}")
+}
+
+/// An answer to a call as a history tells it.
+fn reply_words(alloc: Global, activity: &Text, reply: &CallReply) -> Result<String, AllocError> {
+    let activity = text_of(alloc, &Json::text(activity.copy()?))?;
+    let value = reply_json(alloc, reply)?;
+    let reply = text_of(alloc, &value)?;
+    format!(in alloc; "{{\"activity\":{activity},\"label\":\"reply\",\"reply\":{reply}}}")
+}
+
+/// A label in words: of a load the depth of its document, of a moment its milliseconds, of a start and a step the id. An event
+/// and a reply are told whole.
 fn words(alloc: Global, label: &Label) -> Result<String, AllocError> {
     match label {
         Label::Load(document) => format!(in alloc; "load {}", depth(document)),
         Label::Start { id, .. } => format!(in alloc; "start {}", id.as_str()),
+        Label::Event(event) => event_words(alloc, event),
+        Label::Reply { activity, reply } => reply_words(alloc, activity, reply),
         Label::Moment(moment) => format!(in alloc; "moment {}", moment.milliseconds()),
         Label::Step { id, .. } => format!(in alloc; "step {}", id.as_str()),
     }

@@ -54,9 +54,8 @@ fn told(alloc: Global, rt: &impl Threads, row: &str) -> io::Result<String> {
     let (word, rest) = row.split_once(' ').unwrap_or((row, ""));
     match word {
         "threads" => depths(alloc, rt, rest),
-        "load" | "start" | "moment" | "step" | "decode" | "again" | "levels" => {
-            labels::told(alloc, word, rest)
-        }
+        "load" | "start" | "event" | "reply" | "moment" | "step" => labels::told(alloc, word, rest),
+        "decode" | "again" | "levels" => labels::told(alloc, word, rest),
         _ => values::told(alloc, word, rest),
     }
 }

@@ -24,7 +24,7 @@ pub(crate) fn told(alloc: Global, word: &str, rest: &str) -> io::Result<String> 
 }
 
 /// The text of a value.
-fn text_of(alloc: Global, value: &Json) -> Result<String, AllocError> {
+pub(crate) fn text_of(alloc: Global, value: &Json) -> Result<String, AllocError> {
     let mut text = Vec::new(alloc);
     write_json(value, &mut text)?;
     match String::from_utf8(text) {
