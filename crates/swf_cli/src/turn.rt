@@ -75,13 +75,25 @@ fn answer_ask<H: Host>(
 }
 
 // The line of a reply.
-fn line_of(alloc: Global, reply: &Reply) -> Result<Vec<u8>, AllocError>
-    requires { IsSayable reply.now }
-    ensures { IfOk result (λ bytes. bytes.items ≡ spoken reply.now) }
+fn line_of(alloc: Global, reply: Reply) -> Result<Vec<u8>, AllocError>
+    requires { IsSayable reply }
+    ensures { IfOk result (λ bytes. bytes.items ≡ spoken reply) }
 {
-    let mut line = reply_bytes(alloc, reply)?;
+    let mut line = reply_bytes(alloc, &reply)?;
     line.push(b'\n')?;
     Ok(line)
+}
+
+// Says the line of a reply, behind which the input may end.
+fn say_line<H: Host>(host: &mut H, conn: u64, line: &[u8], ends: bool) -> After
+    ensures says { Says H.moment H.left_since H.said H.may_leave H.seen H.taken host.old host.new conn line.now (follows_end ends) result }
+    ensures stops { IsStop result }
+    ensures blamed { IsBlamed (status_of result) (H.host_faults host.old) (H.host_faults host.new) (H.store_faults host.old) (H.store_faults host.new) }
+{
+    match host.say(conn, line) {
+        Ok(()) => { if ends { After::Ends } else { After::GoesOn } }
+        Err(_) => After::Stops(HOST_FAULT),
+    }
 }
 
 /// Says a reply to the connection that asked.
@@ -92,13 +104,10 @@ pub fn say<H: Host>(alloc: Global, host: &mut H, conn: u64, answered: Answered) 
     ensures blamed { IsBlamed (status_of result) (H.host_faults host.old) (H.host_faults host.new) (H.store_faults host.old) (H.store_faults host.new) }
 {
     let ends = answered.ends;
-    let Ok(line) = line_of(alloc, &answered.reply) else {
+    let Ok(line) = line_of(alloc, answered.reply) else {
         return After::Stops(NO_MEMORY);
     };
-    match host.say(conn, &line) {
-        Ok(()) => { if ends { After::Ends } else { After::GoesOn } }
-        Err(_) => After::Stops(HOST_FAULT),
-    }
+    say_line(host, conn, &line, ends)
 }
 
 // Says to the connection that asked that the journal is full.
