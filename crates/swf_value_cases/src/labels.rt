@@ -1,5 +1,6 @@
 // Rows on labels: their bytes, and what is read in bytes.
-ghost use Rattle.std.specs.Prelude.{IsTrue, IfOk};
+ghost use Rattle.std.specs.Prelude.{◌≤◌, IfOk};
+ghost use Rattle.swf_value.specs.Value.{IsValue, depth};
 ghost use Rattle.swf_record.specs.Encodes.{Nests};
 
 use crate::values::{lists_round, text_of};
@@ -31,41 +32,19 @@ pub(crate) fn told(alloc: Global, word: &str, rest: &str) -> io::Result<String> 
     }
 }
 
-/// Whether the values of a label nest at most 64 deep, and that of a reply at most 65.
-fn nests(alloc: Global, label: &Label) -> Result<bool, AllocError>
-    ensures { IfOk result (λ nests. IsTrue nests → Nests label.now) }
-{
-    match label {
-        Label::Load(document) => Ok(depth(document) <= 64),
-        Label::Start { input, .. } => Ok(depth(input) <= 64),
-        Label::Event(event) => {
-            let value = event_json(alloc, event)?;
-            Ok(depth(&value) <= 64)
-        }
-        Label::Reply { reply, .. } => {
-            let value = reply_json(alloc, reply)?;
-            Ok(depth(&value) <= 65)
-        }
-        Label::Moment(_) => Ok(true),
-        Label::Step { .. } => Ok(true),
-    }
-}
-
-/// The bytes of one label.
-fn encoded(alloc: Global, label: Label) -> io::Result<Vec<u8>> {
-    if !nests(alloc, &label)? {
-        return Err(no_row());
-    }
-    let labels = [label];
-    Ok(encode_labels(alloc, &labels)?)
-}
-
 /// The bytes of one label, told in hex.
-fn spelled(alloc: Global, label: Label) -> io::Result<String> {
-    Ok(hex::encode(alloc, encoded(alloc, label)?.as_slice())?)
+fn spelled(alloc: Global, label: Label) -> io::Result<String>
+    requires { Nests label }
+{
+    let labels = [label];
+    let bytes = encode_labels(alloc, &labels)?;
+    Ok(hex::encode(alloc, bytes.as_slice())?)
 }
 
-fn value_of(alloc: Global, text: &str) -> io::Result<Json> {
+fn value_of(alloc: Global, text: &str) -> io::Result<Json>
+    ensures value { IfOk result IsValue }
+    ensures shallow { IfOk result (λ v. depth v ≤ 64) }
+{
     match read_json(alloc, text.as_bytes()) {
         Ok(value) => Ok(value),
         Err(_) => Err(no_row()),
@@ -73,7 +52,9 @@ fn value_of(alloc: Global, text: &str) -> io::Result<Json> {
 }
 
 /// The label of a start: an id, the namespace, the name and the version of a document, and an input.
-fn start(alloc: Global, row: &str) -> io::Result<Label> {
+fn start(alloc: Global, row: &str) -> io::Result<Label>
+    ensures { IfOk result Nests }
+{
     let (id, rest) = split(row)?;
     let (namespace, rest) = split(rest)?;
     let (name, rest) = split(rest)?;
@@ -89,7 +70,9 @@ fn start(alloc: Global, row: &str) -> io::Result<Label> {
 }
 
 /// The label of an event.
-fn event(alloc: Global, row: &str) -> io::Result<Label> {
+fn event(alloc: Global, row: &str) -> io::Result<Label>
+    ensures { IfOk result Nests }
+{
     let value = value_of(alloc, row)?;
     match read_event(alloc, &value) {
         Ok(event) => Ok(Label::Event(event)),
@@ -98,7 +81,9 @@ fn event(alloc: Global, row: &str) -> io::Result<Label> {
 }
 
 /// The label of an answer to a call: its activity, and what was answered.
-fn reply(alloc: Global, row: &str) -> io::Result<Label> {
+fn reply(alloc: Global, row: &str) -> io::Result<Label>
+    ensures { IfOk result Nests }
+{
     let (activity, text) = split(row)?;
     let Ok(value) = read_json_within(alloc, text.as_bytes(), 65) else {
         return Err(no_row());
@@ -111,7 +96,9 @@ fn reply(alloc: Global, row: &str) -> io::Result<Label> {
 }
 
 /// The label of a moment, in milliseconds.
-fn moment(row: &str) -> io::Result<Label> {
+fn moment(row: &str) -> io::Result<Label>
+    ensures { IfOk result Nests }
+{
     match row.parse::<u64>() {
         Ok(milliseconds) if milliseconds <= Moment::LAST => {
             Ok(Label::Moment(Moment::new(milliseconds)))
@@ -121,7 +108,9 @@ fn moment(row: &str) -> io::Result<Label> {
 }
 
 /// The label of a step: an id, and the branches of a strand, which have commas between them.
-fn step(alloc: Global, row: &str) -> io::Result<Label> {
+fn step(alloc: Global, row: &str) -> io::Result<Label>
+    ensures { IfOk result Nests }
+{
     let (id, branches) = row.split_once(' ').unwrap_or((row, ""));
     let mut strand = Vec::new(alloc);
     for branch in branches.split(',') {
@@ -134,15 +123,13 @@ fn step(alloc: Global, row: &str) -> io::Result<Label> {
     Ok(Label::Step { id, strand })
 }
 
-/// Whether some bytes are those of the one label that is read in them.
+/// Whether some bytes are those of the labels that are read in them.
 fn again(alloc: Global, bytes: &[u8]) -> io::Result<String> {
-    let Ok(mut labels) = decode_labels(alloc, bytes) else {
+    let Ok(labels) = decode_labels(alloc, bytes) else {
         return Err(no_row());
     };
-    let is_again = match labels.pop() {
-        Some(label) => encoded(alloc, label)?.as_slice() == bytes,
-        None => false,
-    };
+    let written = encode_labels(alloc, labels.as_slice())?;
+    let is_again = written.as_slice() == bytes;
     Ok(format!(in alloc; "{is_again}")?)
 }
 
