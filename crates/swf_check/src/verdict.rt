@@ -4,6 +4,7 @@ ghost use Rattle.swf_check.specs.Verdict.{line, fault_line, refused, judged_faul
 ghost use Rattle.swf_validate.specs.Accepts.{faults};
 
 use std::alloc::{AllocError, Global};
+use std::mem::forget;
 use swf_document::Fault;
 use swf_host::{Input, MOST_LINE};
 use swf_reader::ReadFault;
@@ -58,14 +59,19 @@ fn refused(alloc: Global, word: &str) -> Result<Verdict, AllocError>
     })
 }
 
+// A process that checks a document ends once it said so. So what was read is left to the system, which frees it at once; letting
+// it go piece by piece would take a tenth of the time.
 fn value_verdict(alloc: Global, value: &Json) -> Result<Verdict, AllocError>
     ensures { IsJudged (judged_faults (faults value.now)) result }
 {
     match accept(alloc, value) {
-        Ok(_) => Ok(Verdict {
-            accepted: true,
-            lines: line(alloc, "accepted")?,
-        }),
+        Ok(document) => {
+            forget(document);
+            Ok(Verdict {
+                accepted: true,
+                lines: line(alloc, "accepted")?,
+            })
+        }
         Err(ReadFault::Faults(faults)) => Ok(Verdict {
             accepted: false,
             lines: fault_lines(alloc, faults.as_slice())?,
@@ -81,7 +87,11 @@ fn bytes_verdict(alloc: Global, bytes: &[u8]) -> Result<Verdict, AllocError>
         return refused(alloc, "too-long");
     }
     match read_json(alloc, bytes) {
-        Ok(value) => value_verdict(alloc, &value),
+        Ok(value) => {
+            let verdict = value_verdict(alloc, &value);
+            forget(value);
+            verdict
+        }
         Err(ValueFault::NotJson) => refused(alloc, "not-json"),
         Err(ValueFault::TooDeep) => refused(alloc, "too-deep"),
         Err(ValueFault::NotWhole) => refused(alloc, "not-whole"),

@@ -1,16 +1,13 @@
 -- What a map of names holds after one more.
 use Rattle.std.proofs.Common.{◌≡◌, ◌∙◌, ap, sym, refl, ℕ, ◌+◌, List, [], ◌∷◌, Bool, true, false, cond, Option, Some, None, is_some}
 use Rattle.std.specs.List.{position_from}
-use Rattle.std.specs.Ordering.{nat_cmp}
-use Rattle.std.specs.Cmp.Lexicographic.{slice_cmp, texts_ties}
-use Rattle.std.specs.BTreeMap.{is_at}
 use Rattle.swf_text.specs.Same.{same}
 use Rattle.swf_text.proofs.SameLemmas.{same_true, same_refl, same_decides}
 use Rattle.swf_scope.specs.Names.{Places, nowhere, places_of, added, added_from}
 
 -- a new name
-pub inserted : (f g : Places) (k : List ℕ) (i : ℕ) → is_some (f k) ≡ false → ((q : List ℕ) → g q ≡ cond (is_at (slice_cmp nat_cmp k) q) (Some i) (f q)) → g ≡ added f k i
-inserted f g k i fresh h = λ j q. (h q ∙ ap (λ b. cond b (Some i) (f q)) (sym (texts_ties k q)) ∙ sym (ap (λ b. cond b (f q) (cond (same k q) (Some i) (f q))) fresh)) j
+pub inserted : (f g : Places) (k : List ℕ) (i : ℕ) → is_some (f k) ≡ false → ((q : List ℕ) → g q ≡ cond (same k q) (Some i) (f q)) → g ≡ added f k i
+inserted f g k i fresh h = λ j q. (h q ∙ sym (ap (λ b. cond b (f q) (cond (same k q) (Some i) (f q))) fresh)) j
 
 first_stays : (o p : Option ℕ) (i : ℕ) (r : Option ℕ) (b : Bool) → (b ≡ true → p ≡ o) → cond (is_some (cond (is_some p) o (cond b (Some i) o))) (cond (is_some p) o (cond b (Some i) o)) r ≡ cond (is_some o) o (cond b (Some i) r)
 first_stays None None i r true e = refl

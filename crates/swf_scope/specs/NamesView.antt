@@ -1,9 +1,8 @@
 -- The places that a map of names holds.
-use Rattle.std.specs.BTreeMap.{get}
-use Rattle.std.specs.Ordering.{nat_cmp}
-use Rattle.std.specs.Cmp.Lexicographic.{slice_cmp}
+use Rattle.indexmap.specs.IndexMap.{get}
+use Rattle.swf_text.specs.Same.{same}
 use Rattle.swf_scope.specs.Names.{Places}
 use Rattle.swf_scope.specs.declared.names.Names.{Names}
 
 abbrev pub places_in : Names → Places
-places_in s = get (slice_cmp nat_cmp) s.places
+places_in s = get same s.places

@@ -4,15 +4,15 @@ ghost use Rattle.swf_scope.specs.Names.{nowhere, added, places_of, task_names, e
 ghost use Rattle.swf_scope.specs.NamesView.{places_in};
 ghost use Rattle.swf_document.specs.TaskNode.{tasks_of};
 
+use indexmap::IndexMap;
 use std::alloc::{AllocError, Global};
-use std::collections::BTreeMap;
 use swf_document::{Named, NamedError, NamedRetry};
 use swf_text::Text;
 
 /// Names, each with the place in a list at which it stands first.
 #[derive(Drop)]
 pub struct Names {
-    places: BTreeMap<Text, usize>,
+    places: IndexMap<Text, usize>,
 }
 
 impl Names {
@@ -21,7 +21,7 @@ impl Names {
         ensures { places_in result ≡ nowhere }
     {
         Names {
-            places: BTreeMap::new(alloc),
+            places: IndexMap::new(alloc),
         }
     }
 

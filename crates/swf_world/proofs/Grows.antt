@@ -6,7 +6,6 @@ use Rattle.std.proofs.lemmas.Bool.{or_parts, or_from, ne_eqb}
 use Rattle.std.proofs.lemmas.Bool.Decides.{Decides-eqb}
 use Rattle.std.specs.List.{AllByRecursion, list_any}
 use Rattle.std.specs.Map.{lookup, keys_of}
-use Rattle.std.specs.BinaryHeap.{IsHeap}
 use Rattle.swf_text.specs.Same.{same}
 use Rattle.swf_cloudevents.specs.declared.event.Event.{Event}
 use Rattle.swf_document.specs.declared.document.DocKey.{DocKey}
@@ -17,16 +16,18 @@ use Rattle.swf_meaning.specs.Wake.{until}
 use Rattle.swf_meaning.specs.World.{Instance}
 use Rattle.swf_meaning.specs.After.{is_used, with_document, with_instance}
 use Rattle.swf_world.specs.declared.world.Loaded.{Loaded}
-use Rattle.swf_world.specs.declared.timers.Timer.{Timer}
+use Rattle.swf_turns.specs.declared.timers.Timer.{Timer}
 use Rattle.swf_world.specs.Held.{Held}
 use Rattle.swf_world.specs.UsedKey.{docs_alike, doc_eq, key_eq, keys_alike}
 use Rattle.swf_world.specs.Fields.{instances_in, loaded_in, loaded_of, world_of, most_labels}
 use Rattle.swf_world.specs.Early.{IsEarly}
 use Rattle.swf_world.specs.Kept.{Kept, New, IsNamed, IsPlaced}
 use Rattle.swf_world.specs.Offers.{put_at}
-use Rattle.swf_world.specs.Queued.{Queued, is_among, enabled_at}
-use Rattle.swf_world.specs.Line.{Line}
-use Rattle.swf_world.specs.Waits.{above, is_at, is_set, timer_cmp, wait_at}
+use Rattle.swf_turns.specs.Line.{is_among}
+use Rattle.swf_world.specs.Queued.{Queued, enabled_at}
+use Rattle.swf_turns.specs.Line.{Line}
+use Rattle.swf_turns.specs.Waits.{is_set}
+use Rattle.swf_world.specs.Waits.{above, is_at, wait_at}
 use Rattle.swf_world.proofs.MachineLemmas.{enabled_put, length_put}
 use Rattle.swf_world.proofs.OfferLemmas.{all_pushed}
 use Rattle.swf_world.proofs.WaitLemmas.{wait_put, wait_pushed}
@@ -158,7 +159,6 @@ kept_started ds is ks now n turns next timers id used i kept placed e awake few 
         queued = subst (λ xs. Queued now xs next.numbers timers) (sym all) (subst (λ q. Queued now (instances_in is ++ i ∷ []) q timers) (sym numbers)
             (queued_pushed now (instances_in is) i turns.numbers timers turns.count kept.waiting.count awake kept.waiting.queued));
         count = count ∙ ap (λ n. n + 1) kept.waiting.count ∙ sym (length-append (instances_in is) (i ∷ [])) ∙ sym (ap length all);
-        order = kept.waiting.order;
       };
       early = early_pushed ks used n kept.early few;
       few = omega arith;
@@ -166,13 +166,13 @@ kept_started ds is ks now n turns next timers id used i kept placed e awake few 
 
 -- a moment that was reached
 pub kept_reached : (ds : List (DocKey × Loaded)) (is : List (List ℕ × Instance)) (ks : List (Key × ℕ)) (now n moment used : ℕ) (turns next : Line) (timers left : List Timer) →
-    Kept ds is ks now n turns timers → used ≡ moment → now < moment → n < most_labels → Queued moment (instances_in is) next.numbers left → next.count ≡ turns.count → IsHeap timer_cmp left →
+    Kept ds is ks now n turns timers → used ≡ moment → now < moment → n < most_labels → Queued moment (instances_in is) next.numbers left → next.count ≡ turns.count →
     Kept ds is (ks ++ (keys.Moment used, n) ∷ []) moment (n + 1) next left
-kept_reached ds is ks now n moment used turns next timers left kept same later few queued count order = record {
+kept_reached ds is ks now n moment used turns next timers left kept same later few queued count = record {
   named = kept.named;
   placed = kept.placed;
   new = subst (λ m. New ds is (ks ++ (keys.Moment m, n) ∷ []) moment) (sym same) (new_reached ds is ks now n moment kept.new later);
-  waiting = record { queued = queued; count = count ∙ kept.waiting.count; order = order };
+  waiting = record { queued = queued; count = count ∙ kept.waiting.count };
   early = early_pushed ks (keys.Moment used) n kept.early few;
   few = omega arith;
 }
@@ -189,7 +189,7 @@ kept_heard ds is js ks now n turns next timers kept placed ids long queued count
     instance = λ id h. none_again (same id) is js ids (kept.new.instance id h);
     moment = kept.new.moment;
   };
-  waiting = record { queued = queued; count = count ∙ kept.waiting.count ∙ sym long; order = kept.waiting.order };
+  waiting = record { queued = queued; count = count ∙ kept.waiting.count ∙ sym long };
   early = kept.early;
   few = kept.few;
 }
@@ -231,9 +231,9 @@ queued_stepped now is queue timers next n j q within awake among set = record {
 pub kept_stepped : (ds : List (DocKey × Loaded)) (is js : List (List ℕ × Instance)) (ks : List (Key × ℕ)) (now n : ℕ) (turns : Line) (timers next : List Timer) (number : ℕ) (j : Instance) →
     Kept ds is ks now n turns timers → number < length (instances_in is) → wait_at now (instances_in is) number ≡ None → is_among number turns.numbers ≡ true → n < most_labels →
     instances_in js ≡ put_at number j (instances_in is) → AllByRecursion IsPlaced js → keys_of js ≡ keys_of is →
-    ((k m : ℕ) → is_set k m next ≡ (((k == number) && is_at m (above now (until j.node))) || is_set k m timers)) → IsHeap timer_cmp next →
+    ((k m : ℕ) → is_set k m next ≡ (((k == number) && is_at m (above now (until j.node))) || is_set k m timers)) →
     Kept ds js ks now (n + 1) turns next
-kept_stepped ds is js ks now n turns timers next number j kept within awake among few stepped placed ids set order = record {
+kept_stepped ds is js ks now n turns timers next number j kept within awake among few stepped placed ids set = record {
   named = kept.named;
   placed = placed;
   new = record {
@@ -244,7 +244,6 @@ kept_stepped ds is js ks now n turns timers next number j kept within awake amon
   waiting = record {
     queued = subst (λ xs. Queued now xs turns.numbers next) (sym stepped) (queued_stepped now (instances_in is) turns.numbers timers next number j kept.waiting.queued within awake among set);
     count = kept.waiting.count ∙ sym (length_put (instances_in is) number j) ∙ sym (ap length stepped);
-    order = order;
   };
   early = kept.early;
   few = omega arith;

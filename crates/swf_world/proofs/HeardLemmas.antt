@@ -4,9 +4,10 @@ use Rattle.std.proofs.lemmas.Bool.{eq-eqb, or_left, or_right}
 use Rattle.std.proofs.lemmas.List.{length-map}
 use Rattle.std.proofs.lemmas.Option.{slice_get_within}
 use Rattle.swf_meaning.specs.World.{Instance}
-use Rattle.swf_world.specs.declared.timers.Timer.{Timer}
+use Rattle.swf_turns.specs.declared.timers.Timer.{Timer}
 use Rattle.swf_world.specs.Offers.{put_at, mark}
-use Rattle.swf_world.specs.Queued.{Queued, is_among}
+use Rattle.swf_turns.specs.Line.{is_among}
+use Rattle.swf_world.specs.Queued.{Queued}
 use Rattle.swf_world.specs.Waits.{is_at}
 use Rattle.swf_world.proofs.MachineLemmas.{enabled_put}
 use Rattle.swf_world.proofs.OfferLemmas.{marks_put}

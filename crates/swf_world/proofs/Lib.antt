@@ -3,7 +3,6 @@ pub mod OfferLemmas
 pub mod WaitLemmas
 pub mod HeardLemmas
 pub mod TimerLemmas
-pub mod TurnLemmas
 pub mod BuiltLemmas
 pub mod ReportLemmas
 pub mod Lookups

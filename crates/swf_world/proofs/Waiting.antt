@@ -18,9 +18,10 @@ use Rattle.swf_world.specs.Kept.{Kept, IsPlaced}
 use Rattle.swf_document.specs.declared.document.DocKey.{DocKey}
 use Rattle.swf_meaning.specs.declared.key.Key.{Key}
 use Rattle.swf_world.specs.declared.world.Loaded.{Loaded}
-use Rattle.swf_world.specs.declared.timers.Timer.{Timer}
-use Rattle.swf_world.specs.Queued.{Queued, is_among, enabled_at}
-use Rattle.swf_world.specs.Line.{Line}
+use Rattle.swf_turns.specs.declared.timers.Timer.{Timer}
+use Rattle.swf_turns.specs.Line.{is_among}
+use Rattle.swf_world.specs.Queued.{Queued, enabled_at}
+use Rattle.swf_turns.specs.Line.{Line}
 use Rattle.swf_world.specs.Refusals.{refusal, refusal_of_step}
 use Rattle.swf_world.specs.Enabled.{CanGo, strand_at, strands_of}
 use Rattle.swf_world.proofs.Lookups.{enabled_there, instance_lookup}
@@ -146,7 +147,7 @@ kept_turned ds is ks now n turns next timers kept count queued = record {
   named = kept.named;
   placed = kept.placed;
   new = kept.new;
-  waiting = record { queued = queued; count = count ∙ kept.waiting.count; order = kept.waiting.order };
+  waiting = record { queued = queued; count = count ∙ kept.waiting.count };
   early = kept.early;
   few = kept.few;
 }

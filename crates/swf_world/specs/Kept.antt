@@ -2,19 +2,17 @@
 use Rattle.std.specs.Prelude.{◌≡◌, ◌≤◌, ◌<◌, ℕ, List, false, None, length}
 use Rattle.std.specs.List.{AllByRecursion, list_any}
 use Rattle.std.specs.Map.{lookup}
-use Rattle.std.specs.BinaryHeap.{IsHeap}
 use Rattle.swf_text.specs.Same.{same}
 use Rattle.swf_document.specs.declared.document.DocKey.{DocKey}
 use Rattle.swf_meaning.specs.declared.key.Key.{Key}
 use Rattle.swf_meaning.specs.declared.key.Key.TheVariants as keys
 use Rattle.swf_meaning.specs.Keys.{same_key}
 use Rattle.swf_meaning.specs.World.{Instance}
-use Rattle.swf_world.specs.declared.timers.Timer.{Timer}
+use Rattle.swf_turns.specs.declared.timers.Timer.{Timer}
 use Rattle.swf_world.specs.declared.world.Loaded.{Loaded}
 use Rattle.swf_world.specs.UsedKey.{doc_eq}
-use Rattle.swf_world.specs.Waits.{timer_cmp}
 use Rattle.swf_world.specs.Queued.{Queued}
-use Rattle.swf_world.specs.Line.{Line}
+use Rattle.swf_turns.specs.Line.{Line}
 use Rattle.swf_world.specs.Early.{IsEarly}
 use Rattle.swf_world.specs.Fields.{instances_in, most_labels}
 
@@ -36,7 +34,6 @@ pub record New (ds : List (DocKey × Loaded)) (is : List (List ℕ × Instance))
 pub record Waiting (is : List Instance) (now : ℕ) (turns : Line) (timers : List Timer) : Type 0 where
   pub queued : Queued now is turns.numbers timers
   pub count : turns.count ≡ length is
-  pub order : IsHeap timer_cmp timers
 
 -- the maps agree with each other, with the queue and with the timers
 pub record Kept (ds : List (DocKey × Loaded)) (is : List (List ℕ × Instance)) (ks : List (Key × ℕ)) (now n : ℕ) (turns : Line) (timers : List Timer) : Type 0 where

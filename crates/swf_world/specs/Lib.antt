@@ -3,7 +3,6 @@ pub mod Held
 pub mod Fields
 pub mod Waits
 pub mod Queued
-pub mod Line
 pub mod Early
 pub mod Kept
 pub mod Offers

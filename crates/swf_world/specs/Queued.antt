@@ -1,13 +1,11 @@
 -- Which instances stand in the queue and wait, by their numbers.
-use Rattle.std.specs.Prelude.{◌≡◌, ◌<◌, ◌==◌, ℕ, zero, suc, List, [], ◌∷◌, length, Bool, true, false, slice_index_or}
-use Rattle.std.specs.List.{list_any}
+use Rattle.std.specs.Prelude.{◌≡◌, ℕ, zero, suc, List, [], ◌∷◌, Bool, true, false}
 use Rattle.swf_meaning.specs.Local.{is_enabled}
 use Rattle.swf_meaning.specs.World.{Instance}
-use Rattle.swf_world.specs.declared.timers.Timer.{Timer}
-use Rattle.swf_world.specs.Waits.{wait_at, is_at, is_set}
-
-abbrev pub is_among : ℕ → List ℕ → Bool
-is_among n ns = list_any (λ m. n == m) ns
+use Rattle.swf_turns.specs.declared.timers.Timer.{Timer}
+use Rattle.swf_turns.specs.Line.{is_among}
+use Rattle.swf_turns.specs.Waits.{is_set}
+use Rattle.swf_world.specs.Waits.{wait_at, is_at}
 
 -- the instance of that number can take a step
 abbrev pub enabled_at : ℕ → List Instance → ℕ → Bool
@@ -19,8 +17,3 @@ enabled_at now (i ∷ is) (suc n) = enabled_at now is n
 pub record Queued (now : ℕ) (is : List Instance) (queue : List ℕ) (timers : List Timer) : Type 0 where
   pub all : (n : ℕ) → enabled_at now is n ≡ true → is_among n queue ≡ true
   pub waits : (n m : ℕ) → is_set n m timers ≡ is_at m (wait_at now is n)
-
--- a number whose flag is set is in the queue, and each that is there has a flag
-pub record AreFlagged (queue : List ℕ) (flags : List Bool) : Type 0 where
-  pub there : (n : ℕ) → slice_index_or flags n false ≡ true → is_among n queue ≡ true
-  pub known : (n : ℕ) → is_among n queue ≡ true → n < length flags

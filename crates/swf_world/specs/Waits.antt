@@ -1,11 +1,8 @@
 -- Until when instances wait.
-use Rattle.std.specs.Prelude.{◌&&◌, ◌==◌, ℕ, zero, suc, List, [], ◌∷◌, Bool, false, nat_le, Option, Some, None, if◌then◌else◌}
+use Rattle.std.specs.Prelude.{◌==◌, ℕ, zero, suc, List, [], ◌∷◌, Bool, false, nat_le, Option, Some, None, if◌then◌else◌}
 use Rattle.std.specs.List.{list_any}
-use Rattle.std.specs.Ordering.{nat_cmp, ordering_then}
-use Rattle.std.specs.declared.cmp.Ordering.{Ordering}
 use Rattle.swf_meaning.specs.Wake.{until, is_by}
 use Rattle.swf_meaning.specs.World.{World, Instance}
-use Rattle.swf_world.specs.declared.timers.Timer.{Timer}
 
 -- a moment, where it is above now
 abbrev pub above : ℕ → Option ℕ → Option ℕ
@@ -22,14 +19,6 @@ wait_at now (i ∷ is) (suc n) = wait_at now is n
 abbrev pub is_at : ℕ → Option ℕ → Bool
 is_at m None = false
 is_at m (Some k) = m == k
-
--- a timer says that the instance of that number waits until that moment
-abbrev pub is_set : ℕ → ℕ → List Timer → Bool
-is_set n m timers = list_any (λ t. (n == t.number) && (m == t.until.0)) timers
-
--- the earlier timer is the greater
-abbrev pub timer_cmp : Timer → Timer → Ordering
-timer_cmp a b = ordering_then (nat_cmp b.until.0 a.until.0) (nat_cmp a.number b.number)
 
 -- some instance waits now, and waits no more at that moment
 abbrev pub is_due : World → ℕ → Bool

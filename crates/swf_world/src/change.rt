@@ -1,5 +1,5 @@
 // Changes of the world, and how they are made.
-ghost use Rattle.std.specs.Prelude.{◌≡◌, ◌≤◌, ◌<◌, ◌^◌, ◌++◌, ◌∷◌, [], ℕ, List, None, Some, length, option_map, option_to_list, slice_get, true};
+ghost use Rattle.std.specs.Prelude.{◌≡◌, ◌≤◌, ◌<◌, ◌^◌, ◌++◌, ◌∷◌, ◌==◌, ◌&&◌, ◌||◌, [], ℕ, List, None, Some, length, option_map, option_to_list, slice_get, true};
 ghost use Rattle.std.specs.List.{AllByRecursion};
 ghost use Rattle.std.specs.Vec.{vec_len, vec_capacity};
 ghost use Rattle.indexmap.specs.IndexMap.{get, keys, spare};
@@ -8,12 +8,13 @@ ghost use Rattle.swf_world.specs.Fields.{instances_in};
 ghost use Rattle.swf_world.specs.Kept.{IsPlaced};
 ghost use Rattle.swf_world.specs.Changes.{Suits, SuitsLoad, SuitsStart, SuitsEvent, SuitsMoment, SuitsStep, with_heard, with_moment, with_stepped, changed};
 ghost use Rattle.swf_world.specs.Offers.{put_at, put_all, IsHeardFrom};
-ghost use Rattle.swf_world.specs.Queued.{Queued, is_among};
-ghost use Rattle.swf_world.specs.declared.timers.Timer.{Timer};
+ghost use Rattle.swf_turns.specs.Line.{is_among};
+ghost use Rattle.swf_turns.specs.Waits.{is_set};
+ghost use Rattle.swf_turns.specs.declared.timers.Timer.{Timer};
+ghost use Rattle.swf_world.specs.Queued.{Queued};
+ghost use Rattle.swf_world.specs.Waits.{above, is_at};
 
 use crate::offer::Hearing;
-use crate::timers::{set_timer, wake};
-use crate::turns::Turns;
 use crate::world::{Loaded, World};
 use indexmap::IndexMap;
 use std::hash::Hash;
@@ -23,6 +24,7 @@ use swf_duration::Moment;
 use swf_meaning::Key;
 use swf_tasks::Machine;
 use swf_text::Text;
+use swf_turns::{Timers, Turns};
 
 /// What was installed.
 #[derive(Clone, Copy)]
@@ -135,7 +137,7 @@ impl World {
         ensures { self.new.world ≡ with_moment self.old.world milliseconds }
     {
         let moment = Moment::new(milliseconds);
-        wake(&mut self.timers, &mut self.turns, moment);
+        self.timers.wake(&mut self.turns, milliseconds);
         add(&mut self.keys, Key::Moment(milliseconds), self.count);
         self.moment = moment;
         self.count += 1;
@@ -189,6 +191,18 @@ fn go_on(instances: &mut IndexMap<Text, Machine>, number: usize, instance: Machi
     ensures ids { keys instances.new ≡ keys instances.old }
 {
     instances[number] = instance;
+}
+
+// Adds the timer of an instance that waits, unless its wait is over.
+fn set_timer(timers: &mut Timers, number: usize, until: Option<u64>, now: Moment)
+    requires { 0 < timers.old.room }
+    ensures { (n m : ℕ) → is_set n m timers.new.set ≡ (((n == number) && is_at m (above now until)) || is_set n m timers.old.set) }
+{
+    if let Some(until) = until {
+        if until > now.milliseconds() {
+            timers.set(number, until);
+        }
+    }
 }
 
 // The event that goes out is kept, where one does.

@@ -14,8 +14,6 @@ mod query;
 mod refusal;
 mod reports;
 mod steps;
-mod timers;
-mod turns;
 mod world;
 
 pub use change::{Change, Installed};

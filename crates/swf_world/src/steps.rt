@@ -1,6 +1,5 @@
 // Whose turn it is: the enabled instances take steps in turn.
 ghost use Rattle.std.specs.Prelude.{◌≡◌, ◌<◌, List, Ok, None, true, IfOk, IfSome, IfNone, [], length};
-ghost use Rattle.std.specs.BinaryHeap.{heap_items};
 ghost use Rattle.std.specs.List.{AllByRecursion};
 ghost use Rattle.swf_meaning.specs.Runs.{is_quiet};
 ghost use Rattle.swf_meaning.specs.World.{World as TheWorld};
@@ -8,9 +7,8 @@ ghost use Rattle.swf_world.specs.Enabled.{CanGo};
 ghost use Rattle.swf_world.specs.Fields.{instances_in};
 ghost use Rattle.swf_world.specs.Kept.{IsPlaced};
 ghost use Rattle.swf_world.specs.Queued.{enabled_at, Queued};
-ghost use Rattle.swf_world.specs.declared.timers.Timer.{Timer};
+ghost use Rattle.swf_turns.specs.declared.timers.Timer.{Timer};
 
-use crate::turns::Turns;
 use crate::world::World;
 use indexmap::IndexMap;
 use std::alloc::{AllocError, Global};
@@ -18,6 +16,7 @@ use swf_duration::Moment;
 use swf_meaning::Label;
 use swf_tasks::Machine;
 use swf_text::{Strand, Text};
+use swf_turns::Turns;
 
 impl World {
     /// The next step that can be taken, where there is one. The instance that takes it has its next turn after all others.

@@ -3,11 +3,8 @@ ghost use Rattle.std.specs.Prelude.{◌≡◌, slice_get, option_map};
 ghost use Rattle.swf_meaning.specs.World.{empty};
 ghost use Rattle.swf_world.specs.Waits.{is_due};
 
-use crate::timers::Timer;
-use crate::turns::Turns;
 use indexmap::IndexMap;
 use std::alloc::Global;
-use std::collections::BinaryHeap;
 use std::marker::Model;
 use swf_cloudevents::Event;
 use swf_document::DocKey;
@@ -15,6 +12,7 @@ use swf_duration::Moment;
 use swf_meaning::Key;
 use swf_tasks::{Machine, Words};
 use swf_text::Text;
+use swf_turns::{Timers, Turns};
 use swf_validate::Accepted;
 use swf_value::Json;
 
@@ -36,7 +34,7 @@ pub struct World {
     pub(crate) keys: IndexMap<Key, u64>,
     pub(crate) turns: Turns,
     /// Of the instances that wait until a moment above now.
-    pub(crate) timers: BinaryHeap<Timer>,
+    pub(crate) timers: Timers,
     /// The one that was reached last.
     pub(crate) moment: Moment,
     /// The events that went out.
@@ -50,7 +48,6 @@ pub struct World {
 impl Model for World {
     ghost use Rattle.std.specs.Prelude.{◌-◌, ◌+◌, length};
     ghost use Rattle.std.specs.Vec.{vec_len, vec_capacity};
-    ghost use Rattle.std.specs.BinaryHeap.{heap_items, heap_len, heap_capacity};
     ghost use Rattle.indexmap.specs.IndexMap.{spare};
     ghost use Rattle.swf_world.specs.Held.{Held, held_code};
 
@@ -61,9 +58,9 @@ impl Model for World {
     ghost use Rattle.swf_world.specs.Fields.{world_of, room_of};
     ghost use Rattle.swf_world.specs.Kept.{Kept};
 
-    ghost view = { λ w. record { world = world_of w.documents.entries w.instances.entries w.keys.entries w.moment w.outbox.items w.count; room = room_of (spare w.documents) (spare w.instances) (spare w.keys) (w.turns.room - (heap_len w.timers + length w.instances.entries)) (heap_capacity w.timers - heap_len w.timers) (vec_capacity w.outbox - vec_len w.outbox) w.count } };
+    ghost view = { λ w. record { world = world_of w.documents.entries w.instances.entries w.keys.entries w.moment w.outbox.items w.count; room = room_of (spare w.documents) (spare w.instances) (spare w.keys) (w.turns.room - (w.timers.count + length w.instances.entries)) w.timers.room (vec_capacity w.outbox - vec_len w.outbox) w.count } };
 
-    ghost invariant = { λ w. Kept w.documents.entries w.instances.entries w.keys.entries w.moment w.count w.turns (heap_items w.timers) };
+    ghost invariant = { λ w. Kept w.documents.entries w.instances.entries w.keys.entries w.moment w.count w.turns w.timers.set };
 }
 
 impl World {
@@ -77,7 +74,7 @@ impl World {
             instances: IndexMap::new(alloc),
             keys: IndexMap::new(alloc),
             turns: Turns::new(alloc),
-            timers: BinaryHeap::new(alloc),
+            timers: Timers::new(alloc),
             moment: Moment::new(0),
             outbox: Vec::new(alloc),
             count: 0,
@@ -96,10 +93,7 @@ impl World {
     pub fn due(&self, moment: u64) -> bool
         ensures { result ≡ is_due self.now.world moment }
     {
-        match self.timers.peek() {
-            Some(timer) => timer.until.0 <= moment,
-            None => false,
-        }
+        self.timers.is_over(moment)
     }
 
     /// The id of the instance of that number, from 0, in start order. It takes no memory.

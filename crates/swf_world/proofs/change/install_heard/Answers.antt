@@ -5,7 +5,8 @@ use Rattle.std.proofs.lemmas.List.{nil_from_length}
 use Rattle.swf_world.specs.declared.offer.Hearing.{Hearing}
 use Rattle.swf_world.specs.Fields.{instances_in}
 use Rattle.swf_world.specs.Offers.{put_all, IsHeardFrom, mark}
-use Rattle.swf_world.specs.Queued.{Queued, is_among}
+use Rattle.swf_turns.specs.Line.{is_among}
+use Rattle.swf_world.specs.Queued.{Queued}
 use Rattle.swf_world.proofs.HeardLemmas.{heard_within, queued_heard}
 use Rattle.swf_world.proofs.MachineLemmas.{length_put}
 use Rattle.swf_world.proofs.OfferLemmas.{from_again, marked_id, marks_put}

@@ -1,11 +1,12 @@
 use Rattle.std.proofs.Common.{◌≡◌, ◌≤◌, ℕ, List, length, true}
 use Rattle.std.specs.List.{AllByRecursion}
 use Rattle.indexmap.specs.IndexMap.{keys}
-use Rattle.swf_world.specs.declared.timers.Timer.{Timer}
+use Rattle.swf_turns.specs.declared.timers.Timer.{Timer}
 use Rattle.swf_world.specs.Fields.{instances_in}
 use Rattle.swf_world.specs.Kept.{IsPlaced}
 use Rattle.swf_world.specs.Offers.{put_all, IsHeardFrom}
-use Rattle.swf_world.specs.Queued.{Queued, is_among}
+use Rattle.swf_turns.specs.Line.{is_among}
+use Rattle.swf_world.specs.Queued.{Queued}
 use Rattle.swf_world.proofs.change.install_heard.Given as goal
 
 -- those so far are in their places, and the others can be put there

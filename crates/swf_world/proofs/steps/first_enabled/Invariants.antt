@@ -1,5 +1,5 @@
 use Rattle.std.proofs.Common.{◌≡◌, List, length}
-use Rattle.swf_world.specs.declared.timers.Timer.{Timer}
+use Rattle.swf_turns.specs.declared.timers.Timer.{Timer}
 use Rattle.swf_world.specs.Fields.{instances_in}
 use Rattle.swf_world.specs.Queued.{Queued}
 use Rattle.swf_world.proofs.steps.first_enabled.Given as goal

@@ -1,6 +1,5 @@
 use Rattle.std.proofs.Common.{◌≡◌, ◌∙◌, ap, sym, subst, refl, length, map, arith}
 use Rattle.std.proofs.lemmas.List.{length-map}
-use Rattle.std.specs.BinaryHeap.{heap_items}
 use Rattle.std.specs.List.{AllByRecursion}
 use Rattle.swf_world.specs.Fields.{instances_in}
 use Rattle.swf_world.specs.Offers.{IsHeardFrom, mark}
@@ -27,8 +26,8 @@ invariant_of-self c =
     let from = subst (λ h. AllByRecursion (IsHeardFrom h.world.instances) c.args.heard.items) (sym c.self.view_is) c.requires.suits.from in
     let marks : map mark js ≡ map mark is = ap (map mark) c.install_heard.ensures.heard ∙ marks_all c.args.heard.items is from in
     let heard = kept_heard c.self.inside.documents.entries c.self.inside.instances.entries c.install_heard.new.instances.entries c.self.inside.keys.entries c.self.inside.moment c.self.inside.count
-    c.self.inside.turns c.install_heard.new.turns (heap_items c.self.inside.timers) c.self.invariant c.install_heard.ensures.placed c.install_heard.ensures.ids (marks_length js is marks)
-    (c.install_heard.ensures.queued c.self.inside.moment (heap_items c.self.inside.timers) c.self.invariant.waiting.queued) c.install_heard.ensures.count in
+    c.self.inside.turns c.install_heard.new.turns c.self.inside.timers.set c.self.invariant c.install_heard.ensures.placed c.install_heard.ensures.ids (marks_length js is marks)
+    (c.install_heard.ensures.queued c.self.inside.moment c.self.inside.timers.set c.self.invariant.waiting.queued) c.install_heard.ensures.count in
     rw c.add.ensures
-    (kept_told c.self.inside.documents.entries c.install_heard.new.instances.entries c.self.inside.keys.entries c.self.inside.moment c.self.inside.count c.install_heard.new.turns (heap_items c.self.inside.timers)
+    (kept_told c.self.inside.documents.entries c.install_heard.new.instances.entries c.self.inside.keys.entries c.self.inside.moment c.self.inside.count c.install_heard.new.turns c.self.inside.timers.set
     c.args.used c.requires.suits.source c.requires.suits.id heard c.requires.suits.used_is (omega (arith, c.requires.room, ap (λ h. h.room) c.self.view_is)))

@@ -1,5 +1,4 @@
 use Rattle.std.proofs.Common.{◌∙◌, ap, refl, arith}
-use Rattle.std.specs.BinaryHeap.{heap_items}
 use Rattle.swf_meaning.specs.declared.key.Key.TheVariants.{Instance}
 use Rattle.swf_meaning.specs.After.{with_instance}
 use Rattle.swf_world.proofs.Grows.{kept_started, started_world, new_key, new_in_view}
@@ -17,7 +16,7 @@ add-requires-2-clause-new c =
 
 pub invariant_of-self : goal.invariant_of-self
 invariant_of-self c = rw (c.add.ensures, c.add-2.ensures)
-    (kept_started c.self.inside.documents.entries c.self.inside.instances.entries c.self.inside.keys.entries c.self.inside.moment c.self.inside.count c.self.inside.turns c.add-3.new.self (heap_items c.self.inside.timers) c.args.id c.args.used c.args.instance
+    (kept_started c.self.inside.documents.entries c.self.inside.instances.entries c.self.inside.keys.entries c.self.inside.moment c.self.inside.count c.self.inside.turns c.add-3.new.self c.self.inside.timers.set c.args.id c.args.used c.args.instance
     c.self.invariant c.requires.suits.placed c.requires.suits.used_is c.requires.suits.awake (omega (arith, ap (λ h. h.room) c.self.view_is)) c.add-3.ensures.numbers c.add-3.ensures.count)
 
 pub returns : goal.returns

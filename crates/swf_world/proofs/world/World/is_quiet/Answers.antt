@@ -1,14 +1,13 @@
-use Rattle.std.specs.BinaryHeap.{heap_items}
 use Rattle.swf_world.specs.Fields.{instances_in}
 use Rattle.swf_world.proofs.Waiting.{quiet_is, kept_turned}
 use Rattle.swf_world.proofs.world.World.is_quiet.Goals as goal
 
 pub returns-clause-quiet : goal.returns-clause-quiet
 returns-clause-quiet c =
-    quiet_is c.self.inside.moment (instances_in c.self.inside.instances.entries) (heap_items c.self.inside.timers) c.first_enabled.new.turns.numbers c.first_enabled.result c.is_none.result
-    (c.first_enabled.ensures.turns (heap_items c.self.inside.timers) c.self.invariant.waiting.queued) c.first_enabled.ensures.none c.first_enabled.ensures.some c.is_none.ensures
+    quiet_is c.self.inside.moment (instances_in c.self.inside.instances.entries) c.self.inside.timers.set c.first_enabled.new.turns.numbers c.first_enabled.result c.is_none.result
+    (c.first_enabled.ensures.turns c.self.inside.timers.set c.self.invariant.waiting.queued) c.first_enabled.ensures.none c.first_enabled.ensures.some c.is_none.ensures
 
 pub invariant_of-self : goal.invariant_of-self
 invariant_of-self c =
-    kept_turned c.self.inside.documents.entries c.self.inside.instances.entries c.self.inside.keys.entries c.self.inside.moment c.self.inside.count c.self.inside.turns c.first_enabled.new.turns (heap_items c.self.inside.timers)
-    c.self.invariant c.first_enabled.ensures.count (c.first_enabled.ensures.turns (heap_items c.self.inside.timers) c.self.invariant.waiting.queued)
+    kept_turned c.self.inside.documents.entries c.self.inside.instances.entries c.self.inside.keys.entries c.self.inside.moment c.self.inside.count c.self.inside.turns c.first_enabled.new.turns c.self.inside.timers.set
+    c.self.invariant c.first_enabled.ensures.count (c.first_enabled.ensures.turns c.self.inside.timers.set c.self.invariant.waiting.queued)

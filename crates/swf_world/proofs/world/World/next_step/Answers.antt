@@ -1,5 +1,4 @@
 use Rattle.std.proofs.Common.{◌∙◌, ap, sym, subst, not}
-use Rattle.std.specs.BinaryHeap.{heap_items}
 use Rattle.swf_world.specs.Fields.{instances_in}
 use Rattle.swf_world.specs.Queued.{Queued}
 use Rattle.swf_world.proofs.StepLemmas.{entry_within}
@@ -8,22 +7,22 @@ use Rattle.swf_world.proofs.world.World.next_step.Goals as goal
 
 pub returns-in_default-clause-none : goal.returns-in_default-clause-none
 returns-in_default-clause-none c = λ _. ap not
-    (quiet_without c.self.inside.moment (instances_in c.self.inside.instances.entries) (heap_items c.self.inside.timers)
-    (subst (λ queue. Queued c.self.inside.moment (instances_in c.self.inside.instances.entries) queue (heap_items c.self.inside.timers)) c.in_default.ensures.none
-    (c.first_enabled.ensures.turns (heap_items c.self.inside.timers) c.self.invariant.waiting.queued)))
+    (quiet_without c.self.inside.moment (instances_in c.self.inside.instances.entries) c.self.inside.timers.set
+    (subst (λ queue. Queued c.self.inside.moment (instances_in c.self.inside.instances.entries) queue c.self.inside.timers.set) c.in_default.ensures.none
+    (c.first_enabled.ensures.turns c.self.inside.timers.set c.self.invariant.waiting.queued)))
 
 pub step_label-requires-clause-known : goal.step_label-requires-clause-known
 step_label-requires-clause-known c = entry_within c.self.inside.moment c.self.inside.instances.entries c.in-Some.number c.in-Some.ensures.some.0
 
 pub invariant_of-self : goal.invariant_of-self
 invariant_of-self c =
-    kept_turned c.self.inside.documents.entries c.self.inside.instances.entries c.self.inside.keys.entries c.self.inside.moment c.self.inside.count c.self.inside.turns c.first_enabled.new.turns (heap_items c.self.inside.timers)
-    c.self.invariant c.first_enabled.ensures.count (c.first_enabled.ensures.turns (heap_items c.self.inside.timers) c.self.invariant.waiting.queued)
+    kept_turned c.self.inside.documents.entries c.self.inside.instances.entries c.self.inside.keys.entries c.self.inside.moment c.self.inside.count c.self.inside.turns c.first_enabled.new.turns c.self.inside.timers.set
+    c.self.invariant c.first_enabled.ensures.count (c.first_enabled.ensures.turns c.self.inside.timers.set c.self.invariant.waiting.queued)
 
 pub invariant_of-self-2 : goal.invariant_of-self-2
 invariant_of-self-2 c =
-    kept_turned c.self.inside.documents.entries c.self.inside.instances.entries c.self.inside.keys.entries c.self.inside.moment c.self.inside.count c.self.inside.turns c.turn.new.self (heap_items c.self.inside.timers)
+    kept_turned c.self.inside.documents.entries c.self.inside.instances.entries c.self.inside.keys.entries c.self.inside.moment c.self.inside.count c.self.inside.turns c.turn.new.self c.self.inside.timers.set
     c.self.invariant (c.turn.ensures.count ∙ c.first_enabled.ensures.count)
-    (subst (λ queue. Queued c.self.inside.moment (instances_in c.self.inside.instances.entries) queue (heap_items c.self.inside.timers)) (sym c.turn.ensures.numbers)
-    (queued_turned c.self.inside.moment (instances_in c.self.inside.instances.entries) (heap_items c.self.inside.timers) c.first_enabled.new.turns.numbers c.in-Some.ensures.some.1
-    (c.first_enabled.ensures.turns (heap_items c.self.inside.timers) c.self.invariant.waiting.queued)))
+    (subst (λ queue. Queued c.self.inside.moment (instances_in c.self.inside.instances.entries) queue c.self.inside.timers.set) (sym c.turn.ensures.numbers)
+    (queued_turned c.self.inside.moment (instances_in c.self.inside.instances.entries) c.self.inside.timers.set c.first_enabled.new.turns.numbers c.in-Some.ensures.some.1
+    (c.first_enabled.ensures.turns c.self.inside.timers.set c.self.invariant.waiting.queued)))

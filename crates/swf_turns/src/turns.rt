@@ -1,6 +1,6 @@
 // The order of turns.
 ghost use Rattle.std.specs.Prelude.{◌≡◌, ◌<◌, ◌≤◌, ◌+◌, ◌++◌, ◌∷◌, ◌||◌, ◌==◌, ℕ, [], length, drop, take, slice_get, OnOk, OnErr};
-ghost use Rattle.swf_world.specs.Queued.{is_among};
+ghost use Rattle.swf_turns.specs.Line.{is_among};
 
 use std::alloc::{AllocError, Global};
 use std::collections::VecDeque;
@@ -19,13 +19,13 @@ impl Model for Turns {
     ghost use Rattle.std.specs.Prelude.{◌-◌, min, length};
     ghost use Rattle.std.specs.VecDeque.{deque_len, deque_capacity};
     ghost use Rattle.std.specs.Vec.{vec_len, vec_capacity};
-    ghost use Rattle.swf_world.specs.Line.{Line, line_code};
+    ghost use Rattle.swf_turns.specs.Line.{Line, line_code};
 
     ghost Value = { Line };
 
     ghost coded = { line_code };
 
-    ghost use Rattle.swf_world.specs.Queued.{AreFlagged};
+    ghost use Rattle.swf_turns.specs.Line.{AreFlagged};
 
     ghost view = { λ t. record { numbers = t.queue.items; count = length t.queued.items; room = min (deque_capacity t.queue - deque_len t.queue) (vec_capacity t.queued - vec_len t.queued) } };
 

@@ -4,7 +4,7 @@ use Rattle.std.proofs.Math.ListN.{set}
 use Rattle.std.proofs.lemmas.Bool.{eqb-true, eq-eqb, or_cases, or_left, or_right, cases_eq}
 use Rattle.std.proofs.lemmas.List.{get_or-set_other, length-set}
 use Rattle.std.proofs.lemmas.List.Folds.{list_any-append}
-use Rattle.swf_world.specs.Queued.{is_among, AreFlagged}
+use Rattle.swf_turns.specs.Line.{is_among, AreFlagged}
 
 or_false : (a : Bool) → (a || false) ≡ a
 or_false true = refl

@@ -1,6 +1,6 @@
 use Rattle.std.proofs.Common.{arith}
-use Rattle.swf_world.proofs.TurnLemmas.{first_flagged, flagged_left}
-use Rattle.swf_world.proofs.turns.Turns.leave.Goals as goal
+use Rattle.swf_turns.proofs.TurnLemmas.{first_flagged, flagged_left}
+use Rattle.swf_turns.proofs.turns.Turns.leave.Goals as goal
 
 pub index_mut-requires : goal.index_mut-requires
 index_mut-requires c =
