@@ -1,5 +1,5 @@
 // Until when instances wait.
-ghost use Rattle.std.specs.Prelude.{◌≡◌, ◌≤◌, ◌<◌, ◌+◌, ◌∷◌, ◌==◌, ◌&&◌, ◌||◌, ℕ, [], nat_le, true, false, IfSome, IfNone, OnOk};
+ghost use Rattle.std.specs.Prelude.{◌≡◌, ◌≤◌, ◌<◌, ◌+◌, ◌^◌, ◌∷◌, ◌==◌, ◌&&◌, ◌||◌, ℕ, [], nat_le, true, false, IfSome, IfNone, OnOk};
 ghost use Rattle.std.specs.BinaryHeap.{heap_items, heap_len, IsHeap};
 ghost use Rattle.std.specs.List.Sorted.{IsPermutation};
 ghost use Rattle.swf_turns.specs.Waits.{is_set, is_over, timer_cmp, Woken};
@@ -60,7 +60,8 @@ impl Timers {
 
     /// How many timers there are.
     pub fn len(&self) -> usize
-        ensures { result ≡ self.now.count }
+        ensures len { result ≡ self.now.count }
+        ensures small { result < 2 ^ 63 }
     {
         self.heap.len()
     }

@@ -1,6 +1,6 @@
 -- What the timers say of the instances.
-use Rattle.std.proofs.Common.{◌≡◌, ◌∙◌, refl, ap, sym, ℕ, ◌<◌, ◌≤◌, ◌==◌, ◌&&◌, ◌||◌, inl, inr, List, [], ◌∷◌, nat_le, Bool, true, false, arith}
-use Rattle.std.proofs.lemmas.Bool.{le-leb, leb-true, eqb-true, eq-eqb, and_parts, and_from, or_cases, or_left, or_right, or_from, false_from_ne_true, cases_Bool}
+use Rattle.std.proofs.Common.{◌≡◌, ◌∙◌, refl, sym, ℕ, ◌<◌, ◌≤◌, ◌==◌, ◌&&◌, inl, inr, List, [], ◌∷◌, nat_le, Bool, true, false, arith}
+use Rattle.std.proofs.lemmas.Bool.{le-leb, leb-true, eqb-true, eq-eqb, and_parts, and_from, or_cases, or_left, or_right, false_from_ne_true, cases_Bool}
 use Rattle.std.specs.List.{list_any}
 use Rattle.swf_meaning.specs.Wake.{until, is_by}
 use Rattle.swf_meaning.specs.World.{Instance}
@@ -21,7 +21,7 @@ pub some_over : (moment : ℕ) (timers : List Timer) → is_over moment timers �
 some_over moment [] e = cc
 some_over moment (t ∷ ts) e = elim (or_cases (nat_le t.until.0 moment) (is_over moment ts) e) [
   | inl h ↦ (t.number, t.until.0, or_left (says t.number t.until.0 t) (is_set t.number t.until.0 ts) (and_from (t.number == t.number) (t.until.0 == t.until.0) (eq-eqb t.number t.number refl) (eq-eqb t.until.0 t.until.0 refl)), h)
-  | inr h ↦ let r = some_over moment ts h in (r.0, r.1.0, or_right (says r.0 r.1.0 t) (is_set r.0 r.1.0 ts) r.1.1.0, r.1.1.1)
+  | inr h ↦ let r = some_over moment ts h in (r.0, r.1, or_right (says r.0 r.1 t) (is_set r.0 r.1 ts) r.2, r.3)
 ]
 
 -- where none is, none is set until one that is reached
@@ -54,7 +54,7 @@ pub due_over : (now moment : ℕ) (is : List Instance) (queue : List ℕ) (timer
 due_over now moment is queue timers q = by (is_over moment timers) refl
   where
     by : (b : Bool) → is_over moment timers ≡ b → b ≡ list_any (λ i. is_by moment (above now (until i.node))) is
-    by true e = let r = some_over moment timers e in sym (due_with now moment is r.0 r.1.0 (sym (q.waits r.0 r.1.0) ∙ r.1.1.0) r.1.1.1)
+    by true e = let r = some_over moment timers e in sym (due_with now moment is r.0 r.1 (sym (q.waits r.0 r.1) ∙ r.2) r.3)
     by false e = sym (due_without now moment is (λ n m w. sym (q.waits n m) ∙ none_over moment timers e n m w))
 
 -- each timer is of an instance that there is
