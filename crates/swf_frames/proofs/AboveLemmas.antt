@@ -7,7 +7,7 @@ use Rattle.swf_frames.specs.Tree.{Strands, strand, no_strands, Branch, find, abo
 use Rattle.swf_frames.specs.Stacks.{Row, links, Rises, IsLinked, is_child_of, under, strands_of}
 use Rattle.swf_frames.proofs.FindLemmas.{at_least, lacks_lower, absent, branch_at, cond_none, none_parts, present_below, behind}
 
-or_some : {T : Type 0} (o q : Option T) (z : T) → option_or o q ≡ Some z → (o ≡ Some z) ⊎ ((o ≡ None) × (q ≡ Some z))
+pub or_some : {T : Type 0} (o q : Option T) (z : T) → option_or o q ≡ Some z → (o ≡ Some z) ⊎ ((o ≡ None) × (q ≡ Some z))
 or_some None q z h = inr (refl, h)
 or_some (Some x) q z h = inl h
 

@@ -28,7 +28,7 @@ module _ {F : Type 0} where
   pub lacks_lower : (ss : List (Row F)) (low next n : ℕ) → Rises low (links ss) next → n < low → Lacks ss n
   lacks_lower ss low next n r l j s e = λ same. let h = at_least ss low next r j s e in absurd (omega arith)
 
-  past : (m n : ℕ) (fs : List F) (x y : Strands F) → m ≢ n → find (strand m fs x y) n ≡ option_or (find x n) (find y n)
+  pub past : (m n : ℕ) (fs : List F) (x y : Strands F) → m ≢ n → find (strand m fs x y) n ≡ option_or (find x n) (find y n)
   past m n fs x y d = cond-false (m == n) _ _ (ne_eqb m n d)
 
   here : (m : ℕ) (fs : List F) (x y : Strands F) → find (strand m fs x y) m ≡ Some (record { frames = fs; below = x })

@@ -9,3 +9,5 @@ pub mod SplitLemmas
 pub mod CloseLemmas
 pub mod RoomLemmas
 pub mod GrowLemmas
+pub mod DistinctLemmas
+pub mod PathLemmas

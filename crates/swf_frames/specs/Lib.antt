@@ -1,4 +1,5 @@
 pub mod Tree
+pub mod Paths
 pub mod TreeCode
 pub mod Stacks
 pub mod Lends

@@ -50,6 +50,11 @@ module _ {F : Type 0} where
   above up (strand m fs below after) n =
       if m == n then up else option_or (above (Some m) below n) (above up after n)
 
+  -- how many there are
+  abbrev pub count : Strands F → ℕ
+  count no_strands = 0
+  count (strand m fs below after) = 1 + (count below + count after)
+
   -- these strands, and no others, below that of a number
   abbrev pub with_below : Strands F → Strands F → ℕ → Strands F
   with_below new no_strands n = no_strands

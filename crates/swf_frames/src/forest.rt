@@ -1,6 +1,7 @@
 // A forest: the stacks of an instance.
 ghost use Rattle.std.specs.Prelude.{◌≡◌, ◌↔◌, ◌≤◌, ℕ, ◌∷◌, [], None, Some, Err, IfOk, IfErr, OnOk, OnErr, IsSome, is_some, option_copied};
-ghost use Rattle.swf_frames.specs.Tree.{planted, numbers, top, frames as frames_of, pushed, popped, replaced, child, parent, leaves, fresh, split, closed};
+ghost use Rattle.swf_frames.specs.Tree.{planted, numbers, top, frames as frames_of, pushed, popped, replaced, child, parent, leaves, fresh, split, closed, count};
+ghost use Rattle.swf_frames.specs.Paths.{AreDistinct};
 ghost use Rattle.swf_frames.specs.Faults.{frame_in, frames_in};
 ghost use Rattle.std.specs.Option.{option_copied_mut};
 ghost use Rattle.std.specs.Borrow.{sem};
@@ -57,9 +58,10 @@ impl<F: Drop> Forest<F> {
         Ok(Forest { stacks, next: 1 })
     }
 
-    /// The strand that every other one comes from.
+    /// The strand that every other one comes from. No two strands have one number.
     pub fn root(&self) -> StrandId
-        ensures { numbers self.now.strands ≡ result ∷ [] }
+        ensures root { numbers self.now.strands ≡ result ∷ [] }
+        ensures distinct { AreDistinct self.now.strands }
     {
         self.stacks[0].strand
     }
@@ -124,6 +126,13 @@ impl<F: Drop> Forest<F> {
     {
         let place = place_of(&self.stacks, strand)?;
         child_of(&self.stacks[place + 1..], strand, number)
+    }
+
+    /// How many strands there are.
+    pub fn count(&self) -> usize
+        ensures { result ≡ count self.now.strands }
+    {
+        self.stacks.len()
     }
 
     /// The strand that a strand was split from.
@@ -195,6 +204,7 @@ impl<F: Drop> Forest<F> {
     pub fn replace(&mut self, strand: StrandId, frames: Vec<F>) -> Result<Vec<F>, Vec<F>>
         ensures former { IfOk result (λ former. frames_of self.old strand ≡ Some former.items) }
         ensures replaced { self.new ≡ replaced self.old strand frames.items }
+        ensures distinct { AreDistinct self.new.strands }
         ensures stale { IfErr result (λ given. (given ≡ frames) × (frames_of self.old strand ≡ None)) }
     {
         match place_of(&self.stacks, strand) {
