@@ -1,6 +1,6 @@
 -- Which kinds of task are built, and so which documents can be loaded.
 use Rattle.std.specs.Prelude.{ℕ, List, [], ◌∷◌, Bool, true, false, Option, Some, None, if◌then◌else◌}
-use Rattle.swf_document.specs.Task.{Tasks, no_tasks, named, Task, task, Kind, do_all, emit, for, listen, raise, set, switch, try, wait, Handler, no_handler, handler}
+use Rattle.swf_document.specs.Task.{Tasks, no_tasks, named, Task, task, Kind, do_all, emit, for, fork, listen, raise, set, switch, try, wait, Handler, no_handler, handler}
 use Rattle.swf_document.specs.declared.document.Document.{Document}
 use Rattle.swf_document.specs.declared.fault.Fault.{Fault}
 use Rattle.swf_document.specs.declared.fault.FaultKind.TheVariants.{NotInProfile}
@@ -9,6 +9,7 @@ abbrev pub is_built : Kind → Bool
 is_built (do_all ts) = true
 is_built (emit e) = true
 is_built (for l ts) = true
+is_built (fork c ts) = true
 is_built (listen l) = true
 is_built (raise e) = true
 is_built (set e) = true
@@ -34,6 +35,7 @@ abbrev mutual
   unbuilt_kind : Kind → Option (List (List ℕ))
   unbuilt_kind (do_all ts) = unbuilt ts
   unbuilt_kind (for l ts) = unbuilt ts
+  unbuilt_kind (fork c ts) = unbuilt ts
   unbuilt_kind (try c ts h) = or_else (unbuilt_handler h) (unbuilt ts)
   unbuilt_kind k = None
 

@@ -12,7 +12,7 @@ use Rattle.swf_document.specs.declared.common.Flow.{Flow}
 use Rattle.swf_document.specs.declared.error.Problem.{Problem}
 use Rattle.swf_meaning.specs.declared.heard.Heard.{Heard}
 use Rattle.swf_meaning.specs.declared.label.Label.{Label}
-use Rattle.swf_meaning.specs.Node.{Node, Fresh, Live, Done, Fault, Inside, At, Later, Sleep, Hear, Round, Seq, Each, Try, Catch}
+use Rattle.swf_meaning.specs.Node.{Node, Fresh, Live, Done, Fault, Inside, At, Later, Sleep, Hear, Forked, Nodes, no_nodes, branch, Round, Seq, Each, Try, Catch}
 use Rattle.swf_meaning.specs.World.{Instance, Loaded, World}
 
 pub label_code : Coded Label
@@ -57,6 +57,11 @@ abbrev mutual
   code_inside (Later n m) = gcons (gnum 1) (gcons (gnum n) (gnum m))
   code_inside (Sleep m) = gcons (gnum 2) (gnum m)
   code_inside (Hear bound hs) = gcons (gnum 3) (gcons (members_code.code bound) ((coded_list heard_code).code hs))
+  code_inside (Forked ns) = gcons (gnum 4) (code_nodes ns)
+
+  code_nodes : Nodes → Gv
+  code_nodes no_nodes = gnil
+  code_nodes (branch n ns) = gcons (code_node n) (code_nodes ns)
 
 mutual
   pub code_node_inj : (x y : Node) → code_node x ≡ code_node y → x ≡ y
@@ -75,7 +80,13 @@ mutual
   code_inside_inj (Later n m) (Later k l) p = λ h. Later (ap (λ g. number_in (head (tail g))) p h) (ap (λ g. number_in (tail (tail g))) p h)
   code_inside_inj (Sleep m) (Sleep l) p = ap (λ g. Sleep (number_in (tail g))) p
   code_inside_inj (Hear a hs) (Hear b ks) p = λ h. Hear (members_code.inj a b (ap (λ g. head (tail g)) p) h) ((coded_list heard_code).inj hs ks (ap (λ g. tail (tail g)) p) h)
+  code_inside_inj (Forked ns) (Forked ms) p = λ h. Forked (code_nodes_inj ns ms (ap tail p) h)
   code_inside_inj x y p = cc
+
+  pub code_nodes_inj : (x y : Nodes) → code_nodes x ≡ code_nodes y → x ≡ y
+  code_nodes_inj no_nodes no_nodes p = refl
+  code_nodes_inj (branch n ns) (branch m ms) p = λ h. branch (code_node_inj n m (ap head p) h) (code_nodes_inj ns ms (ap tail p) h)
+  code_nodes_inj x y p = cc
 
 abbrev pub node_code : Coded Node
 node_code = record { code = code_node; inj = code_node_inj }

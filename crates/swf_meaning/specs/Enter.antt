@@ -3,7 +3,7 @@ use Rattle.std.specs.Prelude.{◌+◌, zero, Option, Some, None, if◌then◌els
 use Rattle.swf_expr.specs.Expr.{Tree}
 use Rattle.swf_value.specs.Value.{Value}
 use Rattle.swf_jq_builtins.specs.Operations.{is_true}
-use Rattle.swf_document.specs.Task.{Task, Kind, do_all, emit, for, listen, raise, set, switch, try, wait}
+use Rattle.swf_document.specs.Task.{Task, Kind, do_all, emit, for, fork, listen, raise, set, switch, try, wait}
 use Rattle.swf_document.specs.declared.common.Flow.TheVariants as flows
 use Rattle.swf_transform.specs.Fill.{fill, first_of, transformed}
 use Rattle.swf_meaning.specs.Node.{Live, Done, Sleep, Seq, Try}
@@ -13,6 +13,7 @@ use Rattle.swf_meaning.specs.Complete.{Stepped, becomes, with_got, complete}
 use Rattle.swf_meaning.specs.Lists.{comes_to}
 use Rattle.swf_meaning.specs.Emit.{emitting}
 use Rattle.swf_meaning.specs.For.{looping}
+use Rattle.swf_meaning.specs.Fork.{forking}
 use Rattle.swf_meaning.specs.Listen.{listening}
 use Rattle.swf_meaning.specs.Switch.{switched, default_of}
 use Rattle.swf_meaning.specs.Raise.{raising}
@@ -23,6 +24,7 @@ begun s t v u (set e) = with_got s t (fill e (within s t v u) u) (complete s t v
 begun s t v u (do_all ts) = comes_to s t v u Seq zero u
 begun s t v u (emit e) = emitting s t v u e
 begun s t v u (for l ts) = looping s t v u l
+begun s t v u (fork c ts) = forking s t v u ts
 begun s t v u (listen l) = listening s t v u l
 begun s t v u (try c ts h) = comes_to s t v u (Try zero) zero u
 begun s t v u (wait d) = becomes s (Live t v u (Sleep (s.now + d)))

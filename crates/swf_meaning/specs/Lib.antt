@@ -6,6 +6,8 @@ pub mod Complete
 pub mod Next
 pub mod Lists
 pub mod For
+pub mod Fork
+pub mod Strands
 pub mod Try
 pub mod Wake
 pub mod Switch
@@ -14,14 +16,10 @@ pub mod Emit
 pub mod Listen
 pub mod Enter
 pub mod Local
-pub mod Keys
-pub mod Outcomes
 pub mod World
 pub mod Offer
 pub mod Shared
 pub mod Built
-pub mod After
-pub mod Runs
 pub mod Answer
 pub mod Pending
 pub mod Codes

@@ -25,9 +25,16 @@ mutual
     Fault : Problem → Node
 
   -- what runs inside a task: a place in its list of tasks, and the node there; a `try` that waits until a moment to make that
-  -- retry; a `wait` until a moment; or a `listen`, with the values that names are bound to and what it heard
+  -- retry; a `wait` until a moment; a `listen`, with the values that names are bound to and what it heard; or the branches of a
+  -- `fork`
   pub data Inside : Type 0 where
     At : Round → ℕ → Node → Inside
     Later : ℕ → ℕ → Inside
     Sleep : ℕ → Inside
     Hear : Members → List Heard → Inside
+    Forked : Nodes → Inside
+
+  -- branches beside each other, in order
+  pub data Nodes : Type 0 where
+    no_nodes : Nodes
+    branch : Node → Nodes → Nodes

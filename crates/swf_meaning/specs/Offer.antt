@@ -4,7 +4,7 @@ use Rattle.swf_value.specs.Value.{Value, Members}
 use Rattle.swf_cloudevents.specs.declared.event.Event.{Event}
 use Rattle.swf_document.specs.Task.{Task, Kind, listen}
 use Rattle.swf_meaning.specs.Listen.{takes}
-use Rattle.swf_meaning.specs.Node.{Node, Fresh, Live, Done, Fault, Inside, At, Later, Sleep, Hear}
+use Rattle.swf_meaning.specs.Node.{Node, Fresh, Live, Done, Fault, Inside, At, Later, Sleep, Hear, Forked, Nodes, no_nodes, branch}
 use Rattle.swf_meaning.specs.Parts.{kind_of}
 use Rattle.swf_meaning.specs.World.{Instance}
 use Rattle.swf_meaning.specs.declared.heard.Heard.{Heard}
@@ -33,6 +33,11 @@ abbrev mutual
   offered_inside e t (Later n m) = (Later n m, 0)
   offered_inside e t (Sleep m) = (Sleep m, 0)
   offered_inside e t (Hear bound hs) = or_same bound hs (takes_in (kind_of t) bound hs e)
+  offered_inside e t (Forked ns) = let o = offered_among e ns in (Forked o.0, o.1)
+
+  pub offered_among : Event → Nodes → Nodes × ℕ
+  offered_among e no_nodes = (no_nodes, 0)
+  offered_among e (branch n ns) = let o = offered e n in let os = offered_among e ns in (branch o.0 os.0, o.1 + os.1)
 
 -- an instance after an event was offered to it
 abbrev pub offered_one : Event → Instance → Instance

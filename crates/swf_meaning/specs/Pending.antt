@@ -1,52 +1,71 @@
 -- What all instances wait for, and what went out.
-use Rattle.std.specs.Prelude.{ℕ, pos, List, [], ◌∷◌, Bool, false, not, codes, map, take, drop, Option, Some, None, if◌then◌else◌}
+use Rattle.std.specs.Prelude.{◌+◌, ◌++◌, ℕ, zero, pos, List, [], ◌∷◌, Bool, codes, map, flat_map, take, drop, if◌then◌else◌}
 use Rattle.swf_value.specs.Node.{items_of}
 use Rattle.swf_value.specs.Value.{Value, int, text, list, object, no_items, no_members, member}
 use Rattle.swf_cloudevents.specs.Event.{event_value}
 use Rattle.swf_cloudevents.specs.declared.event.Event.{Event}
 use Rattle.swf_document.specs.Task.{Task}
 use Rattle.swf_meaning.specs.Listen.{is_heard}
-use Rattle.swf_meaning.specs.Node.{Node, Fresh, Live, Done, Fault, Inside, At, Later, Sleep, Hear}
+use Rattle.swf_meaning.specs.Node.{Node, Fresh, Live, Done, Fault, Inside, At, Later, Sleep, Hear, Forked, Nodes, no_nodes, branch}
 use Rattle.swf_meaning.specs.Printed.{most_told}
-use Rattle.swf_meaning.specs.Wake.{until}
 use Rattle.swf_meaning.specs.World.{Instance, World}
 
--- the strand listens, and has not heard all
+-- those that listen among the strands of a node, ascending, each with its number of branches before it: a task that has not heard
+-- all is one listen
+abbrev pub if_listening : List ℕ → Bool → List (List ℕ)
+if_listening bs heard = if heard then [] else bs ∷ []
+
 abbrev mutual
-  pub is_listening : Node → Bool
-  is_listening (Fresh t v) = false
-  is_listening (Live t v u k) = is_listening_inside t k
-  is_listening (Done w f) = false
-  is_listening (Fault p) = false
+  pub listening : List ℕ → Node → List (List ℕ)
+  listening bs (Fresh t v) = []
+  listening bs (Live t v u k) = listening_inside bs t k
+  listening bs (Done w f) = []
+  listening bs (Fault p) = []
 
-  pub is_listening_inside : Task → Inside → Bool
-  is_listening_inside t (At r i n) = is_listening n
-  is_listening_inside t (Later n m) = false
-  is_listening_inside t (Sleep m) = false
-  is_listening_inside t (Hear bound hs) = not (is_heard t hs)
+  pub listening_inside : List ℕ → Task → Inside → List (List ℕ)
+  listening_inside bs t (At r i n) = listening bs n
+  listening_inside bs t (Later n m) = []
+  listening_inside bs t (Sleep m) = []
+  listening_inside bs t (Hear bound hs) = if_listening bs (is_heard t hs)
+  listening_inside bs t (Forked ns) = listening_among bs zero ns
 
--- the strand outside every branch
-abbrev pub root_value : Value
-root_value = list no_items
+  pub listening_among : List ℕ → ℕ → Nodes → List (List ℕ)
+  listening_among bs b no_nodes = []
+  listening_among bs b (branch n ns) = listening (bs ++ b ∷ []) n ++ listening_among bs (b + 1) ns
 
-abbrev pub listen_value : Instance → Value
-listen_value i = object (member (codes "instance") (text i.id) (member (codes "strand") root_value no_members))
+-- the strands that wait for a moment, ascending, each with its moment
+abbrev mutual
+  pub waiting : List ℕ → Node → List (List ℕ × ℕ)
+  waiting bs (Fresh t v) = []
+  waiting bs (Live t v u k) = waiting_inside bs k
+  waiting bs (Done w f) = []
+  waiting bs (Fault p) = []
 
-abbrev pub timer_value : Instance → ℕ → Value
-timer_value i m = object (member (codes "instance") (text i.id) (member (codes "strand") root_value (member (codes "until") (int (pos m)) no_members)))
+  pub waiting_inside : List ℕ → Inside → List (List ℕ × ℕ)
+  waiting_inside bs (At r i n) = waiting bs n
+  waiting_inside bs (Later n m) = (bs, m) ∷ []
+  waiting_inside bs (Sleep m) = (bs, m) ∷ []
+  waiting_inside bs (Hear bound hs) = []
+  waiting_inside bs (Forked ns) = waiting_among bs zero ns
+
+  pub waiting_among : List ℕ → ℕ → Nodes → List (List ℕ × ℕ)
+  waiting_among bs b no_nodes = []
+  waiting_among bs b (branch n ns) = waiting (bs ++ b ∷ []) n ++ waiting_among bs (b + 1) ns
+
+abbrev pub strand_value : List ℕ → Value
+strand_value bs = list (items_of (map (λ b. int (pos b)) bs))
+
+abbrev pub listen_value : Instance → List ℕ → Value
+listen_value i bs = object (member (codes "instance") (text i.id) (member (codes "strand") (strand_value bs) no_members))
+
+abbrev pub timer_value : Instance → List ℕ × ℕ → Value
+timer_value i p = object (member (codes "instance") (text i.id) (member (codes "strand") (strand_value p.0) (member (codes "until") (int (pos p.1)) no_members)))
 
 abbrev pub listens : List Instance → List Value
-listens [] = []
-listens (i ∷ is) = if is_listening i.node then listen_value i ∷ listens is else listens is
-
--- the timer of an instance before others
-abbrev pub timer_before : Instance → Option ℕ → List Value → List Value
-timer_before i None vs = vs
-timer_before i (Some m) vs = timer_value i m ∷ vs
+listens is = flat_map (λ i. map (listen_value i) (listening [] i.node)) is
 
 abbrev pub timers : List Instance → List Value
-timers [] = []
-timers (i ∷ is) = timer_before i (until i.node) (timers is)
+timers is = flat_map (λ i. map (timer_value i) (waiting [] i.node)) is
 
 -- the calls, the listens and the timers, in start order; no task that is built makes a call
 abbrev pub pending_value : List Instance → Value

@@ -1,9 +1,10 @@
 -- Steps that need more of the world than the instance itself: that it may wait, or make an activity, an event or strands.
-use Rattle.std.specs.Prelude.{ℕ, zero, suc, Bool, true, false, is_some, Option, Some, None, option_map, if◌then◌else◌}
+use Rattle.std.specs.Prelude.{ℕ, zero, suc, List, [], ◌∷◌, Bool, true, false, is_some, Option, Some, None, option_map, if◌then◌else◌}
 use Rattle.swf_document.specs.Task.{Task, Kind, call, emit, fork, listen, run, try, wait}
-use Rattle.swf_meaning.specs.Node.{Node, Fresh, Live, Done, Fault, Inside, At, Later, Sleep, Hear, Round, Try}
+use Rattle.swf_meaning.specs.Node.{Node, Fresh, Live, Done, Fault, Inside, At, Later, Sleep, Hear, Forked, Nodes, no_nodes, branch, Round, Try}
 use Rattle.swf_meaning.specs.Local.{local}
 use Rattle.swf_meaning.specs.Parts.{kind_of}
+use Rattle.swf_meaning.specs.Strands.{here}
 use Rattle.swf_meaning.specs.World.{Instance, sight, with_step}
 
 -- entering a task of these kinds
@@ -21,31 +22,39 @@ abbrev pub is_shared_error : Round → Kind → Bool
 is_shared_error (Try n) (try c ts h) = is_some c.retry
 is_shared_error r k = false
 
+-- the next step of a strand is shared
 abbrev mutual
-  pub is_shared : Node → Bool
-  is_shared (Fresh t v) = is_shared_kind (kind_of t)
-  is_shared (Live t v u k) = is_shared_inside t k
-  is_shared (Done w f) = false
-  is_shared (Fault p) = false
+  pub is_shared : List ℕ → Node → Bool
+  is_shared bs (Fresh t v) = here bs (is_shared_kind (kind_of t))
+  is_shared bs (Live t v u k) = is_shared_inside bs t k
+  is_shared bs (Done w f) = false
+  is_shared bs (Fault p) = false
 
-  pub is_shared_inside : Task → Inside → Bool
-  is_shared_inside t (At r i (Done w f)) = false
-  is_shared_inside t (At r i (Fault p)) = is_shared_error r (kind_of t)
-  is_shared_inside t (At r i n) = is_shared n
-  is_shared_inside t (Later n m) = false
-  is_shared_inside t (Sleep m) = false
-  is_shared_inside t (Hear bound hs) = false
+  pub is_shared_inside : List ℕ → Task → Inside → Bool
+  is_shared_inside bs t (At r i (Done w f)) = false
+  is_shared_inside bs t (At r i (Fault p)) = here bs (is_shared_error r (kind_of t))
+  is_shared_inside bs t (At r i n) = is_shared bs n
+  is_shared_inside bs t (Later n m) = false
+  is_shared_inside bs t (Sleep m) = false
+  is_shared_inside bs t (Hear bound hs) = false
+  is_shared_inside [] t (Forked ns) = false
+  is_shared_inside (b ∷ bs) t (Forked ns) = is_shared_branch b bs ns
+
+  pub is_shared_branch : ℕ → List ℕ → Nodes → Bool
+  is_shared_branch b bs no_nodes = false
+  is_shared_branch zero bs (branch n ns) = is_shared bs n
+  is_shared_branch (suc b) bs (branch n ns) = is_shared_branch b bs ns
 
 -- one step that is not shared; none where the next one is, or there is none
-abbrev pub unshared : ℕ → Instance → Option Instance
-unshared now i = if is_shared i.node then None else option_map (with_step i) (local (sight now i) i.node)
+abbrev pub unshared : ℕ → List ℕ → Instance → Option Instance
+unshared now bs i = if is_shared bs i.node then None else option_map (with_step i) (local (sight now i) bs i.node)
 
 -- with the step before those that were taken, where there is one
 abbrev pub after_one : Instance → Option (Instance × ℕ) → Instance × ℕ
 after_one i None = (i, zero)
 after_one i (Some r) = (r.0, suc r.1)
 
--- what at most so many such steps at a moment lead to, and how many were taken
-abbrev pub advanced : ℕ → ℕ → Instance → Instance × ℕ
-advanced now zero i = (i, zero)
-advanced now (suc n) i = after_one i (option_map (advanced now n) (unshared now i))
+-- what at most so many such steps of a strand at a moment lead to, and how many were taken
+abbrev pub advanced : ℕ → List ℕ → ℕ → Instance → Instance × ℕ
+advanced now bs zero i = (i, zero)
+advanced now bs (suc n) i = after_one i (option_map (advanced now bs n) (unshared now bs i))

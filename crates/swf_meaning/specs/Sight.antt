@@ -8,8 +8,8 @@ use Rattle.swf_document.specs.declared.document.Document.{Document}
 use Rattle.swf_meaning.specs.Parts.{place_of}
 
 -- what a step on an instance goes by besides its tree: the document, whose errors and retries have names; the id, when it
--- started, the raw input of its workflow, the context, the number of its next event, and the moment; and the variables of the
--- loops and of the errors caught around the task that takes the step, those of the innermost last
+-- started, the raw input of its workflow, the context, the number of its next event, how many branches it has, and the moment;
+-- and the variables of the loops and of the errors caught around the task that takes the step, those of the innermost last
 pub record Sight : Type 0 where
   pub document : Document
   pub id : List ℕ
@@ -17,6 +17,7 @@ pub record Sight : Type 0 where
   pub input : Value
   pub context : Value
   pub number : ℕ
+  pub branches : ℕ
   pub now : ℕ
   pub around : List Variable
 

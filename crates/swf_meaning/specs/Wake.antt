@@ -1,8 +1,9 @@
 -- Until when a strand waits, and how it goes on then (DSL reference, "Wait" and "Retry").
-use Rattle.std.specs.Prelude.{ℕ, zero, Bool, false, nat_le, Option, Some, None, if◌then◌else◌}
+use Rattle.std.specs.Prelude.{◌++◌, ℕ, zero, List, [], ◌∷◌, Bool, nat_le, Option, Some, None, if◌then◌else◌}
+use Rattle.std.specs.List.{list_any}
 use Rattle.swf_value.specs.Value.{Value}
 use Rattle.swf_document.specs.Task.{Task}
-use Rattle.swf_meaning.specs.Node.{Node, Fresh, Live, Done, Fault, Inside, At, Later, Sleep, Hear, Try}
+use Rattle.swf_meaning.specs.Node.{Node, Fresh, Live, Done, Fault, Inside, At, Later, Sleep, Hear, Forked, Nodes, no_nodes, branch, Try}
 use Rattle.swf_meaning.specs.Sight.{Sight}
 use Rattle.swf_meaning.specs.Complete.{Stepped, complete}
 use Rattle.swf_meaning.specs.Lists.{comes_to}
@@ -19,24 +20,25 @@ woken s t v u until = when_due s until (complete s t v u u)
 abbrev pub again : Sight → Task → Value → Value → ℕ → ℕ → Option Stepped
 again s t v u n until = when_due s until (comes_to s t v u (Try n) zero u)
 
--- the moment that the strand waits for, where it waits for one
+-- the moments that strands wait for, ascending by strand
 abbrev mutual
-  pub until : Node → Option ℕ
-  until (Fresh t v) = None
-  until (Live t v u k) = until_inside k
-  until (Done w f) = None
-  until (Fault p) = None
+  pub waits : Node → List ℕ
+  waits (Fresh t v) = []
+  waits (Live t v u k) = waits_inside k
+  waits (Done w f) = []
+  waits (Fault p) = []
 
-  pub until_inside : Inside → Option ℕ
-  until_inside (At r i n) = until n
-  until_inside (Later n m) = Some m
-  until_inside (Sleep m) = Some m
-  until_inside (Hear bound hs) = None
+  pub waits_inside : Inside → List ℕ
+  waits_inside (At r i n) = waits n
+  waits_inside (Later n m) = m ∷ []
+  waits_inside (Sleep m) = m ∷ []
+  waits_inside (Hear bound hs) = []
+  waits_inside (Forked ns) = waits_among ns
 
-abbrev pub is_by : ℕ → Option ℕ → Bool
-is_by moment None = false
-is_by moment (Some m) = nat_le m moment
+  pub waits_among : Nodes → List ℕ
+  waits_among no_nodes = []
+  waits_among (branch n ns) = waits n ++ waits_among ns
 
 -- a wait ends at a moment, or before it
 abbrev pub is_due : ℕ → Node → Bool
-is_due moment n = is_by moment (until n)
+is_due moment n = list_any (λ m. nat_le m moment) (waits n)

@@ -1,5 +1,5 @@
 -- The world at a moment: what was loaded, started, used and sent (DSL, "Runtime").
-use Rattle.std.specs.Prelude.{◌+◌, ℕ, List, [], ◌∷◌, Bool, true, false, Option, Some, None}
+use Rattle.std.specs.Prelude.{◌+◌, ℕ, List, [], ◌∷◌, Option, Some, None}
 use Rattle.swf_value.specs.Value.{Value, null}
 use Rattle.swf_cloudevents.specs.declared.event.Event.{Event}
 use Rattle.swf_document.specs.declared.document.Document.{Document}
@@ -7,6 +7,7 @@ use Rattle.swf_meaning.specs.Node.{Node, Fresh}
 use Rattle.swf_meaning.specs.declared.key.Key.{Key}
 use Rattle.swf_meaning.specs.Sight.{Sight}
 use Rattle.swf_meaning.specs.Complete.{Stepped}
+use Rattle.swf_meaning.specs.Fork.{branches_in}
 use Rattle.swf_meaning.specs.Parts.{workflow}
 
 -- an instance: its document, its raw input, when it started, its context, its tree, and the number of its next event
@@ -39,7 +40,7 @@ empty = record { documents = []; instances = []; keys = []; now = 0; outbox = []
 
 -- what a step of an instance goes by at a moment
 abbrev pub sight : ℕ → Instance → Sight
-sight now i = record { document = i.document; id = i.id; started = i.started; input = i.input; context = i.context; number = i.number; now = now; around = [] }
+sight now i = record { document = i.document; id = i.id; started = i.started; input = i.input; context = i.context; number = i.number; branches = branches_in i.node; now = now; around = [] }
 
 -- an instance that has just begun
 abbrev pub new_instance : List ℕ → Value → ℕ → Document → Instance
@@ -52,8 +53,3 @@ number_after n (Some e) = n + 1
 
 abbrev pub with_step : Instance → Stepped → Instance
 with_step i m = record i { node = m.node; context = m.context; number = number_after i.number m.emitted }
-
--- the strand outside every branch
-abbrev pub is_root : List ℕ → Bool
-is_root [] = true
-is_root (b ∷ bs) = false

@@ -1,12 +1,10 @@
-//! What a workflow means: labels, nodes, the world, and the runs that are allowed.
+//! What a workflow means: labels, nodes, what a step of a task does, and the world.
 #![tactic(auto)]
 
 mod heard;
 mod key;
 mod label;
-mod laws;
 
 pub use heard::Heard;
-pub use key::{Key, key_of};
+pub use key::Key;
 pub use label::{Answer, Label, Outcome, Query};
-pub use laws::legal_once;

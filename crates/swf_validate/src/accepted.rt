@@ -1,5 +1,6 @@
 // Documents without faults of scope.
 ghost use Rattle.std.specs.Prelude.{◌≡◌, ◌≢◌, [], List, IfOk, Err};
+ghost use Rattle.std.specs.Arc.{arc_value};
 ghost use Rattle.swf_document.specs.declared.fault.Fault.{Fault};
 ghost use Rattle.swf_reader.specs.Reads.{document_of};
 ghost use Rattle.swf_validate.specs.Accepts.{IsRead, faults};
@@ -47,6 +48,13 @@ impl Accepted {
         ensures accepted { scope_faults self.now ≡ [] }
     {
         &self.document
+    }
+
+    /// The document for one more owner. It copies nothing that is inside.
+    pub fn shared(&self) -> Result<Arc<Document>, AllocError>
+        ensures { IfOk result (λ d. arc_value d ≡ self.now) }
+    {
+        Ok(Arc::try_clone(&self.document)?)
     }
 
     /// The same document once more. It copies nothing that is inside.

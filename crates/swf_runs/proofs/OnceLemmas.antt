@@ -14,22 +14,17 @@ use Rattle.swf_document.specs.declared.fault.Fault.{Fault}
 use Rattle.swf_meaning.specs.declared.label.Label.{Label}
 use Rattle.swf_meaning.specs.declared.label.Label.TheVariants.{Load, Start, Event as Told, Reply, Moment, Step}
 use Rattle.swf_cloudevents.specs.declared.event.Event.{Event}
-use Rattle.swf_meaning.specs.Keys.{same_key, doc_key, key_of, are_distinct, Once}
+use Rattle.swf_runs.specs.Keys.{same_key, doc_key, key_of, are_distinct, Once}
 use Rattle.swf_meaning.specs.declared.key.Key.{Key}
 use Rattle.swf_meaning.specs.declared.key.Key.TheVariants.{Document as OfDocument, Instance as OfInstance, Event as OfEvent, Activity as OfActivity, Moment as OfMoment}
-use Rattle.swf_meaning.specs.World.{World, empty, new_instance, is_root}
-use Rattle.swf_meaning.specs.After.{is_used, with_document, loaded, load_faults, if_none, accepted, most_documents, document_at, with_instance, most_instances, with_event, told, stepped, sent, with_instances, counted, started, reached, after}
-use Rattle.swf_meaning.specs.Runs.{run_from, Legal}
+use Rattle.swf_meaning.specs.World.{World, empty, new_instance}
+use Rattle.swf_runs.specs.After.{is_used, with_document, loaded, load_faults, if_none, accepted, most_documents, document_at, with_instance, most_instances, with_event, told, stepped, sent, with_instances, counted, started, reached, after}
+use Rattle.swf_runs.specs.Runs.{run_from, Legal}
 
 -- what is mapped to a value is a value
 mapped_some : {A B P : Type 0} (f : A → B) (o : Option A) (y : B) → option_map f o ≡ Some y → ((x : A) → o ≡ Some x → f x ≡ y → P) → P
 mapped_some f None y e k = cc
 mapped_some f (Some x) y e k = k x refl (same_Some (f x) y e)
-
--- a choice that gives a value where the test must hold
-chosen_some : {A : Type 0} (b : Bool) (o : Option A) (y : A) → (if b then o else None) ≡ Some y → o ≡ Some y
-chosen_some true o y e = e
-chosen_some false o y e = cc
 
 -- a choice that gives a value where the test must fail
 refused_some : {A : Type 0} (b : Bool) (o : Option A) (y : A) → (if b then None else o) ≡ Some y → (b ≡ false) × (o ≡ Some y)
@@ -120,8 +115,7 @@ after_grown w m (Moment t) timed e =
     let h = refused_some (nat_le t w.now) (Some (record (counted (OfMoment t) w) { now = t })) m e in
     (not_reached w t timed h.0, ap (λ u. u.keys) (sym (same_Some (record (counted (OfMoment t) w) { now = t }) m h.1)))
 after_grown w m (Step id strand) timed e =
-    let h = chosen_some (is_root strand) (option_map (with_instances w) (stepped w.now id w.instances)) m e in
-    mapped_some (with_instances w) (stepped w.now id w.instances) m h (λ x p q. ap (λ u. u.keys) (sym q) ∙ sent_keys (record w { instances = x.0; count = w.count + 1 }) x.1)
+    mapped_some (with_instances w) (stepped w.now id strand w.instances) m e (λ x p q. ap (λ u. u.keys) (sym q) ∙ sent_keys (record w { instances = x.0; count = w.count + 1 }) x.1)
 
 -- a key that is used after a label was used before it, or is the label's
 used_before : (o : Option Key) (w m : World) (k : Key) → Grown o w m → is_used k m ≡ true → (is_used k w ≡ true) ⊎ (o ≡ Some k)
@@ -158,8 +152,7 @@ later w m (Moment t) e =
     let n : t ≡ m.now = ap (λ u. u.now) (same_Some (record (counted (OfMoment t) w) { now = t }) m h.1) in
     (omega (arith, n, leb-false t w.now h.0), λ u k. let same : t ≡ u = cc in omega (arith, n, same))
 later w m (Step id strand) e =
-    let h = chosen_some (is_root strand) (option_map (with_instances w) (stepped w.now id w.instances)) m e in
-    same_now (Step id strand) w m (mapped_some (with_instances w) (stepped w.now id w.instances) m h (λ x p q. ap (λ u. u.now) (sym q) ∙ sent_now (record w { instances = x.0; count = w.count + 1 }) x.1)) (λ t k. cc)
+    same_now (Step id strand) w m (mapped_some (with_instances w) (stepped w.now id strand w.instances) m e (λ x p q. ap (λ u. u.now) (sym q) ∙ sent_now (record w { instances = x.0; count = w.count + 1 }) x.1)) (λ t k. cc)
 
 timed_after : (w m : World) (l : Label) → Timed w → after w l ≡ Some m → Timed m
 timed_after w m l timed e t u =

@@ -2,8 +2,8 @@ use Rattle.std.proofs.Common.{◌≡◌, refl, codes, Option}
 use Rattle.std.specs.Prelude.{option_map}
 use denote.Bor.{Bor}
 use Rattle.swf_value.specs.Value.{Value}
-use Rattle.swf_meaning.proofs.KeyLemmas.{part_is}
-use Rattle.swf_meaning.proofs.key.document_key.Goals as goal
+use Rattle.swf_runs.proofs.KeyLemmas.{part_is}
+use Rattle.swf_runs.proofs.key.document_key.Goals as goal
 
 -- src/key.rt:41:1
 pub returns : goal.returns

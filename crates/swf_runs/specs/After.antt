@@ -14,11 +14,11 @@ use Rattle.swf_meaning.specs.declared.label.Label.TheVariants.{Load, Start, Even
 use Rattle.swf_document.specs.declared.fault.Fault.{Fault}
 use Rattle.swf_meaning.specs.Built.{not_built}
 use Rattle.swf_meaning.specs.Local.{local}
-use Rattle.swf_meaning.specs.Keys.{same_doc, same_key}
+use Rattle.swf_runs.specs.Keys.{same_doc, same_key}
 use Rattle.swf_meaning.specs.Offer.{offered_all, takers}
 use Rattle.swf_meaning.specs.declared.key.Key.{Key}
 use Rattle.swf_meaning.specs.declared.key.Key.TheVariants.{Document as OfDocument, Instance as OfInstance, Event as OfEvent, Moment as OfMoment}
-use Rattle.swf_meaning.specs.World.{Instance, Loaded, World, sight, new_instance, with_step, is_root}
+use Rattle.swf_meaning.specs.World.{Instance, Loaded, World, sight, new_instance, with_step}
 
 abbrev pub most_documents : ℕ
 most_documents = 1000
@@ -87,14 +87,14 @@ is_open a w = false
 abbrev pub replied : World → List ℕ → CallReply → Option World
 replied w a r = if is_open a w then Some w else None
 
--- the instances after the one of that id took a step at a moment, and the event that goes out; none where there is none or it
+-- the instances after a strand of the one of that id took a step at a moment, and the event that goes out; none where there is none or it
 -- cannot
-abbrev pub stepped : ℕ → List ℕ → List Instance → Option (List Instance × Option Event)
-stepped now id [] = None
-stepped now id (i ∷ is) =
+abbrev pub stepped : ℕ → List ℕ → List ℕ → List Instance → Option (List Instance × Option Event)
+stepped now id strand [] = None
+stepped now id strand (i ∷ is) =
     if same id i.id
-    then option_map (λ m. (with_step i m ∷ is, m.emitted)) (local (sight now i) i.node)
-    else option_map (λ p. (i ∷ p.0, p.1)) (stepped now id is)
+    then option_map (λ m. (with_step i m ∷ is, m.emitted)) (local (sight now i) strand i.node)
+    else option_map (λ p. (i ∷ p.0, p.1)) (stepped now id strand is)
 
 -- an event that goes out is offered to every `listen`
 abbrev pub sent : World → Option Event → World
@@ -111,7 +111,7 @@ after w (Start id key input) = started w id key input
 after w (Told e) = told w e
 after w (Reply a r) = replied w a r
 after w (Moment moment) = reached w moment
-after w (Step id strand) = if is_root strand then option_map (with_instances w) (stepped w.now id w.instances) else None
+after w (Step id strand) = option_map (with_instances w) (stepped w.now id strand w.instances)
 
 -- how many tasks take the event that is told
 abbrev pub taken_by : World → Label → ℕ

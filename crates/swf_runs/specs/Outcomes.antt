@@ -1,5 +1,5 @@
 -- By what an outcome is known that is handed in.
-use Rattle.swf_meaning.specs.Keys.{doc_key}
+use Rattle.swf_runs.specs.Keys.{doc_key}
 use Rattle.swf_meaning.specs.declared.key.Key.{Key}
 use Rattle.swf_meaning.specs.declared.key.Key.TheVariants as keys
 use Rattle.swf_meaning.specs.declared.label.Outcome.{Outcome}

@@ -4,7 +4,7 @@ use Rattle.std.specs.List.{list_any}
 use Rattle.swf_meaning.specs.declared.label.Label.{Label}
 use Rattle.swf_meaning.specs.Local.{is_enabled}
 use Rattle.swf_meaning.specs.World.{World, empty}
-use Rattle.swf_meaning.specs.After.{after}
+use Rattle.swf_runs.specs.After.{after}
 
 -- the world after these labels, from that one on
 abbrev pub run_from : World → List Label → Option World

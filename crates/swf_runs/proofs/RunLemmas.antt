@@ -2,8 +2,8 @@
 use Rattle.std.proofs.Common.{◌≡◌, ◌∙◌, ap, refl, List, [], ◌∷◌, ◌++◌, Option, Some, None, option_and_then}
 use Rattle.swf_meaning.specs.declared.label.Label.{Label}
 use Rattle.swf_meaning.specs.World.{World, empty}
-use Rattle.swf_meaning.specs.After.{after}
-use Rattle.swf_meaning.specs.Runs.{run_from, run, world_at, Legal}
+use Rattle.swf_runs.specs.After.{after}
+use Rattle.swf_runs.specs.Runs.{run_from, run, world_at, Legal}
 
 run_then : (o : Option World) (ls ms : List Label) → ((w : World) → run_from w (ls ++ ms) ≡ option_and_then (λ m. run_from m ms) (run_from w ls)) → option_and_then (λ w. run_from w (ls ++ ms)) o ≡ option_and_then (λ m. run_from m ms) (option_and_then (λ w. run_from w ls) o)
 run_then None ls ms h = refl

@@ -1,6 +1,0 @@
--- No legal run uses a key twice.
-use Rattle.swf_meaning.proofs.OnceLemmas.{once_of_legal}
-use Rattle.swf_meaning.proofs.laws.legal_once.Goals as goal
-
-pub returns : goal.returns
-returns c = once_of_legal

@@ -1,0 +1,4 @@
+pub mod Keys
+pub mod Outcomes
+pub mod After
+pub mod Runs
