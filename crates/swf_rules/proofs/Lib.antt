@@ -3,3 +3,5 @@ pub mod RaiseLemmas
 pub mod AskLemmas
 pub mod ListenLemmas
 pub mod EmitLemmas
+pub mod ForkLemmas
+pub mod TurnLemmas

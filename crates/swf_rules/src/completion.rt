@@ -71,7 +71,7 @@ fn exported(
     ensures { Gives (sight_of scene.entry.now) (exported (sight_of scene.entry.now) task.now raw.now input.now flow output (common_of task.now).export_as) result }
 {
     match task.export_as() {
-        None => Ok(finished(output, flow, scene.setting.context.copy()?)),
+        None => Ok(finished(output, flow, scene.context.copy()?)),
         Some(template) => {
             let vars = behind(alloc, scene, task, raw, input, &output)?;
             let context = value_of(alloc, task, fill(alloc, template, &vars, &output)?)?;

@@ -70,7 +70,7 @@ fn sending(
         Err(Halt::Fault(problem)) => Ok(Made {
             frame: None,
             top: Top::Fault(problem),
-            context: scene.setting.context.copy()?,
+            context: scene.context.copy()?,
             emitted: Some(event),
         }),
         Err(Halt::OutOfMemory) => Err(Halt::OutOfMemory),

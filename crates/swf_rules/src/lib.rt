@@ -4,6 +4,7 @@
 mod completion;
 mod emit;
 mod for_;
+mod fork;
 mod listen;
 mod lists;
 mod next;
@@ -15,7 +16,8 @@ mod wait;
 pub use completion::{complete, input_of};
 pub use emit::emitting;
 pub use for_::looping;
-pub use listen::{heard, is_satisfied, listening, takes};
+pub use fork::{forking, settled};
+pub use listen::{heard, listening, takes};
 pub use lists::comes_to;
 pub use next::{failed, moved_on};
 pub use raise::raising;

@@ -17,10 +17,10 @@ ghost use Rattle.swf_scene.specs.Stack.{sight_of};
 use crate::completion::complete;
 use std::alloc::{AllocError, Global};
 use swf_cloudevents::{Event, NamedValues, Payload, event_json};
-use swf_document::{Correlation, ErrorKind, Filter, ListenMode, ListenSpec, Listing};
+use swf_document::{Correlation, ErrorKind, Filter, ListenSpec, Listing};
 use swf_jq_eval::Vars;
 use swf_meaning::Heard;
-use swf_scene::{Halt, Made, Scene, TaskRef, Top, fails, value_of, within};
+use swf_scene::{Halt, Made, Scene, TaskRef, Top, fails, is_satisfied, value_of, within};
 use swf_text::Text;
 use swf_transform::{correlate, fill};
 use swf_value::Json;
@@ -121,19 +121,9 @@ pub fn listening(
             bound,
             heard: Listing::of(alloc, Vec::new(alloc))?,
         },
-        context: scene.setting.context.copy()?,
+        context: scene.context.copy()?,
         emitted: None,
     })
-}
-
-/// Whether a `listen` has heard all that it waits for.
-pub fn is_satisfied(spec: &ListenSpec, heard: &[Heard]) -> bool
-    ensures { result ≡ is_satisfied spec.now heard.now }
-{
-    match spec.mode {
-        ListenMode::One | ListenMode::Any => !heard.is_empty(),
-        ListenMode::All => heard.len() >= spec.filters.as_slice().len(),
-    }
 }
 
 // Whether the filter of a place has an event.

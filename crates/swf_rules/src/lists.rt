@@ -1,13 +1,15 @@
 // How a list of tasks runs (DSL 1.0.0, "Do" and "Flow directives"; reference, "For").
-ghost use Rattle.std.specs.Prelude.{◌≡◌, if◌then◌else◌};
-ghost use Rattle.swf_meaning.specs.Lists.{comes_to, list_ended, turn, turn_guarded, turn_begins, guard_in};
+ghost use Rattle.std.specs.Prelude.{◌≡◌, ◌∷◌, [], IfOk, if◌then◌else◌};
+ghost use Rattle.swf_meaning.specs.Lists.{comes_to, list_ended, turn, turn_guarded, turn_begins, begins_with, guard_in, list_of};
+ghost use Rattle.swf_meaning.specs.Next.{task_at};
+ghost use Rattle.swf_meaning.specs.Node.{Node, Live, At};
 ghost use Rattle.swf_meaning.specs.Complete.{complete};
 ghost use Rattle.swf_meaning.specs.Parts.{kind_of};
 ghost use Rattle.swf_scene.specs.Halts.{Gives};
-ghost use Rattle.swf_scene.specs.Stack.{sight_of, round_of};
+ghost use Rattle.swf_scene.specs.Stack.{sight_of, round_of, made_node, plug};
 
 use crate::completion::complete;
-use std::alloc::Global;
+use std::alloc::{AllocError, Global};
 use swf_document::Flow;
 use swf_jq_builtins::is_true;
 use swf_scene::{Frame, Halt, Made, Round, Scene, TaskRef, Top, Turn, value_of, within};
@@ -46,7 +48,7 @@ pub fn comes_to(
             task: child,
             raw: value,
         },
-        context: scene.setting.context.copy()?,
+        context: scene.context.copy()?,
         emitted: None,
     })
 }
@@ -154,7 +156,34 @@ fn turn_begins(
 ) -> Result<Made, Halt>
     ensures { Gives (sight_of scene.entry.now) (turn_begins (sight_of scene.entry.now) task.now raw.now input.now (round_of round) value) result }
 {
-    let top = match task.child(&round, 0)? {
+    let top = begins_with(task, &round, value)?;
+    let frame = in_round(task, raw, input, round)?;
+    Ok(Made {
+        frame: Some(frame),
+        top,
+        context: scene.context.copy()?,
+        emitted: None,
+    })
+}
+
+// The task as it runs in a round, at the first place of its list.
+fn in_round(task: &TaskRef, raw: &Json, input: &Json, round: Round) -> Result<Frame, AllocError>
+    ensures { IfOk result (λ f. (n : Node) → plug (f ∷ []) n ≡ Live task.now raw.now input.now (At (round_of round) 0 n)) }
+{
+    Ok(Frame {
+        task: task.copy()?,
+        raw: raw.copy()?,
+        input: input.copy()?,
+        round,
+        place: 0,
+    })
+}
+
+// The first task of the list begins with a value; a list without tasks gives that value.
+fn begins_with(task: &TaskRef, round: &Round, value: Json) -> Result<Top, AllocError>
+    ensures { IfOk result (λ t. made_node t ≡ begins_with value (task_at (list_of task.now (round_of round.now)) 0)) }
+{
+    Ok(match task.child(round, 0)? {
         Some(child) => Top::Fresh {
             task: child,
             raw: value,
@@ -163,18 +192,5 @@ fn turn_begins(
             output: value,
             flow: Flow::Continue,
         },
-    };
-    let frame = Frame {
-        task: task.copy()?,
-        raw: raw.copy()?,
-        input: input.copy()?,
-        round,
-        place: 0,
-    };
-    Ok(Made {
-        frame: Some(frame),
-        top,
-        context: scene.setting.context.copy()?,
-        emitted: None,
     })
 }

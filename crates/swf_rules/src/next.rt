@@ -65,9 +65,9 @@ fn ended(
 {
     if task.is_workflow() {
         let output = output_of(alloc, scene, task, raw, input, output)?;
-        return Ok(finished(output, Flow::End, scene.setting.context.copy()?));
+        return Ok(finished(output, Flow::End, scene.context.copy()?));
     }
-    Ok(finished(output, Flow::End, scene.setting.context.copy()?))
+    Ok(finished(output, Flow::End, scene.context.copy()?))
 }
 
 /// A task of a running task's list is done.

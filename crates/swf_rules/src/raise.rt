@@ -115,7 +115,7 @@ pub fn raising(
             let Some(error) = error_named(name, errors) else {
                 return Err(fails(alloc, task, ErrorKind::Configuration, "unknown error"));
             };
-            let vars = within(alloc, &scene.alone(alloc), task, raw, input)?;
+            let vars = within(alloc, &scene.alone(alloc)?, task, raw, input)?;
             raised(alloc, task, &vars, input, error)
         }
     }

@@ -133,7 +133,7 @@ fn later(
             retries: Some(retry),
             until,
         },
-        context: scene.setting.context.copy()?,
+        context: scene.context.copy()?,
         emitted: None,
     })
 }

@@ -33,7 +33,7 @@ pub fn waiting(
             retries: None,
             until,
         },
-        context: scene.setting.context.copy()?,
+        context: scene.context.copy()?,
         emitted: None,
     })
 }

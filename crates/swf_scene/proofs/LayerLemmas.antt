@@ -1,15 +1,11 @@
 -- The tasks that run among what a strand holds.
-use Rattle.std.proofs.Common.{◌≡◌, ◌∙◌, ℕ, ◌+◌, ◌<◌, List, [], ◌∷◌, ◌++◌, length, get_or, take, map, refl, ap, sym, append_assoc, append-nil}
+use Rattle.std.proofs.Common.{◌≡◌, ◌∙◌, ℕ, ◌+◌, ◌<◌, List, [], ◌∷◌, ◌++◌, length, get_or, take, refl, ap, sym, append_assoc, append-nil}
 use Rattle.std.proofs.lemmas.List.{take_more}
-use Rattle.swf_meaning.specs.Around.{round_variables}
-use Rattle.swf_meaning.specs.Parts.{kind_of}
 use Rattle.swf_scene.specs.Layers.{frames_of, running_in, running, stacked, top_of}
-use Rattle.swf_scene.specs.Stack.{round_of, variables_in}
 use Rattle.swf_scene.specs.declared.made.Frame.{Frame}
 use Rattle.swf_scene.specs.declared.made.Layer.{Layer}
 use Rattle.swf_scene.specs.declared.made.Layer.TheVariants as layers
 use Rattle.swf_scene.specs.declared.made.Top.{Top}
-use Rattle.swf_scene.proofs.RoundLemmas.{variables_in-append}
 
 pub frames_of-append : (ls ms : List Layer) → frames_of (ls ++ ms) ≡ frames_of ls ++ frames_of ms
 frames_of-append [] ms = refl
@@ -28,16 +24,6 @@ one-more ls i l f p e q = sym (frames_more ls i l p e ∙ ap (λ x. frames_of (t
 pub none-more : (ls : List Layer) (i : ℕ) (l : Layer) → i < length ls → l ≡ get_or ls i l → ((f : Frame) → l ≡ layers.Running f → ⊥) → frames_of (take i ls) ≡ frames_of (take (i + 1) ls)
 none-more ls i (layers.Running f) p e q = absurd (q f refl)
 none-more ls i (layers.Top t) p e q = sym (frames_more ls i (layers.Top t) p e ∙ append-nil (frames_of (take i ls)))
-
--- the variables of one task more, and of none
-pub more_running : (ls : List Layer) (i : ℕ) (l : Layer) (f : Frame) → i < length ls → l ≡ get_or ls i l → l ≡ layers.Running f → variables_in (frames_of (take i ls)) ++ round_variables (kind_of f.task) (round_of f.round) ≡ variables_in (frames_of (take (i + 1) ls))
-more_running ls i l f p e q =
-    sym (ap variables_in (sym (one-more ls i l f p e q))
-    ∙ variables_in-append (frames_of (take i ls)) (f ∷ [])
-    ∙ ap (λ ys. variables_in (frames_of (take i ls)) ++ ys) (append-nil (round_variables (kind_of f.task) (round_of f.round))))
-
-pub no_more : (ls : List Layer) (i : ℕ) (l : Layer) → i < length ls → l ≡ get_or ls i l → ((f : Frame) → l ≡ layers.Running f → ⊥) → variables_in (frames_of (take i ls)) ≡ variables_in (frames_of (take (i + 1) ls))
-no_more ls i l p e q = ap variables_in (none-more ls i l p e q)
 
 -- of a stack
 pub frames_of-running : (fs : List Frame) → frames_of (running fs) ≡ fs

@@ -1,15 +1,14 @@
 -- Turns of a `for`, and the variables of a round.
-use Rattle.std.proofs.Common.{◌≡◌, ◌∙◌, ◌<◌, ◌≤◌, ◌^◌, ◌+◌, pos, ℕ, List, [], ◌∷◌, ◌++◌, length, get_or, take, refl, ap, sym, subst, append_assoc, append-nil}
+use Rattle.std.proofs.Common.{◌≡◌, ◌∙◌, ◌<◌, ◌≤◌, ◌^◌, pos, List, [], ◌∷◌, ◌++◌, length, get_or, refl, ap, sym, subst, append_assoc}
 use Rattle.std.proofs.Math.Bridge.{le_prop}
 use Rattle.std.proofs.lemmas.Option.{slice_get_past, slice_get_read}
 use Rattle.swf_value.specs.Value.{Value, int}
 use Rattle.swf_meaning.specs.Sight.{variable}
 use Rattle.swf_jq_eval.specs.declared.vars.Variable.{Variable}
 use Rattle.swf_document.specs.declared.tasks.ForSpec.{ForSpec}
-use Rattle.swf_meaning.specs.Around.{seen, round_variables, turn_variables}
-use Rattle.swf_meaning.specs.Parts.{kind_of}
+use Rattle.swf_meaning.specs.Around.{seen, turn_variables}
 use Rattle.swf_meaning.specs.Sight.{Sight}
-use Rattle.swf_scene.specs.Stack.{round_of, seen_in, variables_in}
+use Rattle.swf_scene.specs.Stack.{round_of, seen_in}
 use Rattle.swf_scene.specs.TaskRef.{loop_of, loop_variables}
 use Rattle.swf_scene.specs.declared.made.Frame.{Frame}
 use Rattle.swf_scene.specs.declared.made.Turn.{Turn}
@@ -20,18 +19,10 @@ same-turn t items e p =
     let same : e ≡ t.few = le_prop e t.few in
     λ i. record { items = p i; number = t.number; few = same i }
 
--- what is seen inside running tasks is their variables behind those around
-pub seen_in-around : (s : Sight) (fs : List Frame) → seen_in s fs ≡ record s { around = s.around ++ variables_in fs }
-seen_in-around s [] = ap (λ xs. record s { around = xs }) (sym (append-nil s.around))
-seen_in-around s (f ∷ fs) =
-    let xs = round_variables (kind_of f.task) (round_of f.round) in
-    seen_in-around (seen s f.task (round_of f.round)) fs ∙ ap (λ ys. record s { around = ys }) (append_assoc s.around xs (variables_in fs))
-
-pub variables_in-append : (fs gs : List Frame) → variables_in (fs ++ gs) ≡ variables_in fs ++ variables_in gs
-variables_in-append [] gs = refl
-variables_in-append (f ∷ fs) gs =
-    let xs = round_variables (kind_of f.task) (round_of f.round) in
-    ap (λ ys. xs ++ ys) (variables_in-append fs gs) ∙ sym (append_assoc xs (variables_in fs) (variables_in gs))
+-- what is seen inside running tasks and then inside more of them
+pub seen_in-append : (s : Sight) (fs gs : List Frame) → seen_in s (fs ++ gs) ≡ seen_in (seen_in s fs) gs
+seen_in-append s [] gs = refl
+seen_in-append s (f ∷ fs) gs = seen_in-append (seen s f.task (round_of f.round)) fs gs
 
 -- the variables of a turn
 pub turn_past : (s : ForSpec) (t : Turn) → length t.items ≤ t.number → loop_variables s t ≡ []

@@ -1,10 +1,9 @@
 -- The tree that a stack stands for.
-use Rattle.std.specs.Prelude.{ℕ, List, [], ◌∷◌, ◌++◌, Option, Some, None, option_to_list}
-use Rattle.swf_meaning.specs.Node.{Node, Fresh, Live, Done, Fault, Inside, At, Later, Sleep, Hear, Round, Seq, Each, Try, Catch}
-use Rattle.swf_jq_eval.specs.declared.vars.Variable.{Variable}
-use Rattle.swf_meaning.specs.Around.{seen, round_variables}
-use Rattle.swf_meaning.specs.Parts.{kind_of}
+use Rattle.std.specs.Prelude.{ℕ, List, [], ◌∷◌, Option, Some, None, option_to_list}
+use Rattle.swf_meaning.specs.Node.{Node, Fresh, Live, Done, Fault, Inside, At, Later, Sleep, Hear, Forked, Nodes, no_nodes, Round, Seq, Each, Try, Catch}
+use Rattle.swf_meaning.specs.Around.{seen}
 use Rattle.swf_meaning.specs.Complete.{Stepped}
+use Rattle.swf_meaning.specs.Fork.{branches_of, fresh}
 use Rattle.swf_meaning.specs.Sight.{Sight}
 use Rattle.swf_meaning.specs.World.{Instance}
 use Rattle.swf_scene.specs.declared.made.Frame.{Frame}
@@ -33,6 +32,30 @@ top_node (tops.Done w f) = Done w f
 top_node (tops.Fault p) = Fault p
 top_node (tops.Waiting t v u n until) = Live t v u (waiting n until)
 top_node (tops.Hearing t v u bound hs) = Live t v u (Hear bound hs)
+top_node (tops.Forked t v u) = Live t v u (Forked no_nodes)
+
+-- a `fork` with these branches below it; what is no `fork` has none
+abbrev pub forked_inside : Inside → Nodes → Inside
+forked_inside (At r i n) ns = At r i n
+forked_inside (Later n m) ns = Later n m
+forked_inside (Sleep m) ns = Sleep m
+forked_inside (Hear bound hs) ns = Hear bound hs
+forked_inside (Forked ms) ns = Forked ns
+
+abbrev pub forked : Node → Nodes → Node
+forked (Fresh t v) ns = Fresh t v
+forked (Live t v u k) ns = Live t v u (forked_inside k ns)
+forked (Done w f) ns = Done w f
+forked (Fault p) ns = Fault p
+
+-- a `fork` that begins has all its branches
+abbrev pub made_node : Top → Node
+made_node (tops.Fresh t v) = Fresh t v
+made_node (tops.Done w f) = Done w f
+made_node (tops.Fault p) = Fault p
+made_node (tops.Waiting t v u n until) = Live t v u (waiting n until)
+made_node (tops.Hearing t v u bound hs) = Live t v u (Hear bound hs)
+made_node (tops.Forked t v u) = Live t v u (Forked (fresh (branches_of t) u))
 
 -- a node inside running tasks, of which the first is outermost
 abbrev pub plug : List Frame → Node → Node
@@ -40,14 +63,14 @@ plug [] n = n
 plug (f ∷ fs) n = Live f.task f.raw f.input (At (round_of f.round) f.place (plug fs n))
 
 abbrev pub stepped_of : Made → Stepped
-stepped_of m = record { node = plug (option_to_list m.frame) (top_node m.top); context = m.context; emitted = m.emitted }
+stepped_of m = record { node = plug (option_to_list m.frame) (made_node m.top); context = m.context; emitted = m.emitted }
 
 -- what a step goes by outside every task
-abbrev pub setting_sight : Setting → ℕ → Sight
-setting_sight s now = record { document = s.document; id = s.id; started = s.started; input = s.input; context = s.context; number = s.number; now = now; around = [] }
+abbrev pub setting_sight : Setting → ℕ → ℕ → Sight
+setting_sight s branches now = record { document = s.document; id = s.id; started = s.started; input = s.input; context = s.context; number = s.number; branches = branches; now = now; around = [] }
 
 abbrev pub sight_of : Scene → Sight
-sight_of s = record (setting_sight s.setting.now s.now) { around = s.around.items }
+sight_of s = record (setting_sight s.setting.now s.branches s.now) { context = s.context; around = s.around.items }
 
 -- the same without the variables around
 abbrev pub alone : Sight → Sight
@@ -58,12 +81,7 @@ abbrev pub seen_in : Sight → List Frame → Sight
 seen_in s [] = s
 seen_in s (f ∷ fs) = seen_in (seen s f.task (round_of f.round)) fs
 
--- the instance that a setting and a stack stand for
-abbrev pub instance_of : Setting → List Frame → Top → Instance
-instance_of s fs t =
-    record { id = s.id; document = s.document; input = s.input; started = s.started; context = s.context; node = plug fs (top_node t); number = s.number }
-
--- the variables of these running tasks, those of the innermost last
-abbrev pub variables_in : List Frame → List Variable
-variables_in [] = []
-variables_in (f ∷ fs) = round_variables (kind_of f.task) (round_of f.round) ++ variables_in fs
+-- the instance that a setting and a tree stand for
+abbrev pub instance_of : Setting → Node → Instance
+instance_of s n =
+    record { id = s.id; document = s.document; input = s.input; started = s.started; context = s.context; node = n; number = s.number }

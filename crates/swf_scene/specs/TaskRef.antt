@@ -1,5 +1,5 @@
 -- The parts of a task.
-use Rattle.std.specs.Prelude.{◌≡◌, ℕ, List, slice_get, Option, Some, None}
+use Rattle.std.specs.Prelude.{◌≡◌, List, slice_get, Option, Some, None}
 use Rattle.swf_jq_eval.specs.declared.vars.Variable.{Variable}
 use Rattle.swf_document.specs.Task.{Task, Tasks, no_tasks, Kind, call, do_all, emit, for, fork, listen, raise, run, set, switch, try, wait, Loop, Catch}
 use Rattle.swf_document.specs.TaskNode.{task_of, handler_of}
@@ -26,7 +26,6 @@ catch_of s = record { errors = s.errors; name = s.name; cond = s.cond; except = 
 -- a kind of task that is not built
 abbrev pub IsOther : Kind → Type 0
 IsOther (call c) = Unit {0}
-IsOther (fork c ts) = Unit {0}
 IsOther (run s) = Unit {0}
 IsOther k = ⊥
 
@@ -35,6 +34,7 @@ abbrev pub work_kind : Work → Kind → Type 0
 work_kind (works.Do ts) k = k ≡ do_all ts.now
 work_kind (works.Emit t) k = k ≡ emit t.now
 work_kind (works.For s) k = k ≡ for (loop_of s.now) s.now.tasks
+work_kind (works.Fork f) k = k ≡ fork f.now.compete f.now.branches
 work_kind (works.Listen l) k = k ≡ listen l.now
 work_kind (works.Raise r) k = k ≡ raise r.now
 work_kind (works.Set t) k = k ≡ set t.now

@@ -2,15 +2,19 @@
 #![tactic(auto)]
 
 mod halt;
+mod heard;
 mod made;
 mod scene;
+mod shared;
 mod sight;
 mod task;
 mod words;
 
 pub use halt::{Halt, fails, value_of};
+pub use heard::{is_heard, is_satisfied};
 pub use made::{Frame, Layer, Made, Round, Top, Turn};
 pub use scene::{Scene, Setting, Site};
+pub use shared::SharedDocument;
 pub use sight::{before, behind, catching, retrying, within};
 pub use task::{TaskRef, Work};
 pub use words::Words;

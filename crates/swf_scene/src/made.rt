@@ -68,6 +68,12 @@ pub enum Top {
         bound: NamedValues,
         heard: Listing<Heard>,
     },
+    /// A `fork` whose branches run, each on a strand of its own below this one.
+    Forked {
+        task: TaskRef,
+        raw: Json,
+        input: Json,
+    },
 }
 
 /// What a strand holds: the tasks that run, the outermost first, and at the top what stands innermost.
@@ -140,28 +146,59 @@ impl Top {
                 input,
                 retries,
                 until,
-            } => Ok(Top::Waiting {
-                task: task.copy()?,
-                raw: raw.copy()?,
-                input: input.copy()?,
-                retries: *retries,
-                until: *until,
-            }),
+            } => waiting(task, raw, input, *retries, *until),
             Top::Hearing {
                 task,
                 raw,
                 input,
                 bound,
                 heard,
-            } => Ok(Top::Hearing {
+            } => hearing(task, raw, input, bound, heard),
+            Top::Forked { task, raw, input } => Ok(Top::Forked {
                 task: task.copy()?,
                 raw: raw.copy()?,
                 input: input.copy()?,
-                bound: bound.copy()?,
-                heard: heard.copy()?,
             }),
         }
     }
+}
+
+// What waits until a moment, of these parts once more.
+fn waiting(
+    task: &TaskRef,
+    raw: &Json,
+    input: &Json,
+    retries: Option<u64>,
+    until: u64,
+) -> Result<Top, AllocError>
+    ensures { IfOk result (λ t. t ≡ Top.Waiting task.now raw.now input.now retries until) }
+{
+    Ok(Top::Waiting {
+        task: task.copy()?,
+        raw: raw.copy()?,
+        input: input.copy()?,
+        retries,
+        until,
+    })
+}
+
+// What listens, of these parts once more.
+fn hearing(
+    task: &TaskRef,
+    raw: &Json,
+    input: &Json,
+    bound: &NamedValues,
+    heard: &Listing<Heard>,
+) -> Result<Top, AllocError>
+    ensures { IfOk result (λ t. t ≡ Top.Hearing task.now raw.now input.now bound.now heard.now) }
+{
+    Ok(Top::Hearing {
+        task: task.copy()?,
+        raw: raw.copy()?,
+        input: input.copy()?,
+        bound: bound.copy()?,
+        heard: heard.copy()?,
+    })
 }
 
 impl CopyFrame for Layer {

@@ -6,6 +6,7 @@ ghost use Rattle.swf_scene.specs.Layers.{frames_of};
 ghost use Rattle.swf_scene.specs.Stack.{sight_of, setting_sight, seen_in, round_of, alone};
 
 use crate::made::{Layer, Round};
+use crate::shared::SharedDocument;
 use crate::sight::{copy_variables, push_seen};
 use crate::task::TaskRef;
 use crate::words::Words;
@@ -13,13 +14,12 @@ use std::alloc::{AllocError, Global};
 use swf_duration::Moment;
 use swf_jq_eval::Variable;
 use swf_text::Text;
-use swf_validate::Accepted;
 use swf_value::Json;
 
 /// An instance's document, its id, when it started, the raw input of its workflow, its context, and the number of its next event.
 #[derive(Drop)]
 pub struct Setting {
-    pub document: Accepted,
+    pub document: SharedDocument,
     pub id: Text,
     pub started: Moment,
     pub input: Json,
@@ -34,11 +34,13 @@ pub struct Site<'a> {
     pub words: &'a Words,
 }
 
-/// What a step goes by: the instance's setting, the moment, the variables around the task that takes it, and the names that
-/// variables need.
+/// What a step goes by: the instance's setting, its context, how many branches it has, the moment, the variables around the task
+/// that takes it, and the names that variables need.
 #[derive(Drop)]
 pub struct Scene<'a> {
     pub setting: &'a Setting,
+    pub context: Json,
+    pub branches: usize,
     pub words: &'a Words,
     pub now: Moment,
     pub around: Vec<Variable>,
@@ -61,28 +63,57 @@ impl Setting {
 }
 
 impl<'a> Scene<'a> {
-    /// What a task inside the running tasks of these goes by.
-    pub fn inside(
+    /// What the workflow of an instance goes by that has so many branches.
+    pub fn of(
         alloc: Global,
         setting: &'a Setting,
-        words: &'a Words,
-        now: Moment,
-        layers: &[Layer],
+        branches: usize,
+        site: &Site<'a>,
     ) -> Result<Scene<'a>, AllocError>
-        ensures { IfOk result (λ s. sight_of s ≡ seen_in (setting_sight setting.now now) (frames_of layers.now)) }
+        ensures { IfOk result (λ s. sight_of s ≡ setting_sight setting.now branches site.entry.now.now) }
     {
-        let mut around = Vec::new(alloc);
-        for layer in layers {
-            if let Layer::Running(frame) = layer {
-                push_seen(alloc, &mut around, &frame.task, &frame.round)?;
-            }
-        }
         Ok(Scene {
             setting,
-            words,
-            now,
-            around,
+            context: setting.context.copy()?,
+            branches,
+            words: site.words,
+            now: site.now,
+            around: Vec::new(alloc),
         })
+    }
+
+    /// The same once more. It copies no values.
+    pub fn copy(&self, alloc: Global) -> Result<Scene<'a>, AllocError>
+        ensures { IfOk result (λ s. sight_of s ≡ sight_of self.entry.now) }
+    {
+        Ok(Scene {
+            setting: self.setting,
+            context: self.context.copy()?,
+            branches: self.branches,
+            words: self.words,
+            now: self.now,
+            around: copy_variables(alloc, &self.around)?,
+        })
+    }
+
+    /// The same with another context.
+    pub fn with_context(mut self, context: Json) -> Scene<'a>
+        ensures { sight_of result ≡ record (sight_of self.entry) { context = context } }
+    {
+        self.context = context;
+        self
+    }
+
+    /// What a task inside the running tasks of these goes by.
+    pub fn inside(mut self, alloc: Global, layers: &[Layer]) -> Result<Scene<'a>, AllocError>
+        ensures { IfOk result (λ s. sight_of s ≡ seen_in (sight_of self.entry) (frames_of layers.now)) }
+    {
+        for layer in layers {
+            if let Layer::Running(frame) = layer {
+                push_seen(alloc, &mut self.around, &frame.task, &frame.round)?;
+            }
+        }
+        Ok(self)
     }
 
     /// What a task that runs in a round of this one goes by.
@@ -98,6 +129,8 @@ impl<'a> Scene<'a> {
         push_seen(alloc, &mut around, task, round)?;
         Ok(Scene {
             setting: self.setting,
+            context: self.context.copy()?,
+            branches: self.branches,
             words: self.words,
             now: self.now,
             around,
@@ -105,14 +138,16 @@ impl<'a> Scene<'a> {
     }
 
     /// The same without the variables around.
-    pub fn alone(&self, alloc: Global) -> Scene<'a>
-        ensures { sight_of result ≡ alone (sight_of self.entry.now) }
+    pub fn alone(&self, alloc: Global) -> Result<Scene<'a>, AllocError>
+        ensures { IfOk result (λ s. sight_of s ≡ alone (sight_of self.entry.now)) }
     {
-        Scene {
+        Ok(Scene {
             setting: self.setting,
+            context: self.context.copy()?,
+            branches: self.branches,
             words: self.words,
             now: self.now,
             around: Vec::new(alloc),
-        }
+        })
     }
 }

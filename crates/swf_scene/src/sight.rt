@@ -178,7 +178,7 @@ fn with_context(alloc: Global, scene: &Scene) -> Result<Vec<Variable>, AllocErro
     ensures { IfOk result (λ xs. xs.items ≡ with_context (sight_of scene.entry.now)) }
 {
     let mut variables = of_workflow(alloc, scene)?;
-    variables.push(variable(scene.words.context(), scene.setting.context.copy()?)?)?;
+    variables.push(variable(scene.words.context(), scene.context.copy()?)?)?;
     Ok(variables)
 }
 
@@ -293,7 +293,7 @@ pub fn retrying(
 ) -> Result<Vars, AllocError>
     ensures { IfOk result (λ r. r ≡ retrying (sight_of scene.entry.now) task.now raw.now problem.now) }
 {
-    let scene = scene.alone(alloc);
+    let scene = scene.alone(alloc)?;
     let mut variables = of_task(alloc, &scene, task, raw)?;
     let name = word(alloc, "error")?;
     variables.push(variable(&name, problem_value(alloc, problem)?)?)?;

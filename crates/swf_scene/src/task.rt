@@ -3,6 +3,8 @@ ghost use Rattle.std.specs.Prelude.{◌≡◌, IfOk, IsSome, Some, ◌<◌, ◌-
 ghost use Rattle.swf_document.specs.TaskNode.{task_of, tasks_of};
 ghost use Rattle.swf_meaning.specs.Parts.{common_of, kind_of, place_of, workflow};
 ghost use Rattle.swf_meaning.specs.Sight.{is_workflow};
+ghost use Rattle.swf_meaning.specs.Fork.{branches_of};
+ghost use Rattle.swf_meaning.specs.Local.{competes};
 ghost use Rattle.swf_meaning.specs.Next.{task_at};
 ghost use Rattle.swf_meaning.specs.Lists.{list_of, guard_in};
 ghost use Rattle.swf_meaning.specs.Shared.{is_shared_kind};
@@ -10,15 +12,15 @@ ghost use Rattle.swf_scene.specs.Stack.{round_of};
 ghost use Rattle.swf_scene.specs.TaskRef.{parts_task, work_kind, listed};
 
 use crate::made::Round;
+use crate::shared::SharedDocument;
 use std::alloc::{AllocError, Global};
 use std::marker::Model;
 use swf_document::{
-    Case, Document, ErrorRef, Flow, ForSpec, Kind, ListenSpec, Listing, Named, Task, Tasks,
-    Template, TrySpec,
+    Case, Document, ErrorRef, Flow, ForSpec, ForkSpec, Kind, ListenSpec, Listing, Named, Task,
+    Tasks, Template, TrySpec,
 };
 use swf_expr::Expr;
 use swf_text::Place;
-use swf_validate::Accepted;
 
 /// A task. A copy shares the document. Contracts see it as a `Task` of specs.
 #[derive(Drop)]
@@ -29,7 +31,7 @@ pub struct TaskRef {
 /// Where a task stands.
 #[derive(Drop)]
 pub enum Source {
-    Workflow(Accepted),
+    Workflow(SharedDocument),
     Listed { tasks: Tasks, place: usize },
 }
 
@@ -45,6 +47,7 @@ pub enum Work<'a> {
     Do(&'a Tasks),
     Emit(&'a Template),
     For(&'a ForSpec),
+    Fork(&'a ForkSpec),
     Listen(&'a ListenSpec),
     Raise(&'a ErrorRef),
     Set(&'a Template),
@@ -71,7 +74,7 @@ impl Model for TaskRef {
 
 impl TaskRef {
     /// The workflow of a document.
-    pub fn workflow(document: Accepted) -> TaskRef
+    pub fn workflow(document: SharedDocument) -> TaskRef
         ensures { result ≡ workflow document }
     {
         TaskRef {
@@ -182,6 +185,7 @@ impl TaskRef {
                 Kind::Do(tasks) => Work::Do(tasks),
                 Kind::Emit(template) => Work::Emit(template),
                 Kind::For(spec) => Work::For(spec),
+                Kind::Fork(spec) => Work::Fork(spec),
                 Kind::Listen(spec) => Work::Listen(spec),
                 Kind::Raise(reference) => Work::Raise(reference),
                 Kind::Set(template) => Work::Set(template),
@@ -230,6 +234,33 @@ impl TaskRef {
         let source = Source::Listed {
             tasks: tasks.copy()?,
             place,
+        };
+        Ok(Some(TaskRef { source }))
+    }
+
+    /// Whether it is a `fork` whose branches compete.
+    pub fn competes(&self) -> bool
+        ensures { result ≡ competes self.now }
+    {
+        match self.work() {
+            Work::Fork(spec) => spec.compete,
+            _ => false,
+        }
+    }
+
+    /// The branch of a number, where it is a `fork`.
+    pub fn branch(&self, number: usize) -> Result<Option<TaskRef>, AllocError>
+        ensures { IfOk result (λ o. o ≡ task_at (branches_of self.now) number) }
+    {
+        let Work::Fork(spec) = self.work() else {
+            return Ok(None);
+        };
+        if number >= spec.branches.as_slice().len() {
+            return Ok(None);
+        }
+        let source = Source::Listed {
+            tasks: spec.branches.copy()?,
+            place: number,
         };
         Ok(Some(TaskRef { source }))
     }

@@ -13,5 +13,5 @@ returns-in_ok-vars-in-Written c =
 pub returns-in_ok-vars-in-Named : goal.returns-in_ok-vars-in-Named
 returns-in_ok-vars-in-Named c =
     let s = sight_of c.args.scene.now in
-    let found = c.in-Some.ensures ∙ ap (error_named c.in-Named.name) (c.as_slice-errors.ensures ∙ ap (λ (d : Document). d.errors) c.document.ensures.value) in
-    raising-named s (sight_of c.alone.result) c.args.task.now c.args.raw.now c.args.input.now c.args.reference.now c.in-Named.name _ c.in_ok-vars-in-Named.vars c.raised-in-Named.result c.in-Named.is c.alone.ensures c.in_ok-vars-in-Named.ensures found (c.raised-in-Named.ensures s)
+    let found = c.in-Some.ensures ∙ ap (error_named c.in-Named.name) (c.as_slice-errors.ensures ∙ ap (λ (d : Document). d.errors) c.document.ensures) in
+    raising-named s (sight_of c.in_ok-alone-in-Named.field-0) c.args.task.now c.args.raw.now c.args.input.now c.args.reference.now c.in-Named.name _ c.in_ok-vars-in-Named.vars c.raised-in-Named.result c.in-Named.is c.in_ok-alone-in-Named.ensures c.in_ok-vars-in-Named.ensures found (c.raised-in-Named.ensures s)

@@ -1,0 +1,8 @@
+use Rattle.swf_scene.specs.Stack.{sight_of, round_of}
+use Rattle.swf_rules.proofs.TurnLemmas.{turn-begun}
+use Rattle.swf_rules.proofs.lists.turn_begins.Goals as goal
+
+pub returns : goal.returns
+returns c =
+    turn-begun (sight_of c.args.scene.now) c.args.task.now c.args.raw.now c.args.input.now c.args.value c.in_ok-copy.field-0 (round_of c.args.round) c.in_ok-frame.frame c.in_ok-top.top
+    c.in_ok-frame.ensures c.in_ok-top.ensures c.in_ok-copy.ensures

@@ -1,0 +1,6 @@
+pub mod StrandLemmas
+pub mod TreeLemmas
+pub mod AskLemmas
+pub mod NameLemmas
+pub mod OrderLemmas
+pub mod ForkLemmas

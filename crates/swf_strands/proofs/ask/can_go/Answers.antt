@@ -1,0 +1,26 @@
+use Rattle.std.proofs.Common.{◌∙◌, ap, nat_le}
+use Rattle.swf_meaning.specs.Listen.{is_heard}
+use Rattle.swf_strands.proofs.AskLemmas.{goes-fresh, goes-done, goes-fault, goes-waiting, goes-hearing, goes-forked}
+use Rattle.swf_strands.proofs.StrandLemmas.{length_running}
+use Rattle.swf_strands.proofs.ask.can_go.Goals as goal
+
+pub returns-in-Fresh : goal.returns-in-Fresh
+returns-in-Fresh c = λ fs ns e. goes-fresh c.args.now fs c.args.top.now ns _ _ c.in-Fresh.is
+
+pub returns-in-Done : goal.returns-in-Done
+returns-in-Done c = λ fs ns e. goes-done c.args.now fs c.args.top.now ns _ _ _ c.is_empty.result c.in-Done.is (length_running fs c.args.around.now e) c.is_empty.ensures
+
+pub returns-in-Fault : goal.returns-in-Fault
+returns-in-Fault c = λ fs ns e.
+    goes-fault c.args.now fs c.args.top.now ns _ _ c.is_empty-in-Fault.result c.in-Fault.is (length_running fs c.args.around.now e) c.is_empty-in-Fault.ensures
+
+pub returns-in-Waiting : goal.returns-in-Waiting
+returns-in-Waiting c = λ fs ns e.
+    ap (nat_le c.in-Waiting.until) c.milliseconds.ensures.value ∙ goes-waiting c.args.now fs c.args.top.now ns _ _ _ _ c.in-Waiting.until c.in-Waiting.is
+
+pub returns-in-Hearing : goal.returns-in-Hearing
+returns-in-Hearing c = λ fs ns e.
+    c.is_heard.ensures ∙ ap (is_heard c.in-Hearing.task) c.as_slice.ensures ∙ goes-hearing c.args.now fs c.args.top.now ns c.in-Hearing.task _ _ _ c.in-Hearing.heard c.in-Hearing.is
+
+pub returns-in-Forked : goal.returns-in-Forked
+returns-in-Forked c = λ fs ns e. goes-forked c.args.now fs c.args.top.now ns _ _ _ c.in-Forked.is

@@ -1,0 +1,33 @@
+-- A strand that is put anew, and the branches of a `fork` that begins.
+use Rattle.std.specs.Prelude.{◌≡◌, ℕ, List, [], ◌∷◌, Option, Some, None}
+use Rattle.swf_value.specs.Value.{Value}
+use Rattle.swf_document.specs.Task.{Tasks, no_tasks, named}
+use Rattle.swf_frames.specs.Paths.{edit}
+use Rattle.swf_frames.specs.Tree.{Tree, no_strands}
+use Rattle.swf_meaning.specs.Fork.{branches_of}
+use Rattle.swf_meaning.specs.Node.{Node, no_nodes}
+use Rattle.swf_scene.specs.declared.made.Layer.{Layer}
+use Rattle.swf_scene.specs.declared.made.Layer.TheVariants as layers
+use Rattle.swf_scene.specs.declared.made.Top.{Top}
+use Rattle.swf_scene.specs.declared.made.Top.TheVariants as tops
+use Rattle.swf_strands.specs.Strands.{strand_node}
+
+-- with none below it
+abbrev pub layers_node : List Layer → Node
+layers_node ls = strand_node ls no_nodes
+
+-- one branch for each task, none of which has begun
+abbrev pub fresh_layers : Tasks → Value → List Layer
+fresh_layers no_tasks u = []
+fresh_layers (named k t ts) u = layers.Top (tops.Fresh t u) ∷ fresh_layers ts u
+
+abbrev pub branches_in : Top → Option (List Layer)
+branches_in (tops.Fresh t v) = None
+branches_in (tops.Done w f) = None
+branches_in (tops.Fault p) = None
+branches_in (tops.Waiting t v u n m) = None
+branches_in (tops.Hearing t v u bound hs) = None
+branches_in (tops.Forked t v u) = Some (fresh_layers (branches_of t) u)
+
+abbrev pub IsPutAnew : ℕ → List Layer → Tree Layer → Tree Layer → Type 0
+IsPutAnew n ls old new = new.strands ≡ edit (λ b. record { frames = ls; below = no_strands }) old.strands n

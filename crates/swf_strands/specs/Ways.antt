@@ -1,0 +1,90 @@
+-- The strand that branch numbers lead to in the tree of an instance.
+use Rattle.std.specs.Prelude.{ℕ, zero, suc, List, [], ◌∷◌, Bool, false, not, Option, Some, None, is_some, option_and_then}
+use Rattle.swf_document.specs.Task.{Task}
+use Rattle.swf_meaning.specs.Listen.{is_heard}
+use Rattle.swf_meaning.specs.Node.{Node, Fresh, Live, Done, Fault, Inside, At, Later, Sleep, Hear, Forked, Nodes, no_nodes, branch}
+
+-- what stands on the strand
+abbrev mutual
+  pub at : List ℕ → Node → Option Node
+  at [] n = Some n
+  at (b ∷ bs) (Fresh t v) = None
+  at (b ∷ bs) (Live t v u k) = at_inside b bs k
+  at (b ∷ bs) (Done w f) = None
+  at (b ∷ bs) (Fault p) = None
+
+  pub at_inside : ℕ → List ℕ → Inside → Option Node
+  at_inside b bs (At r i n) = at (b ∷ bs) n
+  at_inside b bs (Later n m) = None
+  at_inside b bs (Sleep m) = None
+  at_inside b bs (Hear bound hs) = None
+  at_inside b bs (Forked ns) = at_among b bs ns
+
+  pub at_among : ℕ → List ℕ → Nodes → Option Node
+  at_among b bs no_nodes = None
+  at_among zero bs (branch n ns) = at bs n
+  at_among (suc b) bs (branch n ns) = at_among b bs ns
+
+abbrev pub has_strand : List ℕ → Node → Bool
+has_strand bs n = is_some (at bs n)
+
+-- another node in its place
+abbrev mutual
+  pub replaced : List ℕ → Node → Node → Node
+  replaced [] m n = m
+  replaced (b ∷ bs) m (Fresh t v) = Fresh t v
+  replaced (b ∷ bs) m (Live t v u k) = Live t v u (replaced_inside b bs m k)
+  replaced (b ∷ bs) m (Done w f) = Done w f
+  replaced (b ∷ bs) m (Fault p) = Fault p
+
+  pub replaced_inside : ℕ → List ℕ → Node → Inside → Inside
+  replaced_inside b bs m (At r i n) = At r i (replaced (b ∷ bs) m n)
+  replaced_inside b bs m (Later n l) = Later n l
+  replaced_inside b bs m (Sleep l) = Sleep l
+  replaced_inside b bs m (Hear bound hs) = Hear bound hs
+  replaced_inside b bs m (Forked ns) = Forked (replaced_among b bs m ns)
+
+  pub replaced_among : ℕ → List ℕ → Node → Nodes → Nodes
+  replaced_among b bs m no_nodes = no_nodes
+  replaced_among zero bs m (branch n ns) = branch (replaced bs m n) ns
+  replaced_among (suc b) bs m (branch n ns) = branch n (replaced_among b bs m ns)
+
+-- the moment that the outermost strand of a node waits for
+abbrev mutual
+  pub own_until : Node → Option ℕ
+  own_until (Fresh t v) = None
+  own_until (Live t v u k) = own_until_inside k
+  own_until (Done w f) = None
+  own_until (Fault p) = None
+
+  pub own_until_inside : Inside → Option ℕ
+  own_until_inside (At r i n) = own_until n
+  own_until_inside (Later n m) = Some m
+  own_until_inside (Sleep m) = Some m
+  own_until_inside (Hear bound hs) = None
+  own_until_inside (Forked ns) = None
+
+-- whether it listens, and has not heard all
+abbrev mutual
+  pub own_listens : Node → Bool
+  own_listens (Fresh t v) = false
+  own_listens (Live t v u k) = own_listens_inside t k
+  own_listens (Done w f) = false
+  own_listens (Fault p) = false
+
+  pub own_listens_inside : Task → Inside → Bool
+  own_listens_inside t (At r i n) = own_listens n
+  own_listens_inside t (Later n m) = false
+  own_listens_inside t (Sleep m) = false
+  own_listens_inside t (Hear bound hs) = not (is_heard t hs)
+  own_listens_inside t (Forked ns) = false
+
+abbrev pub until_at : List ℕ → Node → Option ℕ
+until_at bs n = option_and_then own_until (at bs n)
+
+abbrev pub listens_here : Option Node → Bool
+listens_here None = false
+listens_here (Some n) = own_listens n
+
+abbrev pub listens_at : List ℕ → Node → Bool
+listens_at bs n = listens_here (at bs n)

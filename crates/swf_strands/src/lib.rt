@@ -1,0 +1,14 @@
+//! The strands of an instance, and the way to each.
+#![tactic(auto)]
+
+mod ask;
+mod fork;
+mod names;
+mod order;
+mod stack;
+
+pub use ask::{Question, holds_here, holds_in};
+pub use fork::{branches_of, forked, put_at};
+pub use names::{list_strands, named};
+pub use order::{lead_in, lead_on};
+pub use stack::{Standing, child_of, innermost, layers_of, stack_of, strand_at};

@@ -1,0 +1,88 @@
+// Which strand has the next turn: they take turns in the order of their names.
+ghost use Rattle.std.specs.Prelude.{◌≡◌, ◌++◌, List, ℕ, OnOk, IfOk, Some, true, false};
+ghost use Rattle.swf_frames.specs.Tree.{Branch, find};
+ghost use Rattle.swf_meaning.specs.Local.{is_enabled};
+ghost use Rattle.swf_scene.specs.declared.made.Layer.{Layer as TheLayer};
+ghost use Rattle.swf_strands.specs.Order.{LeadsOn, Leads};
+ghost use Rattle.swf_strands.specs.Strands.{IsHeld, node_of};
+
+use crate::ask::{Question, holds_here, holds_in};
+use crate::stack::child_of;
+use std::alloc::{AllocError, Global};
+use swf_duration::Moment;
+use swf_frames::{Forest, StrandId};
+use swf_scene::Layer;
+
+/// Leads to the first strand, of that one and those below it, that can take a step.
+pub fn lead_in(
+    forest: &Forest<Layer>,
+    strand: StrandId,
+    now: Moment,
+    path: &mut Vec<u16>,
+) -> Result<(), AllocError>
+    requires held { IsHeld forest.now strand }
+    requires enabled { (b : Branch TheLayer) → find forest.now.strands strand ≡ Some b → is_enabled now (node_of b) ≡ true }
+    ensures { OnOk result ((b : Branch TheLayer) → find forest.now.strands strand ≡ Some b → Leads now (node_of b) path.old.items path.new.items) }
+{
+    if holds_here(forest, strand, &Question::CanGo(now)) {
+        return Ok(());
+    }
+    let mut number = 0;
+    while let Some(child) = child_of(forest, strand, number) {
+        if holds_in(forest, child, &Question::CanGo(now)) {
+            path.push(number as u16)?;
+            return lead_in(forest, child, now, path);
+        }
+        number += 1;
+    }
+    unreachable!()
+}
+
+/// Leads to the first strand below that one, behind the one that branch numbers lead to, that can take a step. Answers whether there
+/// is one.
+pub fn lead_on(
+    forest: &Forest<Layer>,
+    strand: StrandId,
+    behind: &[u16],
+    now: Moment,
+    path: &mut Vec<u16>,
+) -> Result<bool, AllocError>
+    requires held { IsHeld forest.now strand }
+    ensures { IfOk result (λ there. (b : Branch TheLayer) → find forest.now.strands strand ≡ Some b → LeadsOn now (node_of b) path.old.items path.new.items there) }
+{
+    let mut number = 0;
+    if let Some((branch, inner)) = behind.split_first() {
+        number = *branch as usize + 1;
+        if let Some(child) = child_of(forest, strand, *branch as usize) {
+            path.push(*branch)?;
+            if lead_on(forest, child, inner, now, path)? {
+                return Ok(true);
+            }
+            path.pop();
+        }
+    }
+    lead_from(forest, strand, number, now, path)
+}
+
+// Leads to the first strand that can take a step in the branches of another from a number on.
+fn lead_from(
+    forest: &Forest<Layer>,
+    strand: StrandId,
+    first: usize,
+    now: Moment,
+    path: &mut Vec<u16>,
+) -> Result<bool, AllocError>
+    requires held { IsHeld forest.now strand }
+    ensures { IfOk result (λ there. (b : Branch TheLayer) → find forest.now.strands strand ≡ Some b → LeadsOn now (node_of b) path.old.items path.new.items there) }
+{
+    let mut number = first;
+    while let Some(child) = child_of(forest, strand, number) {
+        if holds_in(forest, child, &Question::CanGo(now)) {
+            path.push(number as u16)?;
+            lead_in(forest, child, now, path)?;
+            return Ok(true);
+        }
+        number += 1;
+    }
+    Ok(false)
+}
