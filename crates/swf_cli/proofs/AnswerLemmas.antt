@@ -16,9 +16,9 @@ use Rattle.swf_meaning.specs.declared.label.Query.{Query}
 use Rattle.swf_meaning.specs.declared.label.Query.TheVariants.{Status as OfStatus, Pending as OfPending, Outbox as OfOutbox, History as OfHistory}
 use Rattle.swf_meaning.specs.declared.label.Answer.{Answer}
 use Rattle.swf_meaning.specs.Answer.{status}
-use Rattle.swf_meaning.specs.Runs.{run, world_at, is_quiet}
+use Rattle.swf_runs.specs.Runs.{run, world_at, is_quiet}
 use Rattle.swf_meaning.specs.World.{World}
-use Rattle.swf_meaning.proofs.RunLemmas.{world_of_run}
+use Rattle.swf_runs.proofs.RunLemmas.{world_of_run}
 use Rattle.swf_record.specs.Encodes.{Nests}
 use Rattle.swf_world.specs.Answers.{answer, found}
 use Rattle.swf_world.specs.declared.query.QueryFault.{QueryFault}

@@ -7,7 +7,7 @@ use Rattle.swf_store.specs.Said.{and_piece}
 use Rattle.swf_store.specs.Stops.{Leaves}
 use Rattle.swf_store.proofs.Moments.{goes_on}
 use Rattle.swf_meaning.specs.declared.label.Label.{Label}
-use Rattle.swf_meaning.proofs.OnceLemmas.{once_of_legal}
+use Rattle.swf_runs.proofs.OnceLemmas.{once_of_legal}
 use Rattle.swf_host.specs.declared.host.Input.{Input}
 use Rattle.swf_host.specs.declared.host.Input.TheVariants.{Ask as Asks, TooLong as TooLongInput, Closed}
 use Rattle.swf_engine.specs.Core.{Core}

@@ -10,10 +10,10 @@ use Rattle.swf_store.specs.Stops.{Leaves, LeavesOnly}
 use Rattle.swf_store.proofs.Moments.{goes_on, started}
 use Rattle.swf_meaning.specs.declared.label.Label.{Label}
 use Rattle.swf_meaning.specs.declared.label.Query.TheVariants.{Status}
-use Rattle.swf_meaning.specs.Runs.{world_at}
+use Rattle.swf_runs.specs.Runs.{world_at}
 use Rattle.swf_meaning.specs.World.{Instance, World}
-use Rattle.swf_meaning.proofs.OnceLemmas.{once_of_legal}
-use Rattle.swf_meaning.proofs.RunLemmas.{world_of_run}
+use Rattle.swf_runs.proofs.OnceLemmas.{once_of_legal}
+use Rattle.swf_runs.proofs.RunLemmas.{world_of_run}
 use Rattle.swf_host.specs.declared.host.Input.{Input}
 use Rattle.swf_meaning.specs.declared.label.Answer.{Answer}
 use Rattle.swf_world.specs.Answers.{answer}

@@ -8,7 +8,7 @@ use Rattle.swf_store.specs.Stops.{ElapsesSilent, Leaves}
 use Rattle.swf_store.proofs.Moments.{called, goes_on, weaker}
 use Rattle.swf_meaning.specs.declared.label.Label.{Label}
 use Rattle.swf_meaning.specs.declared.label.Outcome.{Outcome}
-use Rattle.swf_meaning.specs.Runs.{world_at}
+use Rattle.swf_runs.specs.Runs.{world_at}
 use Rattle.swf_host.specs.declared.host.Input.{Input}
 use Rattle.swf_host.specs.declared.host.Input.TheVariants.{Ask as Asks, TooLong as TooLongInput, Closed}
 use Rattle.swf_world.specs.Latest.{label_of}

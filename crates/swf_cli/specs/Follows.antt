@@ -1,7 +1,7 @@
 -- What inputs and replies are to a history: turns, of which the last may have begun.
 use Rattle.std.specs.Prelude.{◌≡◌, ◌⊎◌, ℕ, List, [], ◌∷◌, ◌++◌, true, false, Option, Some, None, Result, Ok, unwrap_or, flat_map}
 use Rattle.swf_meaning.specs.declared.label.Label.{Label}
-use Rattle.swf_meaning.specs.Runs.{world_at}
+use Rattle.swf_runs.specs.Runs.{world_at}
 use Rattle.swf_host.specs.declared.host.Input.{Input}
 use Rattle.swf_host.specs.declared.host.Input.TheVariants.{Ask as Asks, TooLong, Closed}
 use Rattle.swf_world.specs.Latest.{label_of}

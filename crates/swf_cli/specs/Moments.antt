@@ -4,7 +4,7 @@ use Rattle.swf_store.specs.declared.image.Image.{Image}
 use Rattle.swf_store.specs.declared.said.Piece.{Piece}
 use Rattle.swf_store.specs.Stops.{Leaves, LeavesOnly}
 use Rattle.swf_meaning.specs.declared.label.Label.{Label}
-use Rattle.swf_meaning.specs.Keys.{Once}
+use Rattle.swf_runs.specs.Keys.{Once}
 use Rattle.swf_host.specs.declared.host.Input.{Input}
 use Rattle.swf_engine.specs.History.{IsHistory}
 use Rattle.swf_protocol.specs.Spoken.{spoken, full_bytes}

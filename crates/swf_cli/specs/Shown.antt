@@ -5,8 +5,8 @@ use Rattle.swf_store.specs.declared.said.Piece.{Piece}
 use Rattle.swf_store.specs.Stops.{Leaves}
 use Rattle.swf_meaning.specs.declared.label.Label.{Label}
 use Rattle.swf_meaning.specs.declared.label.Query.TheVariants.{Status}
-use Rattle.swf_meaning.specs.Keys.{Once}
-use Rattle.swf_meaning.specs.Runs.{world_at}
+use Rattle.swf_runs.specs.Keys.{Once}
+use Rattle.swf_runs.specs.Runs.{world_at}
 use Rattle.swf_meaning.specs.World.{World}
 use Rattle.swf_host.specs.declared.host.Input.{Input}
 use Rattle.swf_world.specs.Answers.{answer}

@@ -3,8 +3,8 @@ use Rattle.std.specs.Prelude.{◌≡◌, ◌⊎◌, ℕ, List, [], ◌∷◌, �
 use Rattle.swf_meaning.specs.declared.label.Label.{Label}
 use Rattle.swf_meaning.specs.declared.label.Outcome.{Outcome}
 use Rattle.swf_meaning.specs.declared.label.Outcome.TheVariants.{Load, Start, Event, Reply as Replies, Moment}
-use Rattle.swf_meaning.specs.After.{taken_by}
-use Rattle.swf_meaning.specs.Runs.{world_at, is_quiet}
+use Rattle.swf_runs.specs.After.{taken_by}
+use Rattle.swf_runs.specs.Runs.{world_at, is_quiet}
 use Rattle.swf_meaning.specs.World.{World}
 use Rattle.swf_host.specs.declared.host.Input.{Input}
 use Rattle.swf_host.specs.declared.host.Input.TheVariants.{Ask as Asks, TooLong as TooLongInput, Closed}

@@ -11,9 +11,9 @@ use Rattle.swf_journal.specs.Appending.{appended, BeforeOrAfter}
 use Rattle.swf_journal.specs.Frames.{header}
 use Rattle.swf_journal.specs.Place.{IsSettled}
 use Rattle.swf_meaning.specs.declared.label.Label.{Label}
-use Rattle.swf_meaning.specs.After.{after}
+use Rattle.swf_runs.specs.After.{after}
 use Rattle.swf_meaning.specs.World.{World}
-use Rattle.swf_meaning.proofs.RunLemmas.{run-snoc, run_one}
+use Rattle.swf_runs.proofs.RunLemmas.{run-snoc, run_one}
 use Rattle.std.proofs.lemmas.Bool.{cases_lt}
 use Rattle.swf_record.specs.Encodes.{Encodes, labels_bytes}
 use Rattle.swf_world.specs.Refusals.{refusal}

@@ -5,9 +5,9 @@ use Rattle.swf_journal.specs.Frames.{header}
 use Rattle.swf_journal.specs.Stands.{IsShutAfter}
 use Rattle.swf_journal.proofs.StandsLemmas.{shut_stands}
 use Rattle.swf_meaning.specs.declared.label.Label.{Label}
-use Rattle.swf_meaning.specs.Runs.{run}
+use Rattle.swf_runs.specs.Runs.{run}
 use Rattle.swf_meaning.specs.World.{World}
-use Rattle.swf_meaning.proofs.RunLemmas.{legal_run}
+use Rattle.swf_runs.proofs.RunLemmas.{legal_run}
 use Rattle.swf_record.specs.Encodes.{Encodes}
 use Rattle.swf_engine.specs.Core.{Core, StandFor}
 use Rattle.swf_engine.specs.History.{HoldLabels, IsHistory, IsGrown}

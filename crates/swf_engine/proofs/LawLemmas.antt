@@ -11,8 +11,8 @@ use Rattle.swf_journal.specs.Stands.{Fits, IsShutAfter}
 use Rattle.swf_journal.proofs.FrameLemmas.{length-header, nested}
 use Rattle.swf_journal.proofs.StandsLemmas.{stands_for_one, first_is, peeled, no_damage, behind_is}
 use Rattle.swf_meaning.specs.declared.label.Label.{Label}
-use Rattle.swf_meaning.specs.After.{after}
-use Rattle.swf_meaning.specs.Runs.{run, run_from}
+use Rattle.swf_runs.specs.After.{after}
+use Rattle.swf_runs.specs.Runs.{run, run_from}
 use Rattle.swf_meaning.specs.World.{World, empty}
 use Rattle.swf_record.specs.Encodes.{Encodes}
 use Rattle.swf_record.proofs.Laws.{encodes_decoded, one_list}

@@ -5,9 +5,9 @@ use Rattle.swf_store.specs.declared.said.Piece.{Piece}
 use Rattle.swf_store.specs.Said.{IsSaid}
 use Rattle.swf_store.proofs.Moments.{goes_on_only, started}
 use Rattle.swf_meaning.specs.declared.label.Label.{Label}
-use Rattle.swf_meaning.specs.Runs.{run_from}
+use Rattle.swf_runs.specs.Runs.{run_from}
 use Rattle.swf_meaning.specs.World.{World}
-use Rattle.swf_meaning.proofs.RunLemmas.{run_from-append}
+use Rattle.swf_runs.proofs.RunLemmas.{run_from-append}
 use Rattle.swf_engine.specs.Core.{Core, StandFor}
 use Rattle.swf_engine.specs.History.{IsGrown}
 use Rattle.swf_engine.specs.Moves.{Passes, Adds, Breaks}

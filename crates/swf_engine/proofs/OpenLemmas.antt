@@ -22,9 +22,9 @@ use Rattle.swf_store.specs.declared.said.Piece.{Piece}
 use Rattle.swf_store.specs.Stops.{LeavesOnly}
 use Rattle.swf_store.proofs.Moments.{goes_on_only, weaker_only}
 use Rattle.swf_meaning.specs.declared.label.Label.{Label}
-use Rattle.swf_meaning.specs.Runs.{run_from}
+use Rattle.swf_runs.specs.Runs.{run_from}
 use Rattle.swf_meaning.specs.World.{World, empty}
-use Rattle.swf_meaning.proofs.RunLemmas.{legal_run}
+use Rattle.swf_runs.proofs.RunLemmas.{legal_run}
 use Rattle.swf_record.specs.Encodes.{Encodes}
 use Rattle.swf_engine.specs.Core.{Core, StandFor}
 use Rattle.swf_engine.specs.Damage.{IsBadBody, IsBadFrame, IsFrameDamage, IsDamaged}

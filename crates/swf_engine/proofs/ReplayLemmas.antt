@@ -2,8 +2,8 @@
 use Rattle.std.proofs.Common.{◌≡◌, ◌∙◌, ap, sym, inr, ◌⊎◌, ⊎_elim, ℕ, zero, suc, ◌+◌, ◌-◌, ◌<◌, ◌≤◌, List, [], ◌∷◌, ◌++◌, length, take, drop, get_or, Some, None, Ok, Err, arith, length-append}
 use Rattle.std.proofs.lemmas.List.{take_more}
 use Rattle.std.proofs.Math.Seq.{split_at}
-use Rattle.swf_meaning.specs.After.{after}
-use Rattle.swf_meaning.proofs.RunLemmas.{run_one}
+use Rattle.swf_runs.specs.After.{after}
+use Rattle.swf_runs.proofs.RunLemmas.{run_one}
 use Rattle.swf_engine.specs.declared.fault.EngineFault.{EngineFault}
 use Rattle.swf_engine.specs.declared.fault.EngineFault.TheVariants.{Damaged, OutOfMemory}
 use Rattle.swf_engine.specs.Damage.{IsBadBody}
@@ -11,7 +11,7 @@ use Rattle.swf_engine.proofs.MoveLemmas.{run_joined}
 use Rattle.std.specs.Prelude.{flat_map}
 use Rattle.std.specs.List.{AllByRecursion}
 use Rattle.swf_meaning.specs.declared.label.Label.{Label}
-use Rattle.swf_meaning.specs.Runs.{run_from}
+use Rattle.swf_runs.specs.Runs.{run_from}
 use Rattle.swf_meaning.specs.World.{World}
 use Rattle.swf_record.specs.Decodes.{Reading, placed, record_in, decoded}
 use Rattle.swf_record.specs.Encodes.{Fits, Nests, Encodes, label_bytes, label_place}

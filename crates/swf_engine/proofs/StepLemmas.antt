@@ -8,7 +8,7 @@ use Rattle.swf_store.specs.Said.{IsSaid}
 use Rattle.swf_store.specs.Files.{bytes_of}
 use Rattle.swf_journal.specs.Place.{Gate, IsJournalOf}
 use Rattle.swf_meaning.specs.declared.label.Label.{Label}
-use Rattle.swf_meaning.specs.Runs.{is_quiet}
+use Rattle.swf_runs.specs.Runs.{is_quiet}
 use Rattle.swf_meaning.specs.World.{World}
 use Rattle.swf_world.specs.Early.{IsEarlyRefusal}
 use Rattle.swf_world.specs.Enabled.{CanGo}

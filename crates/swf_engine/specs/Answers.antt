@@ -3,8 +3,8 @@ use Rattle.std.specs.Prelude.{◌≡◌, ℕ, ◌+◌, ◌≤◌, Bool, true, fa
 use Rattle.swf_store.specs.declared.image.Image.{Image}
 use Rattle.swf_store.specs.declared.said.Piece.{Piece}
 use Rattle.swf_meaning.specs.declared.label.Label.{Label}
-use Rattle.swf_meaning.specs.After.{after, taken_by}
-use Rattle.swf_meaning.specs.Runs.{is_quiet}
+use Rattle.swf_runs.specs.After.{after, taken_by}
+use Rattle.swf_runs.specs.Runs.{is_quiet}
 use Rattle.swf_record.specs.Encodes.{labels_bytes}
 use Rattle.swf_world.specs.Refusals.{refusal}
 use Rattle.swf_world.specs.declared.refusal.PrepareFault.{PrepareFault}

@@ -7,7 +7,7 @@ use Rattle.swf_store.specs.declared.image.Image.{Image}
 use Rattle.swf_journal.specs.Frames.{header}
 use Rattle.swf_journal.specs.Place.{IsSettled}
 use Rattle.swf_meaning.specs.declared.label.Label.{Label}
-use Rattle.swf_meaning.specs.Runs.{run}
+use Rattle.swf_runs.specs.Runs.{run}
 use Rattle.swf_meaning.specs.Codes.{world_code}
 use Rattle.swf_meaning.specs.World.{World}
 use Rattle.swf_engine.specs.History.{HoldLabels}

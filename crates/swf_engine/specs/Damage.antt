@@ -6,8 +6,8 @@ use Rattle.swf_journal.specs.Frames.{header, frames_bytes, next_gate}
 use Rattle.swf_journal.specs.Opening.{IsFrame, IsDamage}
 use Rattle.swf_journal.specs.Stands.{Fits}
 use Rattle.swf_meaning.specs.declared.label.Label.{Label}
-use Rattle.swf_meaning.specs.After.{after}
-use Rattle.swf_meaning.specs.Runs.{run, run_from}
+use Rattle.swf_runs.specs.After.{after}
+use Rattle.swf_runs.specs.Runs.{run, run_from}
 use Rattle.swf_meaning.specs.World.{World}
 use Rattle.swf_record.specs.Decodes.{decoded}
 use Rattle.swf_record.specs.Encodes.{label_place}

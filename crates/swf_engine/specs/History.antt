@@ -3,7 +3,7 @@ use Rattle.std.specs.Prelude.{◌≡◌, ◌⊎◌, ℕ, List, [], ◌∷◌, �
 use Rattle.swf_store.specs.declared.image.Image.{Image}
 use Rattle.swf_journal.specs.Stands.{Stands}
 use Rattle.swf_meaning.specs.declared.label.Label.{Label}
-use Rattle.swf_meaning.specs.Runs.{Legal}
+use Rattle.swf_runs.specs.Runs.{Legal}
 use Rattle.swf_record.specs.Encodes.{Encodes}
 
 -- each body holds some labels, and joined in order they are these

@@ -7,7 +7,7 @@ use Rattle.swf_store.specs.declared.said.Piece.{Piece}
 use Rattle.swf_store.specs.Stops.{LeavesOnly}
 use Rattle.swf_meaning.specs.declared.label.Label.{Label}
 use Rattle.swf_meaning.specs.declared.label.Label.TheVariants.{Load, Start, Event, Reply, Moment, Step}
-use Rattle.swf_meaning.specs.Runs.{run_from, is_quiet}
+use Rattle.swf_runs.specs.Runs.{run_from, is_quiet}
 use Rattle.swf_meaning.specs.World.{World}
 use Rattle.swf_record.specs.Encodes.{labels_bytes}
 use Rattle.swf_engine.specs.History.{IsGrown}

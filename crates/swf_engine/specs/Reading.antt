@@ -8,8 +8,8 @@ use Rattle.swf_engine.specs.declared.fault.EngineFault.TheVariants.{Store, Damag
 use Rattle.swf_engine.specs.Core.{Core}
 use Rattle.swf_engine.specs.Damage.{IsFrameDamage}
 use Rattle.swf_meaning.specs.declared.label.Label.{Label}
-use Rattle.swf_meaning.specs.After.{after}
-use Rattle.swf_meaning.specs.Runs.{run}
+use Rattle.swf_runs.specs.After.{after}
+use Rattle.swf_runs.specs.Runs.{run}
 use Rattle.swf_meaning.specs.World.{World}
 use Rattle.swf_engine.specs.History.{HoldLabels}
 

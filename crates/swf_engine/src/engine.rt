@@ -181,7 +181,7 @@ impl Engine {
         self.world.now()
     }
 
-    /// Whether some instance that waits now waits no more at that moment, in milliseconds. It takes no memory.
+    /// Whether a moment, in milliseconds, is above now, and some strand waits until it, or until one before it. It takes no memory.
     pub fn due(&self, moment: u64) -> bool
         ensures { result ≡ is_due self.now.world moment }
     {

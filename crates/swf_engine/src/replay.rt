@@ -2,8 +2,8 @@
 ghost use Rattle.std.specs.Prelude.{◌≡◌, ◌+◌, ◌<◌, ◌≤◌, ◌⊎◌, ◌∷◌, ◌++◌, [], ◌^◌, ℕ, List, Some, None, Ok, OnOk, Err, IfOk, IsErrOf, length, drop, take};
 ghost use Rattle.std.specs.List.{AllByRecursion};
 ghost use Rattle.swf_meaning.specs.declared.label.Label.{Label as OneLabel};
-ghost use Rattle.swf_meaning.specs.After.{after};
-ghost use Rattle.swf_meaning.specs.Runs.{run_from};
+ghost use Rattle.swf_runs.specs.After.{after};
+ghost use Rattle.swf_runs.specs.Runs.{run_from};
 ghost use Rattle.swf_record.specs.Decodes.{decoded};
 ghost use Rattle.swf_record.specs.Encodes.{Encodes, Nests, label_place};
 ghost use Rattle.swf_engine.specs.Damage.{IsBadBody};

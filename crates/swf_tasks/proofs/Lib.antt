@@ -1,5 +1,8 @@
-pub mod StackLemmas
-pub mod StrandLemmas
-pub mod PutLemmas
-pub mod AdvanceLemmas
+pub mod WayLemmas
 pub mod HearLemmas
+pub mod OfferLemmas
+pub mod StepLemmas
+pub mod ChangeLemmas
+pub mod OutputLemmas
+pub mod PrepareLemmas
+pub mod AdvanceLemmas

@@ -16,6 +16,7 @@ abbrev pub AreAround : List Frame → Top → List Frame → Type 0
 AreAround fs (tops.Fresh t v) os = fs ≡ os
 AreAround fs (tops.Waiting t v u n m) os = fs ≡ os
 AreAround fs (tops.Hearing t v u bound hs) os = fs ≡ os
+AreAround fs (tops.Forked t v u) os = fs ≡ os
 AreAround fs (tops.Done w g) os = (f : Frame) × (fs ≡ os ++ f ∷ [])
 AreAround fs (tops.Fault p) os = (f : Frame) × (fs ≡ os ++ f ∷ [])
 
@@ -24,7 +25,7 @@ abbrev pub put_in : List Frame → Stepped → Stepped
 put_in os m = record m { node = plug os m.node }
 
 abbrev pub IsStep : Sight → List Frame → Top → Stepped → Type 0
-IsStep s fs t m = (os : List Frame) → AreAround fs t os → local s (plug fs (top_node t)) ≡ Some (put_in os m)
+IsStep s fs t m = (os : List Frame) → AreAround fs t os → local s [] (plug fs (top_node t)) ≡ Some (put_in os m)
 
 -- the output of an instance that is done
 abbrev pub output_in : Node → Option Value

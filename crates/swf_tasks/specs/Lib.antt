@@ -1,4 +1,6 @@
 pub mod Installed
-pub mod Strands
+pub mod Stepped
+pub mod Offers
 pub mod Views
 pub mod Taken
+pub mod Prepares

@@ -12,7 +12,7 @@ use std::alloc::Global;
 use swf_document::{Flow, Template};
 use swf_jq_builtins::is_true;
 use swf_rules::{
-    comes_to, complete, emitting, input_of, listening, looping, raising, switched, waiting,
+    comes_to, complete, emitting, forking, input_of, listening, looping, raising, switched, waiting,
 };
 use swf_scene::{Halt, Made, Round, Scene, TaskRef, Top, Work, value_of, within};
 use swf_transform::{fill, first};
@@ -48,6 +48,7 @@ fn begun(
         Work::Do(_) => comes_to(alloc, scene, task, raw, input, Round::Seq, 0, input.copy()?),
         Work::Emit(template) => emitting(alloc, scene, task, raw, input, template),
         Work::For(spec) => looping(alloc, scene, task, raw, input, spec),
+        Work::Fork(spec) => forking(alloc, scene, task, raw, input, spec),
         Work::Listen(spec) => listening(alloc, scene, task, raw, input, spec),
         Work::Raise(reference) => raising(alloc, scene, task, raw, input, reference),
         Work::Set(template) => set_value(alloc, scene, task, raw, input, template),
@@ -71,7 +72,7 @@ fn skipped(scene: &Scene, raw: &Json) -> Result<Made, Halt>
             output: raw.copy()?,
             flow: Flow::Continue,
         },
-        context: scene.setting.context.copy()?,
+        context: scene.context.copy()?,
         emitted: None,
     })
 }

@@ -12,19 +12,9 @@ use std::alloc::{AllocError, Global};
 use swf_cloudevents::{Event, NamedValues};
 use swf_document::Listing;
 use swf_meaning::Heard;
-use swf_rules::{heard, is_satisfied, takes};
+use swf_rules::{heard, takes};
 use swf_scene::{Halt, Made, Scene, TaskRef, Top, Work};
 use swf_value::Json;
-
-/// Whether a task has heard all that it listens for.
-pub fn is_heard(task: &TaskRef, heard: &[Heard]) -> bool
-    ensures { result ≡ is_heard task.now heard.now }
-{
-    match task.work() {
-        Work::Listen(spec) => is_satisfied(spec, heard),
-        _ => false,
-    }
-}
 
 // What a task has bound after an event that it takes, and the event with the place of its filter.
 fn taken(

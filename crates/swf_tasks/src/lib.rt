@@ -1,12 +1,13 @@
-//! One instance at work: a stack of tasks that takes one step after another.
+//! One instance at work: its strands, which take one step after another.
 #![tactic(auto)]
 
 mod enter;
 mod hear;
 mod machine;
-mod stack;
+mod offer;
+mod step;
 mod view;
 
-pub use machine::{Machine, StepFault, StepResult};
+pub use machine::{Machine, Part, Prepared, Step, StepFault, StepResult};
 pub use swf_scene::{Site, Words};
 pub use view::{InstanceView, Node};

@@ -1,35 +1,42 @@
-// One instance: its setting, and a stack of the tasks that run inside each other.
-ghost use Rattle.std.specs.Prelude.{ℕ, if◌then◌else◌, nat_lt, ◌≡◌, ◌↔◌, ◌&&◌, ◌∷◌, [], List, Err, IfOk, OnOk, OnErr, Some, true, false, option_map};
-ghost use Rattle.swf_meaning.specs.Local.{local, is_enabled};
-ghost use Rattle.swf_meaning.specs.Shared.{advanced, is_shared, is_shared_error};
-ghost use Rattle.swf_meaning.specs.Parts.{kind_of};
-ghost use Rattle.swf_meaning.specs.Offer.{offered_one, takers_in};
-ghost use Rattle.swf_meaning.specs.World.{is_root, new_instance, number_after, sight};
-ghost use Rattle.swf_tasks.specs.Taken.{taken, emitted_of};
-ghost use Rattle.swf_meaning.specs.Wake.{until, is_due};
-ghost use Rattle.swf_scene.specs.Stack.{plug, top_node, round_of, setting_sight, stepped_of};
+// One instance: its setting, and the stacks of its strands.
+ghost use Rattle.std.specs.Prelude.{◌≡◌, ◌↔◌, ◌<◌, ℕ, [], List, Err, IfOk, OnOk, OnErr, Some, None, true, false, nat_lt, option_map};
 ghost use Rattle.swf_document.specs.declared.error.Problem.{Problem};
-ghost use Rattle.swf_meaning.specs.Complete.{Stepped};
+ghost use Rattle.swf_meaning.specs.Local.{local, is_enabled};
 ghost use Rattle.swf_meaning.specs.Node.{Fault};
-ghost use Rattle.swf_meaning.specs.Sight.{Sight};
-ghost use Rattle.swf_scene.specs.declared.made.Frame.{Frame as TheFrame};
+ghost use Rattle.swf_meaning.specs.Offer.{offered_one, takers_in};
+ghost use Rattle.swf_meaning.specs.Parts.{kind_of};
+ghost use Rattle.swf_meaning.specs.Shared.{advanced, is_shared, is_shared_error};
+ghost use Rattle.swf_meaning.specs.Strands.{can_go, strands};
+ghost use Rattle.swf_meaning.specs.Wake.{is_due};
+ghost use Rattle.swf_meaning.specs.World.{new_instance, number_after, sight};
 ghost use Rattle.swf_scene.specs.Layers.{running};
-ghost use Rattle.swf_scene.specs.Halts.{Gives};
-ghost use Rattle.swf_tasks.specs.Installed.{IsStep, output_in, problem_in};
+ghost use Rattle.swf_scene.specs.Stack.{plug, round_of};
+ghost use Rattle.swf_scene.specs.declared.made.Frame.{Frame as TheFrame};
+ghost use Rattle.swf_tasks.specs.Installed.{output_in, problem_in};
+ghost use Rattle.swf_strands.specs.Order.{IsNext};
+ghost use Rattle.swf_tasks.specs.Prepares.{applied, Fits, IsPrepared, Puts, until_in};
+ghost use Rattle.swf_strands.specs.Strands.{IsGrown, IsStack, root_node};
+ghost use Rattle.swf_tasks.specs.declared.machine.Step.TheVariants as Step;
+ghost use Rattle.swf_tasks.specs.Taken.{taken, emitted_of};
 ghost use Rattle.swf_tasks.specs.Views.{IsViewOf};
+ghost use Rattle.swf_strands.specs.Ways.{until_at, listens_at};
 
-use crate::enter::enter;
-use crate::hear::{hears, is_heard, listened, offered};
-use crate::stack::{Standing, innermost, install, stack_of};
-use crate::view::{InstanceView, Node, copy_running};
+use crate::offer::{hears_in, offer_in};
+use crate::step::{Change, step_of};
+use crate::view::{InstanceView, Node};
 use std::alloc::{AllocError, Global};
 use std::marker::Model;
 use swf_cloudevents::Event;
 use swf_document::Problem;
 use swf_duration::Moment;
 use swf_frames::Forest;
-use swf_rules::{failed, moved_on, woken};
-use swf_scene::{Frame, Halt, Layer, Made, Round, Scene, Setting, Site, TaskRef, Top, Work};
+use swf_scene::{
+    Frame, Layer, Round, Scene, Setting, SharedDocument, Site, TaskRef, Top, Work, is_heard,
+};
+use swf_strands::{
+    Question, Standing, branches_of, forked, holds_here, holds_in, lead_in, lead_on, list_strands,
+    named, put_at, stack_of, strand_at,
+};
 use swf_text::{Strand, Text};
 use swf_validate::Accepted;
 use swf_value::Json;
@@ -39,8 +46,42 @@ use thiserror::Error;
 #[derive(Drop)]
 pub struct Machine {
     setting: Setting,
-    /// Of one strand: the tasks that run, of which the first is the workflow, and at the top what stands innermost.
+    /// On each strand the tasks that run, and at the top what stands innermost. The branches of a `fork` are the strands below its
+    /// own.
     forest: Forest<Layer>,
+    /// The strand that took the last step.
+    turn: Strand,
+}
+
+/// What a step makes of an instance.
+#[derive(Drop)]
+pub enum Step {
+    /// It is this one.
+    Whole(Machine),
+    /// This part of it is put anew.
+    Part(Part),
+}
+
+/// A strand that is put anew, with none below it.
+#[derive(Drop)]
+pub struct Part {
+    /// The strand that takes the step. The first of its branch numbers, so many, lead to the one that is put anew.
+    pub strand: Strand,
+    pub depth: usize,
+    pub layers: Vec<Layer>,
+    pub context: Json,
+    /// The number of its next event.
+    pub number: u64,
+}
+
+/// A step that was prepared.
+#[derive(Drop)]
+pub struct Prepared {
+    pub step: Step,
+    /// The event that goes out, where one does.
+    pub emitted: Option<Event>,
+    /// The moment, in milliseconds, that it begins to wait for, where it does.
+    pub until: Option<u64>,
 }
 
 /// What a step leads to besides the change of the instance.
@@ -68,13 +109,12 @@ impl Model for Machine {
 
     ghost coded = { instance_code };
 
-    ghost use Rattle.swf_scene.specs.Layers.{frames_of, top_of};
     ghost use Rattle.swf_scene.specs.Stack.{instance_of};
-    ghost use Rattle.swf_tasks.specs.Strands.{layers_in, IsAlone};
+    ghost use Rattle.swf_strands.specs.Strands.{root_node, IsGrown};
 
-    ghost view = { λ m. instance_of m.setting (frames_of (layers_in m.forest)) (top_of (layers_in m.forest)) };
+    ghost view = { λ m. instance_of m.setting (root_node m.forest.strands) };
 
-    ghost invariant = { λ m. IsAlone m.forest };
+    ghost invariant = { λ m. IsGrown m.forest.strands };
 }
 
 impl Machine {
@@ -88,6 +128,7 @@ impl Machine {
     ) -> Result<Machine, AllocError>
         ensures { IfOk result (λ m. m ≡ new_instance id input started document) }
     {
+        let document = SharedDocument::new(document.shared()?);
         let task = TaskRef::workflow(document.copy()?);
         let raw = input.copy()?;
         Ok(Machine {
@@ -100,6 +141,7 @@ impl Machine {
                 number: 0,
             },
             forest: Forest::new(alloc, Layer::Top(Top::Fresh { task, raw }))?,
+            turn: Strand::root(alloc),
         })
     }
 
@@ -110,48 +152,72 @@ impl Machine {
         Ok(Machine {
             setting: self.setting.copy()?,
             forest: self.forest.copy(alloc)?,
+            turn: named(alloc, self.turn.as_slice())?,
         })
     }
 
-    /// Whether it can take a step at a moment.
+    /// Whether it can take a step at a moment. It takes no memory.
     pub fn is_enabled(&self, now: Moment) -> bool
         ensures { result ≡ is_enabled now self.now.node }
     {
-        let Standing { around, top } = stack_of(&self.forest);
-        match top {
-            Top::Fresh { .. } => true,
-            Top::Done { .. } => !around.is_empty(),
-            Top::Fault(_) => !around.is_empty(),
-            Top::Waiting { until, .. } => *until <= now.milliseconds(),
-            Top::Hearing { task, heard, .. } => is_heard(task, heard.as_slice()),
+        holds_in(&self.forest, self.forest.root(), &Question::CanGo(now))
+    }
+
+    /// Whether a strand can take a step at a moment. It takes no memory.
+    pub fn enabled(&self, strand: &Strand, now: Moment) -> bool
+        ensures { result ≡ can_go now strand.now self.now.node }
+    {
+        match strand_at(&self.forest, self.forest.root(), strand.as_slice()) {
+            Some(strand) => holds_here(&self.forest, strand, &Question::CanGo(now)),
+            None => false,
         }
     }
 
-    /// Whether a strand can take a step at a moment.
-    pub fn enabled(&self, strand: &Strand, now: Moment) -> bool
-        ensures { result ≡ (is_root strand.now && is_enabled now self.now.node) }
+    /// The strand whose turn it is at a moment: the first behind the one that took the last step that can take a step, and else the
+    /// first of all.
+    pub fn next_strand(&self, alloc: Global, now: Moment) -> Result<Option<Strand>, AllocError>
+        ensures { IfOk result (IsNext now self.now.node) }
     {
-        strand.as_slice().is_empty() && self.is_enabled(now)
+        if !self.is_enabled(now) {
+            return Ok(None);
+        }
+        let root = self.forest.root();
+        let mut path = Vec::new(alloc);
+        if !lead_on(&self.forest, root, self.turn.as_slice(), now, &mut path)? {
+            lead_in(&self.forest, root, now, &mut path)?;
+        }
+        Ok(Some(Strand::of(path)))
     }
 
-    /// The moment that it waits for, in milliseconds, where it waits for one.
-    pub fn until(&self) -> Option<u64>
-        ensures { result ≡ until self.now.node }
+    /// The moment that a strand waits for, in milliseconds, where it waits for one.
+    pub fn until(&self, strand: &Strand) -> Option<u64>
+        ensures { result ≡ until_at strand.now self.now.node }
     {
-        match stack_of(&self.forest).top {
+        let strand = strand_at(&self.forest, self.forest.root(), strand.as_slice())?;
+        match stack_of(&self.forest, strand).top {
             Top::Waiting { until, .. } => Some(*until),
             _ => None,
         }
     }
 
-    /// Whether it waits until a moment, in milliseconds, or one before it.
+    /// Whether a strand listens, and has not heard all.
+    pub fn listens(&self, strand: &Strand) -> bool
+        ensures { result ≡ listens_at strand.now self.now.node }
+    {
+        let Some(strand) = strand_at(&self.forest, self.forest.root(), strand.as_slice()) else {
+            return false;
+        };
+        match stack_of(&self.forest, strand).top {
+            Top::Hearing { task, heard, .. } => !is_heard(task, heard.as_slice()),
+            _ => false,
+        }
+    }
+
+    /// Whether some strand waits until a moment, in milliseconds, or one before it. It takes no memory.
     pub fn due(&self, moment: u64) -> bool
         ensures { result ≡ is_due moment self.now.node }
     {
-        match self.until() {
-            Some(until) => until <= moment,
-            None => false,
-        }
+        holds_in(&self.forest, self.forest.root(), &Question::IsDue(moment))
     }
 
     /// What it is, as plain values. It copies no values.
@@ -166,11 +232,7 @@ impl Machine {
             context,
             number,
         } = &self.setting;
-        let Standing { around, top } = stack_of(&self.forest);
-        let node = Node {
-            running: copy_running(alloc, around)?,
-            top: top.copy()?,
-        };
+        let node = Node::of(self.forest.copy(alloc)?);
         Ok(InstanceView {
             id: id.copy()?,
             key: document.document().key.copy()?,
@@ -182,6 +244,125 @@ impl Machine {
         })
     }
 
+    /// What a strand's step at a moment makes of the instance, which stays as it is.
+    pub fn prepare(
+        &self,
+        alloc: Global,
+        strand: &Strand,
+        site: &Site,
+    ) -> Result<Prepared, StepFault>
+        ensures ok { IfOk result (λ p. IsPrepared site.entry.now.now strand.now self.now p) }
+        ensures not_enabled { (result ≡ Err StepFault.NotEnabled) ↔ (can_go site.entry.now.now strand.now self.now.node ≡ false) }
+    {
+        if !self.enabled(strand, site.now) {
+            return Err(StepFault::NotEnabled);
+        }
+        match self.prepared(alloc, strand, site) {
+            Ok(prepared) => Ok(prepared),
+            Err(_) => Err(StepFault::OutOfMemory),
+        }
+    }
+
+    /// Takes a step that was prepared. It takes no memory.
+    pub fn take(&mut self, step: Step)
+        requires { Fits step self.old }
+        ensures { self.new ≡ applied step self.old }
+    {
+        match step {
+            Step::Whole(machine) => *self = machine,
+            Step::Part(part) => self.take_part(part),
+        }
+    }
+
+    // A strand is put anew.
+    fn take_part(&mut self, part: Part)
+        requires { Fits (Step.Part part) self.old }
+        ensures { self.new ≡ applied (Step.Part part) self.old }
+    {
+        let Part {
+            strand,
+            depth,
+            layers,
+            context,
+            number,
+        } = part;
+        put_at(&mut self.forest, &strand.as_slice()[..depth], layers);
+        self.setting.context = context;
+        self.setting.number = number;
+        self.turn = strand;
+    }
+
+    // What the step of a strand makes of the instance.
+    fn prepared(&self, alloc: Global, strand: &Strand, site: &Site) -> Result<Prepared, AllocError>
+        requires { can_go site.now.now strand.now self.now.node ≡ true }
+        ensures { IfOk result (λ p. IsPrepared site.entry.now.now strand.now self.now p) }
+    {
+        let root = self.forest.root();
+        let scene = Scene::of(alloc, &self.setting, self.forest.count() - 1, site)?;
+        let change = step_of(alloc, &self.forest, root, strand.as_slice(), scene)?;
+        let number = number_after(self.setting.number, &change.emitted)?;
+        let until = until_of(&change.layers);
+        let Change {
+            depth,
+            layers,
+            context,
+            emitted,
+        } = change;
+        let part = Part {
+            strand: named(alloc, strand.as_slice())?,
+            depth,
+            layers,
+            context,
+            number,
+        };
+        Ok(Prepared {
+            step: self.step_with(alloc, part)?,
+            emitted,
+            until,
+        })
+    }
+
+    // The step that puts a strand anew, with the branches of a `fork` that begins on it.
+    fn step_with(&self, alloc: Global, part: Part) -> Result<Step, AllocError>
+        requires { Fits (Step.Part part) self.now }
+        ensures { IfOk result (λ s. Puts s part self.now) }
+    {
+        let Some(branches) = branches_of(alloc, &part.layers)? else {
+            return Ok(Step::Part(part));
+        };
+        let Part {
+            strand,
+            depth,
+            layers,
+            context,
+            number,
+        } = part;
+        let changed = &strand.as_slice()[..depth];
+        let forest = forked(alloc, &self.forest, changed, layers, branches)?;
+        Ok(Step::Whole(self.with(forest, strand, context, number)?))
+    }
+
+    // The instance with other strands, after that one took a step.
+    fn with(
+        &self,
+        forest: Forest<Layer>,
+        strand: Strand,
+        context: Json,
+        number: u64,
+    ) -> Result<Machine, AllocError>
+        requires { IsGrown forest.strands }
+        ensures { IfOk result (λ m. m ≡ record self.now { node = root_node forest.strands; context = context; number = number }) }
+    {
+        let mut setting = self.setting.copy()?;
+        setting.context = context;
+        setting.number = number;
+        Ok(Machine {
+            setting,
+            forest,
+            turn: strand,
+        })
+    }
+
     /// A strand takes its step at a moment.
     pub fn step(
         &mut self,
@@ -189,17 +370,15 @@ impl Machine {
         strand: &Strand,
         site: &Site,
     ) -> Result<StepResult, StepFault>
-        ensures ok { IfOk result (λ r. option_map (taken self.old) (local (sight site.entry.now.now self.old) self.old.node) ≡ Some (self.new, emitted_of r)) }
+        ensures ok { IfOk result (λ r. option_map (taken self.old) (local (sight site.entry.now.now self.old) strand.now self.old.node) ≡ Some (self.new, emitted_of r)) }
         ensures err { OnErr result (self.new ≡ self.old) }
-        ensures not_enabled { (result ≡ Err StepFault.NotEnabled) ↔ ((is_root strand.now && is_enabled site.entry.now.now self.old.node) ≡ false) }
+        ensures not_enabled { (result ≡ Err StepFault.NotEnabled) ↔ (can_go site.entry.now.now strand.now self.old.node ≡ false) }
     {
-        if !self.enabled(strand, site.now) {
-            return Err(StepFault::NotEnabled);
-        }
-        match self.take_step(alloc, site) {
-            Ok(None) => Ok(StepResult::Quiet),
-            Ok(Some(event)) => Ok(StepResult::Emitted(event)),
-            Err(_) => Err(StepFault::OutOfMemory),
+        let Prepared { step, emitted, .. } = self.prepare(alloc, strand, site)?;
+        self.take(step);
+        match emitted {
+            None => Ok(StepResult::Quiet),
+            Some(event) => Ok(StepResult::Emitted(event)),
         }
     }
 
@@ -212,64 +391,57 @@ impl Machine {
         fuel: u32,
         site: &Site,
     ) -> Result<u32, AllocError>
-        ensures ok { IfOk result (λ steps. (self.new, steps) ≡ advanced site.entry.now.now (if is_root strand.now then fuel else 0) self.old) }
-        ensures err { OnErr result ((steps : ℕ) × (advanced site.entry.now.now steps self.old ≡ (self.new, steps))) }
+        ensures ok { IfOk result (λ steps. (self.new, steps) ≡ advanced site.entry.now.now strand.now fuel self.old) }
+        ensures err { OnErr result ((steps : ℕ) × (advanced site.entry.now.now strand.now steps self.old ≡ (self.new, steps))) }
     {
-        if !strand.as_slice().is_empty() {
-            return Ok(0);
-        }
         let mut steps = 0;
-        while steps < fuel && !self.is_shared() && self.is_enabled(site.now) {
-            self.take_step(alloc, site)?;
+        while steps < fuel && !self.is_shared(strand) && self.enabled(strand, site.now) {
+            let Prepared { step, .. } = self.prepared(alloc, strand, site)?;
+            self.take(step);
             steps += 1;
         }
         Ok(steps)
     }
 
-    /// All its strands, ascending.
+    /// All its strands, ascending: one before those of its branches.
     pub fn strands(&self, alloc: Global) -> Result<Vec<Strand>, AllocError>
-        ensures { IfOk result (λ v. v.items ≡ [] ∷ []) }
+        ensures { IfOk result (λ v. v.items ≡ strands self.now.node) }
     {
         let mut strands = Vec::new(alloc);
-        strands.push(Strand::root(alloc))?;
+        let mut path = Vec::new(alloc);
+        list_strands(
+            alloc,
+            &self.forest,
+            self.forest.root(),
+            &mut path,
+            &mut strands,
+        )?;
         Ok(strands)
     }
 
-    // Whether the next step needs more of the world than the instance itself.
-    fn is_shared(&self) -> bool
-        ensures { result ≡ is_shared self.now.node }
+    // Whether the next step of a strand needs more of the world than the instance itself.
+    fn is_shared(&self, strand: &Strand) -> bool
+        ensures { result ≡ is_shared strand.now self.now.node }
     {
-        let Standing { around, top } = stack_of(&self.forest);
+        let Some(strand) = strand_at(&self.forest, self.forest.root(), strand.as_slice()) else {
+            return false;
+        };
+        let Standing { around, top } = stack_of(&self.forest, strand);
         match top {
             Top::Fresh { task, .. } => task.is_shared(),
             Top::Done { .. } => false,
             Top::Fault(_) => is_error_shared(around),
             Top::Waiting { .. } => false,
             Top::Hearing { .. } => false,
+            Top::Forked { .. } => false,
         }
-    }
-
-    // The part that stands innermost takes its step, and answers the event that goes out.
-    fn take_step(&mut self, alloc: Global, site: &Site) -> Result<Option<Event>, AllocError>
-        requires { is_enabled site.now.now self.old.node ≡ true }
-        ensures ok { IfOk result (λ e. option_map (taken self.old) (local (sight site.entry.now.now self.old) self.old.node) ≡ Some (self.new, e)) }
-        ensures err { OnErr result (self.new ≡ self.old) }
-    {
-        let Standing { around, top } = stack_of(&self.forest);
-        let made = next_of(alloc, &self.setting, site, around, top)?;
-        let number = number_after(self.setting.number, &made.emitted)?;
-        install(alloc, &mut self.forest, made.frame, made.top)?;
-        self.setting.context = made.context;
-        self.setting.number = number;
-        Ok(made.emitted)
     }
 
     /// Whether a task of it takes an event.
     pub fn hears(&self, alloc: Global, event: &Event) -> Result<bool, AllocError>
         ensures { IfOk result (λ b. b ≡ nat_lt 0 (takers_in event.now self.now)) }
     {
-        let Standing { top, .. } = stack_of(&self.forest);
-        hears(alloc, top, event)
+        hears_in(alloc, &self.forest, self.forest.root(), event)
     }
 
     /// Offers it an event. Answers how many of its tasks took it.
@@ -277,12 +449,11 @@ impl Machine {
         ensures ok { IfOk result (λ n. (n ≡ takers_in event.now self.old) × (self.new ≡ offered_one event.now self.old)) }
         ensures err { OnErr result (self.new ≡ self.old) }
     {
-        let Standing { top, .. } = stack_of(&self.forest);
-        let Some(top) = offered(alloc, top, event)? else {
-            return Ok(0);
-        };
-        install(alloc, &mut self.forest, None, top)?;
-        Ok(1)
+        let mut forest = self.forest.copy(alloc)?;
+        let root = forest.root();
+        let taken = offer_in(alloc, &mut forest, root, event)?;
+        self.forest = forest;
+        Ok(taken)
     }
 
     /// How it is known.
@@ -290,12 +461,6 @@ impl Machine {
         ensures { result.now ≡ self.now.id }
     {
         &self.setting.id
-    }
-
-    pub fn document(&self) -> &Accepted
-        ensures { result.now ≡ self.now.document }
-    {
-        &self.setting.document
     }
 
     pub fn context(&self) -> &Json
@@ -308,7 +473,7 @@ impl Machine {
     pub fn output(&self) -> Option<&Json>
         ensures { option_map (λ v. v.now) result ≡ output_in self.now.node }
     {
-        let Standing { around, top } = stack_of(&self.forest);
+        let Standing { around, top } = stack_of(&self.forest, self.forest.root());
         match top {
             Top::Done { output, .. } if around.is_empty() => Some(output),
             _ => None,
@@ -319,7 +484,7 @@ impl Machine {
     pub fn problem(&self) -> Option<&Problem>
         ensures { option_map (λ p. p.now) result ≡ problem_in self.now.node }
     {
-        let Standing { around, top } = stack_of(&self.forest);
+        let Standing { around, top } = stack_of(&self.forest, self.forest.root());
         match top {
             Top::Fault(problem) if around.is_empty() => Some(problem),
             _ => None,
@@ -349,7 +514,7 @@ fn may_try_again(frame: &Frame) -> bool
 
 // Whether an error inside these running tasks may lead to another try.
 fn is_error_shared(around: &[Layer]) -> bool
-    ensures { (fs : List TheFrame) (p : Problem) → around.now ≡ running fs → result ≡ is_shared (plug fs (Fault p)) }
+    ensures { (fs : List TheFrame) (p : Problem) → around.now ≡ running fs → result ≡ is_shared [] (plug fs (Fault p)) }
 {
     match around.split_last() {
         Some((Layer::Running(frame), _)) => may_try_again(frame),
@@ -358,70 +523,13 @@ fn is_error_shared(around: &[Layer]) -> bool
     }
 }
 
-// What the step makes of the part that takes it.
-fn next_of(
-    alloc: Global,
-    setting: &Setting,
-    site: &Site,
-    around: &[Layer],
-    top: &Top,
-) -> Result<Made, AllocError>
-    requires { (fs : List TheFrame) × ((around.now ≡ running fs) × (is_enabled site.now.now (plug fs (top_node top.now)) ≡ true)) }
-    ensures { IfOk result (λ m. (fs : List TheFrame) → around.now ≡ running fs → IsStep (setting_sight setting.now site.entry.now.now) fs top.now (stepped_of m)) }
+// The moment that a strand which holds these waits for, where it does.
+fn until_of(layers: &[Layer]) -> Option<u64>
+    requires { IsStack layers.now }
+    ensures { result ≡ until_in layers.now }
 {
-    match top {
-        Top::Fresh { task, raw } => {
-            let scene = Scene::inside(alloc, setting, site.words, site.now, around)?;
-            made(setting, enter(alloc, &scene, task, raw))
-        }
-        Top::Waiting {
-            task,
-            raw,
-            input,
-            retries,
-            ..
-        } => {
-            let scene = Scene::inside(alloc, setting, site.words, site.now, around)?;
-            made(setting, woken(alloc, &scene, task, raw, input, *retries))
-        }
-        Top::Hearing {
-            task,
-            raw,
-            input,
-            heard,
-            ..
-        } => {
-            let scene = Scene::inside(alloc, setting, site.words, site.now, around)?;
-            made(
-                setting,
-                listened(alloc, &scene, task, raw, input, heard.as_slice()),
-            )
-        }
-        Top::Done { output, flow } => {
-            let (frame, outer) = innermost(around);
-            let scene = Scene::inside(alloc, setting, site.words, site.now, outer)?;
-            made(setting, moved_on(alloc, &scene, frame, output, flow))
-        }
-        Top::Fault(problem) => {
-            let (frame, outer) = innermost(around);
-            let scene = Scene::inside(alloc, setting, site.words, site.now, outer)?;
-            made(setting, failed(alloc, &scene, frame, problem))
-        }
-    }
-}
-
-// What a rule gives, an error included.
-fn made(setting: &Setting, given: Result<Made, Halt>) -> Result<Made, AllocError>
-    ensures { IfOk result (λ m. (s : Sight) (x : Stepped) → s.context ≡ setting.now.context → Gives s x given → stepped_of m ≡ x) }
-{
-    match given {
-        Ok(made) => Ok(made),
-        Err(Halt::Fault(problem)) => Ok(Made {
-            frame: None,
-            top: Top::Fault(problem),
-            context: setting.context.copy()?,
-            emitted: None,
-        }),
-        Err(Halt::OutOfMemory) => Err(AllocError),
+    match layers.last() {
+        Some(Layer::Top(Top::Waiting { until, .. })) => Some(*until),
+        _ => None,
     }
 }

@@ -1,34 +1,19 @@
 // An instance as plain values, as it is looked at and kept.
-ghost use Rattle.std.specs.Prelude.{◌≡◌, IfOk};
-ghost use Rattle.swf_scene.specs.Layers.{frames_of};
+ghost use Rattle.std.specs.Prelude.{◌≡◌};
+ghost use Rattle.swf_strands.specs.Strands.{root_node};
 
-use std::alloc::{AllocError, Global};
 use std::marker::Model;
 use swf_document::DocKey;
 use swf_duration::Moment;
-use swf_scene::{Frame, Layer, Top};
+use swf_frames::Forest;
+use swf_scene::Layer;
 use swf_text::Text;
 use swf_value::Json;
 
-/// The tree of an instance: the tasks that run inside each other, the outermost first, and what stands innermost. Contracts see
-/// the tree.
+/// The tree of an instance, as its strands. Contracts see it as the node of the definitions.
 #[derive(Drop)]
 pub struct Node {
-    pub running: Vec<Frame>,
-    pub top: Top,
-}
-
-impl Model for Node {
-    ghost use Rattle.swf_meaning.specs.Node.{Node as Tree};
-    ghost use Rattle.swf_meaning.specs.Codes.{node_code};
-
-    ghost Value = { Tree };
-
-    ghost coded = { node_code };
-
-    ghost use Rattle.swf_scene.specs.Stack.{plug, top_node};
-
-    ghost view = { λ n. plug n.running.items (top_node n.top) };
+    strands: Forest<Layer>,
 }
 
 /// What an instance is, with the key of its document.
@@ -43,15 +28,32 @@ pub struct InstanceView {
     pub number: u64,
 }
 
-/// The tasks that run among these, once more.
-pub fn copy_running(alloc: Global, layers: &[Layer]) -> Result<Vec<Frame>, AllocError>
-    ensures { IfOk result (λ frames. frames.items ≡ frames_of layers.now) }
-{
-    let mut frames = Vec::new(alloc);
-    for layer in layers {
-        if let Layer::Running(frame) = layer {
-            frames.push(frame.copy()?)?;
-        }
+impl Model for Node {
+    ghost use Rattle.swf_meaning.specs.Codes.{node_code};
+    ghost use Rattle.swf_meaning.specs.Node.{Node as Tree};
+
+    ghost Value = { Tree };
+
+    ghost coded = { node_code };
+
+    ghost use Rattle.swf_strands.specs.Strands.{root_node};
+
+    ghost view = { λ n. root_node n.strands.strands };
+}
+
+impl Node {
+    /// The tree of these strands.
+    pub fn of(strands: Forest<Layer>) -> Node
+        ensures { result ≡ root_node strands.strands }
+    {
+        Node { strands }
     }
-    Ok(frames)
+
+    /// On each strand the tasks that run, and at the top what stands innermost; the branches of a `fork` are the strands below its
+    /// own.
+    pub fn strands(&self) -> &Forest<Layer>
+        ensures { root_node result.now.strands ≡ self.now }
+    {
+        &self.strands
+    }
 }

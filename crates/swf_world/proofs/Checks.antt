@@ -1,11 +1,11 @@
 -- What is looked up in the maps tells why a label is refused, and what a change has to be.
-use Rattle.std.proofs.Common.{◌≡◌, ◌∙◌, ap, sym, refl, subst, cond, ℕ, ◌+◌, ◌<◌, ◌≤◌, ◌||◌, ◌&&◌, List, [], ◌∷◌, ◌++◌, length, nat_le, Bool, true, false, is_some, Option, Some, None, option_map, option_and_then, Result, Ok, Err, IfOk, nat_lt, slice_get, position, arith, append-nil}
+use Rattle.std.proofs.Common.{◌≡◌, ◌∙◌, ap, sym, refl, subst, cond, ℕ, ◌+◌, ◌<◌, ◌≤◌, ◌||◌, List, ◌++◌, length, nat_le, Bool, true, false, is_some, Option, Some, None, option_map, option_and_then, option_to_list, Result, Ok, Err, IfOk, nat_lt, slice_get, position, arith, append-nil}
 use Rattle.std.proofs.lemmas.List.{length-map}
-use Rattle.std.proofs.lemmas.Bool.{le-leb, leb-false, lt-leb, and_parts}
+use Rattle.std.proofs.lemmas.Bool.{le-leb, leb-false, lt-leb}
 use Rattle.std.specs.List.{AllByRecursion}
 use Rattle.std.specs.List.{position_or_len}
 use Rattle.std.specs.Map.{lookup, keys_of, values_of}
-use Rattle.std.proofs.lemmas.Option.{cond_some, same_Some}
+use Rattle.std.proofs.lemmas.Option.{cond_some, same_Some, slice_get_within}
 use Rattle.swf_value.specs.Value.{Value}
 use Rattle.swf_text.specs.Same.{same}
 use Rattle.swf_cloudevents.specs.declared.event.Event.{Event}
@@ -18,10 +18,13 @@ use Rattle.swf_meaning.specs.declared.label.Label.{Label}
 use Rattle.swf_meaning.specs.declared.label.Label.TheVariants.{Load, Start, Event as Told, Moment, Step}
 use Rattle.swf_meaning.specs.Complete.{Stepped}
 use Rattle.swf_meaning.specs.Offer.{offered_all}
-use Rattle.swf_meaning.specs.World.{World, Instance, new_instance, is_root, sight, with_step}
+use Rattle.swf_meaning.specs.World.{World, Instance, new_instance, sight, with_step}
 use Rattle.swf_meaning.specs.Answer.{instance_at}
-use Rattle.swf_meaning.specs.Local.{local, is_enabled}
-use Rattle.swf_meaning.specs.After.{after, loaded, load_faults, accepted, is_used, counted, document_at, most_documents, most_instances, with_document, with_instance, with_event, with_instances, sent, taken_by}
+use Rattle.swf_meaning.specs.Local.{local}
+use Rattle.swf_meaning.specs.Strands.{can_go}
+use Rattle.swf_runs.specs.After.{after, loaded, load_faults, accepted, is_used, counted, document_at, most_documents, most_instances, with_document, with_instance, with_event, with_instances, sent, taken_by}
+use Rattle.swf_tasks.specs.Prepares.{applied}
+use Rattle.swf_tasks.specs.declared.machine.Step.{Step as Prepared}
 use Rattle.swf_world.specs.declared.change.Change.{Change}
 use Rattle.swf_world.specs.declared.change.ChangeKind.{ChangeKind}
 use Rattle.swf_world.specs.declared.change.ChangeKind.TheVariants as kinds
@@ -37,12 +40,11 @@ use Rattle.swf_world.specs.Fields.{instances_in, world_of}
 use Rattle.swf_world.specs.Kept.{IsNamed, IsPlaced}
 use Rattle.swf_world.specs.Offers.{put_at, put_all, IsHeardFrom, IsSent}
 use Rattle.swf_world.specs.Refusals.{refusal, refusal_of_load, refusal_of_start, refusal_of_moment, refusal_of_step, duplicate, cause}
-use Rattle.swf_world.specs.Changes.{Suits, suits, changed, changed_by, offered_own, after_step, stepped_one, with_moment, with_stepped}
+use Rattle.swf_world.specs.Changes.{IsReady, Suits, SuitsStep, suits, changed, changed_by, offered_own, after_step, with_moment, with_stepped}
 use Rattle.swf_world.specs.Prepares.{Prepares, IsTelling, IsStepping, Steps, StepsFirst, TellsTo, load_of, start_of, untold, or_memory}
-use Rattle.swf_world.specs.Queued.{enabled_at}
-use Rattle.swf_world.proofs.Lookups.{used_some, document_lookup, instance_lookup, enabled_there, stepped_there}
-use Rattle.swf_world.proofs.OfferLemmas.{offered_past, offered_with}
-use Rattle.swf_world.proofs.StepLemmas.{entry_within}
+use Rattle.swf_world.proofs.Lookups.{used_some, document_lookup, instance_lookup, instance_there, stepped_there}
+use Rattle.swf_world.proofs.MachineLemmas.{take_put}
+use Rattle.swf_world.proofs.OfferLemmas.{offered_apart, offered_past, offered_with}
 use Rattle.swf_world.proofs.RefusalLaws.{refused_nowhere}
 
 module _ (ds : List (DocKey × Loaded)) (is : List (List ℕ × Instance)) (ks : List (Key × ℕ)) (now : ℕ) (es : List Event) (n r : ℕ) (h : Held) (view : record { world = world_of ds is ks now es n; room = r } ≡ h) where
@@ -70,22 +72,20 @@ module _ (ds : List (DocKey × Loaded)) (is : List (List ℕ × Instance)) (ks :
   instance_found id o placed e = sym (ap (λ h. instance_at id h.world.instances) view) ∙ instance_lookup id is placed ∙ e
 
   -- why a step of an instance is refused
-  pub step_refusal : (id strand : List ℕ) (v : Instance) (b : Bool) → AllByRecursion IsPlaced is → lookup (same id) is ≡ Some v → b ≡ (is_root strand && is_enabled now v.node) →
+  pub step_refusal : (id strand : List ℕ) (v : Instance) (b : Bool) → AllByRecursion IsPlaced is → lookup (same id) is ≡ Some v → b ≡ can_go now strand v.node →
       refusal_of_step h.world.now strand (instance_at id h.world.instances) ≡ (cond b None (Some NotEnabled))
   step_refusal id strand v b placed e t =
       ap (refusal_of_step h.world.now strand) (instance_found id (Some v) placed e)
       ∙ ap (λ h. refusal_of_step h.world.now strand (Some v)) (sym view) ∙ ap (λ c. cond c None (Some NotEnabled)) (sym t)
 
-  -- an instance that can take a step takes the first one's
+  -- an instance that is found is the first of its id
   pub step_found : (id strand : List ℕ) (v : Instance) (number : ℕ) → AllByRecursion IsPlaced is → Some number ≡ position (same id) (keys_of is) → slice_get (values_of is) number ≡ Some v →
-      true ≡ (is_root strand && is_enabled now v.node) →
-      (enabled_at h.world.now h.world.instances number ≡ true) × (is_root strand ≡ true) × StepsFirst h.world id number
-  step_found id strand v number placed e at t =
+      (number < length h.world.instances) × StepsFirst h.world id strand number
+  step_found id strand v number placed e at =
       let first = cond_some (nat_lt (position_or_len (same id) (keys_of is)) (length (keys_of is))) (position_or_len (same id) (keys_of is)) number (sym e) in
-      let can = and_parts (is_root strand) (is_enabled now v.node) (sym t) in
-      let enabled : enabled_at now (instances_in is) number ≡ true = enabled_there now is number v at ∙ can.1 in
-      subst (λ h. (enabled_at h.world.now h.world.instances number ≡ true) × (is_root strand ≡ true) × StepsFirst h.world id number) view
-      (enabled, can.0, λ i m there takes. stepped_there now id is number i m placed first.1 (entry_within now is number enabled) there takes)
+      let within : number < length (instances_in is) = slice_get_within (instances_in is) number v (instance_there is number v at) in
+      subst (λ h. (number < length h.world.instances) × StepsFirst h.world id strand number) view
+      (within, λ i m there takes. stepped_there now id strand is number i m placed first.1 (omega (arith, within, length-map is (λ e. e.1))) there takes)
 
 pub none_found : {A : Type 0} (o : Option A) (p : Option ℕ) → p ≡ None → is_some p ≡ is_some o → o ≡ None
 none_found None p e f = refl
@@ -164,46 +164,61 @@ event_prepares w e (Ok c) t m =
     (p.0, p.1, t, m.taken)
 event_prepares w e (Err x) t m = tt
 
--- an instance that takes a step
-one_step : (now : ℕ) (o : Option Instance) (p : Instance × Option Event) → option_and_then (stepped_one now) o ≡ Some p → (i : Instance) × (m : Stepped) × (o ≡ Some i) × (local (sight now i) i.node ≡ Some m) × (after_step i m ≡ p)
-one_step now None p e = cc
-one_step now (Some i) p e = by (local (sight now i) i.node) refl e
+-- the instances after an event was offered to them that goes out, where one does
+abbrev offered_by : Option Event → List Instance → List Instance
+offered_by None is = is
+offered_by (Some e) is = offered_all e is
+
+-- those that took it leave the one of the number as it is
+sent_from : (n : ℕ) (o : Option Event) (is : List Instance) (hs : List Hearing) → IsSent n o is hs → (slice_get (put_all hs is) n ≡ slice_get is n) × AllByRecursion (IsHeardFrom is) hs × (length hs ≤ length is)
+sent_from n None is hs s = subst (λ hs. (slice_get (put_all hs is) n ≡ slice_get is n) × AllByRecursion (IsHeardFrom is) hs × (length hs ≤ length is)) (sym s) (refl, tt, omega arith)
+sent_from n (Some e) is hs s = (ap (λ is. slice_get is n) s.put ∙ offered_apart n e is, s.heard, s.few)
+
+-- the instances after a step, where the event that goes out is offered to the others, and to the instance itself
+sent_to : (n : ℕ) (j : Instance) (o : Option Event) (is : List Instance) (hs : List Hearing) → IsSent n o is hs → put_at n (offered_own o j) (put_all hs is) ≡ offered_by o (put_at n j is)
+sent_to n j None is hs s = ap (λ hs. put_at n j (put_all hs is)) s
+sent_to n j (Some e) is hs s = ap (put_at n (offered_own (Some e) j)) s.put ∙ offered_with n e j is
+
+-- the world after a step, by its instances
+sent_is : (w : World) (js : List Instance) (o : Option Event) → sent (record w { instances = js; count = w.count + 1 }) o ≡ record w { instances = offered_by o js; outbox = w.outbox ++ option_to_list o; count = w.count + 1 }
+sent_is w js None = λ i. record w { instances = js; outbox = sym (append-nil w.outbox) i; count = w.count + 1 }
+sent_is w js (Some e) = refl
+
+-- the world after a step that was prepared
+world_after : (w : World) (id strand : List ℕ) (n : ℕ) (step : Prepared) (until : Option ℕ) (o : Option Event) (hs : List Hearing) → StepsFirst w id strand n → IsReady w.now n strand w.instances step until o → IsSent n o w.instances hs →
+    after w (Step id strand) ≡ Some (with_stepped w n step o hs)
+world_after w id strand n step until o hs first r s = by (local (sight w.now r.instance) strand r.instance.node) refl r.stepped
   where
-    by : (o : Option Stepped) → local (sight now i) i.node ≡ o → option_map (after_step i) o ≡ Some p →
-        (j : Instance) × (m : Stepped) × (Some i ≡ Some j) × (local (sight now j) j.node ≡ Some m) × (after_step j m ≡ p)
-    by None h e = cc
-    by (Some m) h e = (i, m, refl, h, same_Some (after_step i m) p e)
-
--- those that took the event that goes out, where one does
-sent_from : (n : ℕ) (o : Option Event) (is : List Instance) (hs : List Hearing) → IsSent n o is hs → AllByRecursion (IsHeardFrom is) hs × (length hs ≤ length is)
-sent_from n None is hs s = subst (λ hs. AllByRecursion (IsHeardFrom is) hs × (length hs ≤ length is)) (sym s) (tt, omega arith)
-sent_from n (Some e) is hs s = (s.heard, s.few)
-
--- an event that goes out is offered to the others, and to the instance itself
-sent_is : (w : World) (n : ℕ) (j : Instance) (o : Option Event) (hs : List Hearing) → IsSent n o w.instances hs → sent (record w { instances = put_at n j w.instances; count = w.count + 1 }) o ≡ with_stepped w n (offered_own o j) o hs
-sent_is w n j None hs s = λ i. record w { instances = put_at n j (put_all (sym s i) w.instances); outbox = sym (append-nil w.outbox) i; count = w.count + 1 }
-sent_is w n j (Some e) hs s =
-    let put = sym (offered_with n e j w.instances) ∙ ap (put_at n (offered_own (Some e) j)) (sym s.put) in
-    λ i. record w { instances = put i; outbox = w.outbox ++ e ∷ []; count = w.count + 1 }
+    by : (x : Option Stepped) → local (sight w.now r.instance) strand r.instance.node ≡ x → option_map (after_step r.instance) x ≡ Some (applied step r.instance, o) → after w (Step id strand) ≡ Some (with_stepped w n step o hs)
+    by None e q = cc
+    by (Some m) e q =
+        let p : after_step r.instance m ≡ (applied step r.instance, o) = same_Some (after_step r.instance m) (applied step r.instance, o) q in
+        let sends : IsSent n m.emitted w.instances hs = subst (λ o. IsSent n o w.instances hs) (sym (ap (λ p. p.1) p)) s in
+        let there = (sent_from n o w.instances hs s).0 ∙ r.there in
+        ap (option_map (with_instances w)) (first r.instance m r.there e)
+        ∙ ap (λ w. Some w) (
+        sent_is w (put_at n (with_step r.instance m) w.instances) m.emitted
+        ∙ ap (λ is. record w { instances = is; outbox = w.outbox ++ option_to_list m.emitted; count = w.count + 1 }) (sym (sent_to n (with_step r.instance m) m.emitted w.instances hs sends))
+        ∙ (λ i. record w { instances = put_at n (p i).0 (put_all hs w.instances); outbox = w.outbox ++ option_to_list (p i).1; count = w.count + 1 })
+        ∙ ap (λ is. record w { instances = is; outbox = w.outbox ++ option_to_list o; count = w.count + 1 }) (sym (take_put n step (put_all hs w.instances) r.instance there))
+        )
 
 -- the change of a step that is not refused
-stepping : (w : World) (id strand : List ℕ) (n : ℕ) (k : ChangeKind) → is_root strand ≡ true → StepsFirst w id n → Steps w.now n w.instances k → suits w k × (after w (Step id strand) ≡ Some (changed_by w k))
-stepping w id strand n (kinds.Step m j o heard) root first s =
-    let one = one_step w.now (slice_get w.instances n) (j, o) s.1 in
+stepping : (w : World) (id strand : List ℕ) (n : ℕ) (k : ChangeKind) → StepsFirst w id strand n → Steps w.now n strand w.instances k → suits w k × (after w (Step id strand) ≡ Some (changed_by w k))
+stepping w id strand n (kinds.Step m step until o heard) first s =
     let from = sent_from n o w.instances heard.items s.2 in
-    let sends : IsSent n one.1.emitted w.instances heard.items = subst (λ o. IsSent n o w.instances heard.items) (sym (ap (λ p. p.1) one.4)) s.2 in
-    let next = sent_is w n (with_step one.0 one.1) one.1.emitted heard.items sends ∙ (λ i. with_stepped w (sym s.0 i) (one.4 i).0 (one.4 i).1 heard.items) in (
-      record { stepped = ap (λ n. option_and_then (stepped_one w.now) (slice_get w.instances n)) s.0 ∙ s.1; from = from.0; few = from.1 },
-      (λ i. cond (root i) (option_map (with_instances w) (first one.0 one.1 one.2 one.3 i)) None) ∙ ap (λ w. Some w) next,
+    subst (λ m. SuitsStep w m step until o heard.items × (after w (Step id strand) ≡ Some (with_stepped w m step o heard.items))) (sym s.0) (
+      record { strand = strand; ready = s.1; apart = from.0; from = from.1; few = from.2 },
+      world_after w id strand n step until o heard.items first s.1 s.2,
     )
-stepping w id strand n k root first s = absurd s
+stepping w id strand n k first s = absurd s
 
-pub step_prepares : {E : Type 0} (w : World) (id strand : List ℕ) (number : ℕ) (made : Result Change E) → is_root strand ≡ true → StepsFirst w id number → refusal_of_step w.now strand (instance_at id w.instances) ≡ None →
-    IfOk made (IsStepping w.now number w.instances) → Prepares w (Step id strand) (or_memory made)
-step_prepares w id strand number (Ok c) root first t m =
-    let p = stepping w id strand number c.kind root first m.steps in
+pub step_prepares : {E : Type 0} (w : World) (id strand : List ℕ) (number : ℕ) (made : Result Change E) → StepsFirst w id strand number → refusal_of_step w.now strand (instance_at id w.instances) ≡ None →
+    IfOk made (IsStepping w.now number strand w.instances) → Prepares w (Step id strand) (or_memory made)
+step_prepares w id strand number (Ok c) first t m =
+    let p = stepping w id strand number c.kind first m.steps in
     (p.0, p.1, t, m.taken)
-step_prepares w id strand number (Err x) root first t m = tt
+step_prepares w id strand number (Err x) first t m = tt
 
 -- a label that was refused has that cause, and leads nowhere
 prepared_refused : (w : World) (l : Label) (result : Result Change PrepareFault) (r : Refusal) → Prepares w l result → result ≡ Err (Refused r) → (refusal w l ≡ Some r) × (after w l ≡ None)

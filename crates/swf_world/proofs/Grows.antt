@@ -1,8 +1,9 @@
 -- The maps stand for the world that a change makes, and go on to agree with each other.
-use Rattle.std.proofs.Common.{◌≡◌, ◌∙◌, ap, sym, refl, subst, cond, ℕ, zero, suc, ◌+◌, ◌<◌, ◌==◌, ◌&&◌, ◌||◌, ◌⊎◌, inl, inr, List, [], ◌∷◌, ◌++◌, length, Bool, true, false, is_some, Option, Some, None, arith, length-append}
+use Rattle.std.proofs.Common.{◌≡◌, ◌∙◌, ap, sym, refl, subst, cond, ℕ, zero, suc, ◌+◌, ◌<◌, ◌==◌, ◌&&◌, ◌||◌, ◌⊎◌, inl, inr, List, [], ◌∷◌, ◌++◌, length, slice_get, Bool, true, false, is_some, Option, Some, None, arith, length-append}
+use Rattle.std.proofs.lemmas.Option.{slice_get_within}
 use Rattle.std.proofs.lemmas.List.{map-append}
 use Rattle.std.proofs.lemmas.List.Folds.{list_any-append}
-use Rattle.std.proofs.lemmas.Bool.{or_parts, or_from, ne_eqb}
+use Rattle.std.proofs.lemmas.Bool.{and_from, or_cases, or_left, or_right, or_parts, or_from, eq-eqb, ne_eqb}
 use Rattle.std.proofs.lemmas.Bool.Decides.{Decides-eqb}
 use Rattle.std.specs.List.{AllByRecursion, list_any}
 use Rattle.std.specs.Map.{lookup, keys_of}
@@ -11,10 +12,10 @@ use Rattle.swf_cloudevents.specs.declared.event.Event.{Event}
 use Rattle.swf_document.specs.declared.document.DocKey.{DocKey}
 use Rattle.swf_meaning.specs.declared.key.Key.{Key}
 use Rattle.swf_meaning.specs.declared.key.Key.TheVariants as keys
-use Rattle.swf_meaning.specs.Keys.{same_doc, same_key}
-use Rattle.swf_meaning.specs.Wake.{until}
+use Rattle.swf_runs.specs.Keys.{same_doc, same_key}
+use Rattle.swf_meaning.specs.Wake.{waits}
 use Rattle.swf_meaning.specs.World.{Instance}
-use Rattle.swf_meaning.specs.After.{is_used, with_document, with_instance}
+use Rattle.swf_runs.specs.After.{is_used, with_document, with_instance}
 use Rattle.swf_world.specs.declared.world.Loaded.{Loaded}
 use Rattle.swf_turns.specs.declared.timers.Timer.{Timer}
 use Rattle.swf_world.specs.Held.{Held}
@@ -27,10 +28,12 @@ use Rattle.swf_turns.specs.Line.{is_among}
 use Rattle.swf_world.specs.Queued.{Queued, enabled_at}
 use Rattle.swf_turns.specs.Line.{Line}
 use Rattle.swf_turns.specs.Waits.{is_set}
-use Rattle.swf_world.specs.Waits.{above, is_at, wait_at}
+use Rattle.swf_tasks.specs.Prepares.{is_at, waits_for}
+use Rattle.swf_world.specs.Waits.{above, waits_at}
 use Rattle.swf_world.proofs.MachineLemmas.{enabled_put, length_put}
 use Rattle.swf_world.proofs.OfferLemmas.{all_pushed}
-use Rattle.swf_world.proofs.WaitLemmas.{wait_put, wait_pushed}
+use Rattle.swf_world.proofs.TimerLemmas.{set_within}
+use Rattle.swf_world.proofs.WaitLemmas.{at_above, waits_there, waits_put, waits_pushed}
 
 -- a key is found where one of the keys passes
 found_any : {K V : Type 0} (test : K → Bool) (es : List (K × V)) → is_some (lookup test es) ≡ list_any test (keys_of es)
@@ -136,18 +139,19 @@ or_second true b e = refl
 or_second false b e = e
 
 -- a new instance stands behind all others, and does not wait
-queued_pushed : (now : ℕ) (xs : List Instance) (x : Instance) (queue : List ℕ) (timers : List Timer) (n : ℕ) → n ≡ length xs → until x.node ≡ None → Queued now xs queue timers → Queued now (xs ++ x ∷ []) (queue ++ n ∷ []) timers
+queued_pushed : (now : ℕ) (xs : List Instance) (x : Instance) (queue : List ℕ) (timers : List Timer) (n : ℕ) → n ≡ length xs → waits x.node ≡ [] → Queued now xs queue timers → Queued now (xs ++ x ∷ []) (queue ++ n ∷ []) timers
 queued_pushed now xs x queue timers n e awake q = record {
   all = λ m h. among_pushed m n queue
       ∙ elim (enabled_pushed now xs x m h) [
         | inl g ↦ or_first (is_among m queue) ((m == n) || false) (q.all m g)
         | inr g ↦ or_second (is_among m queue) ((m == n) || false) (or_first (m == n) false ((Decides-eqb m n).1 (g ∙ sym e)))
       ];
-  waits = λ k m. q.waits k m ∙ ap (is_at m) (sym (wait_pushed now xs x k awake));
+  waits = λ k m later w. q.waits k m later (sym (waits_pushed xs x k m awake) ∙ w);
+  known = λ k m s. omega (arith, q.known k m s, length-append xs (x ∷ []));
 }
 
 pub kept_started : (ds : List (DocKey × Loaded)) (is : List (List ℕ × Instance)) (ks : List (Key × ℕ)) (now n : ℕ) (turns next : Line) (timers : List Timer) (id : List ℕ) (used : Key) (i : Instance) →
-    Kept ds is ks now n turns timers → IsPlaced (id, i) → used ≡ keys.Instance id → until i.node ≡ None → n < most_labels → next.numbers ≡ turns.numbers ++ turns.count ∷ [] → next.count ≡ turns.count + 1 →
+    Kept ds is ks now n turns timers → IsPlaced (id, i) → used ≡ keys.Instance id → waits i.node ≡ [] → n < most_labels → next.numbers ≡ turns.numbers ++ turns.count ∷ [] → next.count ≡ turns.count + 1 →
     Kept ds (is ++ (id, i) ∷ []) (ks ++ (used, n) ∷ []) now (n + 1) next timers
 kept_started ds is ks now n turns next timers id used i kept placed e awake few numbers count =
     let all : instances_in (is ++ (id, i) ∷ []) ≡ instances_in is ++ i ∷ [] = map-append (λ e. e.1) is ((id, i) ∷ []) in
@@ -217,23 +221,32 @@ started_world ds is ks now es n id used j placed e =
     let own : used ≡ keys.Instance j.id = e ∙ ap keys.Instance placed in
     λ i. record { documents = loaded_in ds; instances = map-append (λ e. e.1) is ((id, j) ∷ []) i; keys = ks ++ (own i, n) ∷ []; now = now; outbox = es; count = n + 1 }
 
--- an instance that was in the queue took its step, and its timer was set
-queued_stepped : (now : ℕ) (is : List Instance) (queue : List ℕ) (timers next : List Timer) (n : ℕ) (j : Instance) → Queued now is queue timers → n < length is → wait_at now is n ≡ None → is_among n queue ≡ true →
-    ((k m : ℕ) → is_set k m next ≡ (((k == n) && is_at m (above now (until j.node))) || is_set k m timers)) → Queued now (put_at n j is) queue next
-queued_stepped now is queue timers next n j q within awake among set = record {
+-- an instance that was in the queue took a step, and the timer of the moment was set for which it began to wait
+queued_stepped : (now : ℕ) (is : List Instance) (queue : List ℕ) (timers next : List Timer) (n : ℕ) (i j : Instance) (until : Option ℕ) → Queued now is queue timers → slice_get is n ≡ Some i → is_among n queue ≡ true →
+    ((m : ℕ) → waits_for m j.node ≡ true → (is_at m until || waits_for m i.node) ≡ true) →
+    ((k m : ℕ) → is_set k m next ≡ (((k == n) && is_at m (above now until)) || is_set k m timers)) → Queued now (put_at n j is) queue next
+queued_stepped now is queue timers next n i j until q there among waits set = record {
   all = λ m h. elim (enabled_put now is n m j h) [
     | inl e ↦ ap (λ k. is_among k queue) e ∙ among
     | inr e ↦ q.all m e
   ];
-  waits = λ k m. set k m ∙ ap (λ b. ((k == n) && is_at m (above now (until j.node))) || b) (q.waits k m) ∙ sym (wait_put now is n k m j within awake);
+  waits = λ k m later w. set k m ∙ elim (waits_put is n k m j w) [
+    | inl h ↦ elim (or_cases (is_at m until) (waits_for m i.node) (waits m h.1)) [
+      | inl e ↦ or_left ((k == n) && is_at m (above now until)) (is_set k m timers) (and_from (k == n) (is_at m (above now until)) (eq-eqb k n h.0) (at_above now m until later e))
+      | inr e ↦ or_right ((k == n) && is_at m (above now until)) (is_set k m timers) (q.waits k m later (ap (λ k. waits_at is k m) h.0 ∙ waits_there is n m i there ∙ e))
+    ]
+    | inr h ↦ or_right ((k == n) && is_at m (above now until)) (is_set k m timers) (q.waits k m later h)
+  ];
+  known = λ k m s. omega (arith, length_put is n j, set_within k n m (length is) (is_at m (above now until)) next timers (set k m) (slice_get_within is n i there) (q.known k m) s);
 }
 
-pub kept_stepped : (ds : List (DocKey × Loaded)) (is js : List (List ℕ × Instance)) (ks : List (Key × ℕ)) (now n : ℕ) (turns : Line) (timers next : List Timer) (number : ℕ) (j : Instance) →
-    Kept ds is ks now n turns timers → number < length (instances_in is) → wait_at now (instances_in is) number ≡ None → is_among number turns.numbers ≡ true → n < most_labels →
+pub kept_stepped : (ds : List (DocKey × Loaded)) (is js : List (List ℕ × Instance)) (ks : List (Key × ℕ)) (now n : ℕ) (turns : Line) (timers next : List Timer) (number : ℕ) (i j : Instance) (until : Option ℕ) →
+    Kept ds is ks now n turns timers → slice_get (instances_in is) number ≡ Some i → is_among number turns.numbers ≡ true → n < most_labels →
     instances_in js ≡ put_at number j (instances_in is) → AllByRecursion IsPlaced js → keys_of js ≡ keys_of is →
-    ((k m : ℕ) → is_set k m next ≡ (((k == number) && is_at m (above now (until j.node))) || is_set k m timers)) →
+    ((m : ℕ) → waits_for m j.node ≡ true → (is_at m until || waits_for m i.node) ≡ true) →
+    ((k m : ℕ) → is_set k m next ≡ (((k == number) && is_at m (above now until)) || is_set k m timers)) →
     Kept ds js ks now (n + 1) turns next
-kept_stepped ds is js ks now n turns timers next number j kept within awake among few stepped placed ids set = record {
+kept_stepped ds is js ks now n turns timers next number i j until kept there among few stepped placed ids waits set = record {
   named = kept.named;
   placed = placed;
   new = record {
@@ -242,7 +255,7 @@ kept_stepped ds is js ks now n turns timers next number j kept within awake amon
     moment = kept.new.moment;
   };
   waiting = record {
-    queued = subst (λ xs. Queued now xs turns.numbers next) (sym stepped) (queued_stepped now (instances_in is) turns.numbers timers next number j kept.waiting.queued within awake among set);
+    queued = subst (λ xs. Queued now xs turns.numbers next) (sym stepped) (queued_stepped now (instances_in is) turns.numbers timers next number i j until kept.waiting.queued there among waits set);
     count = kept.waiting.count ∙ sym (length_put (instances_in is) number j) ∙ sym (ap length stepped);
   };
   early = kept.early;

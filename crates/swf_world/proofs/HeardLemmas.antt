@@ -1,21 +1,33 @@
 -- An instance that took an event is put in its place, and gets a turn.
-use Rattle.std.proofs.Common.{◌≡◌, ◌∙◌, ap, sym, ℕ, ◌<◌, ◌==◌, ◌||◌, inl, inr, List, length, map, Some, slice_get, arith}
+use Rattle.std.proofs.Common.{◌≡◌, ◌∙◌, refl, ap, sym, ℕ, zero, suc, ◌<◌, ◌==◌, ◌||◌, inl, inr, List, [], ◌∷◌, length, map, Some, slice_get, arith}
 use Rattle.std.proofs.lemmas.Bool.{eq-eqb, or_left, or_right}
 use Rattle.std.proofs.lemmas.List.{length-map}
-use Rattle.std.proofs.lemmas.Option.{slice_get_within}
+use Rattle.std.proofs.lemmas.Option.{same_Some, slice_get_within}
 use Rattle.swf_meaning.specs.World.{Instance}
 use Rattle.swf_turns.specs.declared.timers.Timer.{Timer}
+use Rattle.swf_tasks.specs.declared.machine.Step.TheVariants.{Whole}
+use Rattle.swf_world.specs.Changes.{FitsAt, take_at}
 use Rattle.swf_world.specs.Offers.{put_at, mark}
 use Rattle.swf_turns.specs.Line.{is_among}
 use Rattle.swf_world.specs.Queued.{Queued}
-use Rattle.swf_world.specs.Waits.{is_at}
-use Rattle.swf_world.proofs.MachineLemmas.{enabled_put}
+use Rattle.swf_world.proofs.MachineLemmas.{enabled_put, length_put}
 use Rattle.swf_world.proofs.OfferLemmas.{marks_put}
-use Rattle.swf_world.proofs.WaitLemmas.{wait_again}
+use Rattle.swf_world.proofs.WaitLemmas.{waits_again}
 
 -- it is one of those that there are
 pub heard_within : (is : List Instance) (n : ℕ) (j : Instance) → slice_get (map mark is) n ≡ Some (mark j) → n < length is
 heard_within is n j e = omega (arith, slice_get_within (map mark is) n (mark j) e, length-map is mark)
+
+-- and keeps its id
+pub heard_fits : (is : List Instance) (n : ℕ) (j : Instance) → slice_get (map mark is) n ≡ Some (mark j) → FitsAt n (Whole j) is
+heard_fits [] n j e = cc
+heard_fits (i ∷ is) zero j e = (i, refl, sym (ap (λ m. m.0) (same_Some (mark i) (mark j) e)))
+heard_fits (i ∷ is) (suc n) j e = heard_fits is n j e
+
+pub whole_put : (n : ℕ) (j : Instance) (is : List Instance) → take_at n (Whole j) is ≡ put_at n j is
+whole_put n j [] = refl
+whole_put zero j (i ∷ is) = refl
+whole_put (suc n) j (i ∷ is) = ap (λ is. i ∷ is) (whole_put n j is)
 
 pub queued_heard : (now : ℕ) (is : List Instance) (queue next : List ℕ) (timers : List Timer) (n : ℕ) (j : Instance) → slice_get (map mark is) n ≡ Some (mark j) → ((m : ℕ) → is_among m next ≡ (is_among m queue || (m == n))) →
     Queued now is queue timers → Queued now (put_at n j is) next timers
@@ -24,5 +36,6 @@ queued_heard now is queue next timers n j from among q = record {
     | inl e ↦ or_right (is_among m queue) (m == n) (eq-eqb m n e)
     | inr e ↦ or_left (is_among m queue) (m == n) (q.all m e)
   ];
-  waits = λ k m. q.waits k m ∙ ap (is_at m) (wait_again now is (put_at n j is) k (sym (marks_put is n j from)));
+  waits = λ k m later w. q.waits k m later (waits_again is (put_at n j is) k m (sym (marks_put is n j from)) ∙ w);
+  known = λ k m s. omega (arith, q.known k m s, length_put is n j);
 }

@@ -14,3 +14,4 @@ pub mod Waiting
 pub mod Versions
 pub mod PendingLemmas
 pub mod EarlyLemmas
+pub mod StrandsLemmas

@@ -7,18 +7,17 @@ use Rattle.swf_text.specs.Same.{same}
 use Rattle.swf_cloudevents.specs.declared.event.Event.{Event}
 use Rattle.swf_document.specs.declared.document.DocKey.{DocKey}
 use Rattle.swf_meaning.specs.Complete.{Stepped}
-use Rattle.swf_meaning.specs.Local.{local, is_enabled}
+use Rattle.swf_meaning.specs.Local.{local}
 use Rattle.swf_meaning.specs.declared.key.Key.{Key}
-use Rattle.swf_meaning.specs.Keys.{same_doc, same_key}
+use Rattle.swf_runs.specs.Keys.{same_doc, same_key}
 use Rattle.swf_meaning.specs.World.{Instance, sight, with_step}
 use Rattle.swf_meaning.specs.Answer.{instance_at}
-use Rattle.swf_meaning.specs.After.{document_at, stepped}
+use Rattle.swf_runs.specs.After.{document_at, stepped}
 use Rattle.swf_world.specs.declared.key.Sought.{Sought}
 use Rattle.swf_world.specs.declared.world.Loaded.{Loaded}
 use Rattle.swf_world.specs.UsedKey.{sought_key, stands_for, used_at, docs_alike, doc_eq}
 use Rattle.swf_world.specs.Fields.{loaded_in, instances_in}
 use Rattle.swf_world.specs.Kept.{IsNamed, IsPlaced}
-use Rattle.swf_world.specs.Queued.{enabled_at}
 use Rattle.swf_world.specs.Offers.{put_at}
 
 -- the place of a used key
@@ -53,11 +52,6 @@ instance_lookup id (e ∷ es) placed =
     ∙ ap (cond (same id e.0) (Some e.1)) (instance_lookup id es placed.1)
 
 -- the instance of a number
-pub enabled_there : (now : ℕ) (is : List (List ℕ × Instance)) (n : ℕ) (v : Instance) → slice_get (values_of is) n ≡ Some v → enabled_at now (instances_in is) n ≡ is_enabled now v.node
-enabled_there now [] n v e = cc
-enabled_there now (x ∷ xs) zero v e = ap (λ i. is_enabled now i.node) (same_Some x.1 v e)
-enabled_there now (x ∷ xs) (suc n) v e = enabled_there now xs n v e
-
 pub instance_there : (is : List (List ℕ × Instance)) (n : ℕ) (v : Instance) → slice_get (values_of is) n ≡ Some v → slice_get (instances_in is) n ≡ Some v
 instance_there [] n v e = cc
 instance_there (x ∷ xs) zero v e = e
@@ -71,17 +65,17 @@ abbrev pub other_steps : Instance → List Instance × Option Event → List Ins
 other_steps i p = (i ∷ p.0, p.1)
 
 -- the first instance of an id takes the step
-pub stepped_there : (now : ℕ) (id : List ℕ) (is : List (List ℕ × Instance)) (n : ℕ) (i : Instance) (m : Stepped) → AllByRecursion IsPlaced is → position_or_len (same id) (keys_of is) ≡ n → n < length is →
-    slice_get (instances_in is) n ≡ Some i → local (sight now i) i.node ≡ Some m → stepped now id (instances_in is) ≡ Some (put_at n (with_step i m) (instances_in is), m.emitted)
-stepped_there now id [] n i m placed p w at e = absurd (omega arith)
-stepped_there now id (x ∷ xs) n i m placed p w at e =
-    ap (λ b. cond b (option_map (first_steps x.1 (instances_in xs)) (local (sight now x.1) x.1.node)) (option_map (other_steps x.1) (stepped now id (instances_in xs)))) (ap (same id) (sym placed.0))
-    ∙ by (same id x.0) n p w at (λ k q v there. stepped_there now id xs k i m placed.1 q v there e)
+pub stepped_there : (now : ℕ) (id strand : List ℕ) (is : List (List ℕ × Instance)) (n : ℕ) (i : Instance) (m : Stepped) → AllByRecursion IsPlaced is → position_or_len (same id) (keys_of is) ≡ n → n < length is →
+    slice_get (instances_in is) n ≡ Some i → local (sight now i) strand i.node ≡ Some m → stepped now id strand (instances_in is) ≡ Some (put_at n (with_step i m) (instances_in is), m.emitted)
+stepped_there now id strand [] n i m placed p w at e = absurd (omega arith)
+stepped_there now id strand (x ∷ xs) n i m placed p w at e =
+    ap (λ b. cond b (option_map (first_steps x.1 (instances_in xs)) (local (sight now x.1) strand x.1.node)) (option_map (other_steps x.1) (stepped now id strand (instances_in xs)))) (ap (same id) (sym placed.0))
+    ∙ by (same id x.0) n p w at (λ k q v there. stepped_there now id strand xs k i m placed.1 q v there e)
   where
     by : (b : Bool) (n : ℕ) → cond (not b) (1 + position_or_len (same id) (keys_of xs)) 0 ≡ n → n < length (x ∷ xs) → slice_get (instances_in (x ∷ xs)) n ≡ Some i →
-        ((k : ℕ) → position_or_len (same id) (keys_of xs) ≡ k → k < length xs → slice_get (instances_in xs) k ≡ Some i → stepped now id (instances_in xs) ≡ Some (put_at k (with_step i m) (instances_in xs), m.emitted)) →
-        cond b (option_map (first_steps x.1 (instances_in xs)) (local (sight now x.1) x.1.node)) (option_map (other_steps x.1) (stepped now id (instances_in xs))) ≡ Some (put_at n (with_step i m) (instances_in (x ∷ xs)), m.emitted)
-    by true zero p w at rest = ap (λ y. option_map (first_steps y (instances_in xs)) (local (sight now y) y.node)) (same_Some x.1 i at) ∙ ap (option_map (first_steps i (instances_in xs))) e
+        ((k : ℕ) → position_or_len (same id) (keys_of xs) ≡ k → k < length xs → slice_get (instances_in xs) k ≡ Some i → stepped now id strand (instances_in xs) ≡ Some (put_at k (with_step i m) (instances_in xs), m.emitted)) →
+        cond b (option_map (first_steps x.1 (instances_in xs)) (local (sight now x.1) strand x.1.node)) (option_map (other_steps x.1) (stepped now id strand (instances_in xs))) ≡ Some (put_at n (with_step i m) (instances_in (x ∷ xs)), m.emitted)
+    by true zero p w at rest = ap (λ y. option_map (first_steps y (instances_in xs)) (local (sight now y) strand y.node)) (same_Some x.1 i at) ∙ ap (option_map (first_steps i (instances_in xs))) e
     by true (suc n) p w at rest = absurd (omega arith)
     by false zero p w at rest = absurd (omega arith)
     by false (suc n) p w at rest = ap (option_map (other_steps x.1)) (rest n (omega arith) (omega arith) at)

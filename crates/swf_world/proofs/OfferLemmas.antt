@@ -7,35 +7,40 @@ use Rattle.std.specs.List.{AllByRecursion, fold}
 use Rattle.swf_value.specs.Value.{Members}
 use Rattle.swf_cloudevents.specs.declared.event.Event.{Event}
 use Rattle.swf_document.specs.Task.{Task}
-use Rattle.swf_meaning.specs.Node.{Node, Fresh, Live, Done, Fault, Inside, At, Later, Sleep, Hear}
-use Rattle.swf_meaning.specs.Offer.{or_same, takes_in, offered, offered_inside, offered_one, takers_in, offered_all, takers}
+use Rattle.swf_meaning.specs.Node.{Node, Fresh, Live, Done, Fault, Inside, At, Later, Sleep, Hear, Forked, Nodes, no_nodes, branch}
+use Rattle.swf_meaning.specs.Offer.{or_same, takes_in, offered, offered_inside, offered_among, offered_one, takers_in, offered_all, takers}
 use Rattle.swf_meaning.specs.Parts.{kind_of}
-use Rattle.swf_meaning.specs.Wake.{until, until_inside}
+use Rattle.swf_meaning.specs.Wake.{waits, waits_inside, waits_among}
 use Rattle.swf_meaning.specs.World.{Instance}
 use Rattle.swf_meaning.specs.declared.heard.Heard.{Heard}
 use Rattle.swf_world.specs.declared.offer.Hearing.{Hearing}
 use Rattle.swf_world.specs.Offers.{put_at, put_all, offered_but, mark, IsHeardFrom, IsOffer}
 
--- an offer does not change until when a strand waits
-or_same_until : (bound : Members) (hs : List Heard) (o : Option (Members × List Heard)) → until_inside (or_same bound hs o).0 ≡ None
-or_same_until bound hs None = refl
-or_same_until bound hs (Some p) = refl
+-- an offer does not change the moments that strands wait for
+or_same_waits : (bound : Members) (hs : List Heard) (o : Option (Members × List Heard)) → waits_inside (or_same bound hs o).0 ≡ []
+or_same_waits bound hs None = refl
+or_same_waits bound hs (Some p) = refl
 
 mutual
-  until_offered : (e : Event) (n : Node) → until (offered e n).0 ≡ until n
-  until_offered e (Fresh t v) = refl
-  until_offered e (Live t v u k) = until_inside_offered e t k
-  until_offered e (Done w f) = refl
-  until_offered e (Fault p) = refl
+  pub waits_offered : (e : Event) (n : Node) → waits (offered e n).0 ≡ waits n
+  waits_offered e (Fresh t v) = refl
+  waits_offered e (Live t v u k) = waits_inside_offered e t k
+  waits_offered e (Done w f) = refl
+  waits_offered e (Fault p) = refl
 
-  until_inside_offered : (e : Event) (t : Task) (k : Inside) → until_inside (offered_inside e t k).0 ≡ until_inside k
-  until_inside_offered e t (At r i n) = until_offered e n
-  until_inside_offered e t (Later n m) = refl
-  until_inside_offered e t (Sleep m) = refl
-  until_inside_offered e t (Hear bound hs) = or_same_until bound hs (takes_in (kind_of t) bound hs e)
+  waits_inside_offered : (e : Event) (t : Task) (k : Inside) → waits_inside (offered_inside e t k).0 ≡ waits_inside k
+  waits_inside_offered e t (At r i n) = waits_offered e n
+  waits_inside_offered e t (Later n m) = refl
+  waits_inside_offered e t (Sleep m) = refl
+  waits_inside_offered e t (Hear bound hs) = or_same_waits bound hs (takes_in (kind_of t) bound hs e)
+  waits_inside_offered e t (Forked ns) = waits_among_offered e ns
+
+  waits_among_offered : (e : Event) (ns : Nodes) → waits_among (offered_among e ns).0 ≡ waits_among ns
+  waits_among_offered e no_nodes = refl
+  waits_among_offered e (branch n ns) = λ i. waits_offered e n i ++ waits_among_offered e ns i
 
 pub mark_offered : (e : Event) (i : Instance) → mark (offered_one e i) ≡ mark i
-mark_offered e i = ap (λ o. (i.id, o)) (until_offered e i.node)
+mark_offered e i = ap (λ o. (i.id, o)) (waits_offered e i.node)
 
 -- a strand that takes no event stays
 or_same_none : (bound : Members) (hs : List Heard) (o : Option (Members × List Heard)) → (or_same bound hs o).1 ≡ 0 → (or_same bound hs o).0 ≡ Hear bound hs
@@ -54,6 +59,11 @@ mutual
   same_inside_untaken e t (Later n m) h = refl
   same_inside_untaken e t (Sleep m) h = refl
   same_inside_untaken e t (Hear bound hs) h = or_same_none bound hs (takes_in (kind_of t) bound hs e) h
+  same_inside_untaken e t (Forked ns) h = ap Forked (same_among_untaken e ns h)
+
+  same_among_untaken : (e : Event) (ns : Nodes) → (offered_among e ns).1 ≡ 0 → (offered_among e ns).0 ≡ ns
+  same_among_untaken e no_nodes h = refl
+  same_among_untaken e (branch n ns) h = λ i. branch (same_untaken e n (omega (arith, h)) i) (same_among_untaken e ns (omega (arith, h)) i)
 
 one_untaken : (e : Event) (i : Instance) → takers_in e i ≡ 0 → offered_one e i ≡ i
 one_untaken e i h = ap (λ n. record i { node = n }) (same_untaken e i.node h)
@@ -111,6 +121,12 @@ first_done (suc k) n e [] w = refl
 first_done zero n e (i ∷ is) w = absurd (omega arith)
 first_done (suc k) zero e (i ∷ is) w = ap (λ js. i ∷ js) (first_all k e is (omega arith))
 first_done (suc k) (suc n) e (i ∷ is) w = ap (λ js. offered_one e i ∷ js) (first_done k n e is (omega arith))
+
+-- the one that was left out is as it was
+pub offered_apart : (n : ℕ) (e : Event) (is : List Instance) → slice_get (offered_but n e is) n ≡ slice_get is n
+offered_apart n e [] = refl
+offered_apart zero e (i ∷ is) = refl
+offered_apart (suc n) e (i ∷ is) = offered_apart n e is
 
 -- a number past the last leaves out none
 pub offered_past : (n : ℕ) (e : Event) (is : List Instance) → length is ≤ n → offered_but n e is ≡ offered_all e is
@@ -202,12 +218,6 @@ marks_put (i ∷ is) (suc n) j e = ap (λ ms. mark i ∷ ms) (marks_put is n j e
 
 pub marks_length : (is js : List Instance) → map mark is ≡ map mark js → length is ≡ length js
 marks_length is js e = sym (length-map is mark) ∙ ap length e ∙ length-map js mark
-
--- and so their ids
-pub marked_id : (is : List Instance) (n : ℕ) → option_map (λ i. i.id) (slice_get is n) ≡ option_map (λ m. m.0) (slice_get (map mark is) n)
-marked_id [] n = refl
-marked_id (i ∷ is) zero = refl
-marked_id (i ∷ is) (suc n) = marked_id is n
 
 -- others of the same marks were heard from too
 pub from_again : (is js : List Instance) (hs : List Hearing) → map mark is ≡ map mark js → AllByRecursion (IsHeardFrom is) hs → AllByRecursion (IsHeardFrom js) hs

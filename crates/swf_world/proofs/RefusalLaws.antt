@@ -1,5 +1,5 @@
 -- A label has a cause for which it is refused exactly where there is no world after it.
-use Rattle.std.proofs.Common.{◌≡◌, ◌∙◌, ap, sym, refl, cond, ℕ, ◌||◌, ◌&&◌, List, [], ◌∷◌, length, nat_le, Bool, true, false, not, is_some, Option, Some, None, option_map, option_and_then}
+use Rattle.std.proofs.Common.{◌≡◌, ◌∙◌, ap, sym, refl, cond, ℕ, ◌||◌, List, [], ◌∷◌, length, nat_le, Bool, true, false, not, is_some, Option, Some, None, option_map, option_and_then}
 use Rattle.swf_value.specs.Value.{Value}
 use Rattle.swf_cloudevents.specs.declared.event.Event.{Event}
 use Rattle.swf_text.specs.Same.{same}
@@ -7,18 +7,19 @@ use Rattle.swf_document.specs.declared.document.Document.{Document}
 use Rattle.swf_document.specs.declared.fault.Fault.{Fault}
 use Rattle.swf_meaning.specs.declared.label.Label.{Label}
 use Rattle.swf_meaning.specs.declared.label.Label.TheVariants.{Load, Start, Event as Told, Reply, Moment, Step}
-use Rattle.swf_meaning.specs.Local.{local, is_enabled}
+use Rattle.swf_meaning.specs.Local.{local}
+use Rattle.swf_meaning.specs.Strands.{can_go}
 use Rattle.swf_meaning.specs.declared.key.Key.TheVariants as keys
-use Rattle.swf_meaning.specs.World.{World, Instance, sight, new_instance, is_root}
+use Rattle.swf_meaning.specs.World.{World, Instance, sight, new_instance}
 use Rattle.swf_meaning.specs.Answer.{instance_at}
-use Rattle.swf_meaning.specs.After.{after, loaded, load_faults, accepted, document_at, most_documents, most_instances, with_document, with_instance, with_event, stepped, with_instances}
+use Rattle.swf_runs.specs.After.{after, loaded, load_faults, accepted, document_at, most_documents, most_instances, with_document, with_instance, with_event, stepped, with_instances}
 use Rattle.swf_world.specs.declared.refusal.Refusal.{Refusal}
 use Rattle.swf_world.specs.declared.refusal.Refusal.TheVariants.{Stale, Full, Past, NotEnabled}
 use Rattle.swf_world.specs.Changes.{with_moment}
 use Rattle.swf_world.specs.UsedKey.{used_at}
 use Rattle.swf_world.specs.Refusals.{refusal, refusal_of_load, refusal_of_start, refusal_of_step, duplicate, cause}
 use Rattle.swf_world.proofs.Lookups.{used_some, first_steps, other_steps}
-use Rattle.swf_world.proofs.MachineLemmas.{some_mapped, local_enabled}
+use Rattle.swf_world.proofs.MachineLemmas.{some_mapped, local_can}
 
 -- a label that has no refusal has a world after it, and the other way round
 abbrev Agree : {A : Type 0} → Option A → Option Refusal → Type 0
@@ -42,33 +43,28 @@ start_agrees w f None (Some d) = by (nat_le most_instances (length w.instances))
     by true = refl
     by false = refl
 
--- the instance can take a step
-abbrev can_go : ℕ → Option Instance → Bool
-can_go now None = false
-can_go now (Some i) = is_enabled now i.node
+-- the instance has that strand, which can take a step
+abbrev can_step : ℕ → List ℕ → Option Instance → Bool
+can_step now strand None = false
+can_step now strand (Some i) = can_go now strand i.node
 
--- the instance of an id takes a step where it can
-stepped_some : (now : ℕ) (id : List ℕ) (is : List Instance) → is_some (stepped now id is) ≡ can_go now (instance_at id is)
-stepped_some now id [] = refl
-stepped_some now id (i ∷ is) = by (same id i.id) (stepped_some now id is)
+-- a strand of the instance of an id takes a step where it can
+stepped_some : (now : ℕ) (id strand : List ℕ) (is : List Instance) → is_some (stepped now id strand is) ≡ can_step now strand (instance_at id is)
+stepped_some now id strand [] = refl
+stepped_some now id strand (i ∷ is) = by (same id i.id) (stepped_some now id strand is)
   where
-    by : (b : Bool) → is_some (stepped now id is) ≡ can_go now (instance_at id is) →
-        is_some (cond b (option_map (first_steps i is) (local (sight now i) i.node)) (option_map (other_steps i) (stepped now id is))) ≡ can_go now (cond b (Some i) (instance_at id is))
-    by true h = some_mapped (first_steps i is) (local (sight now i) i.node) ∙ local_enabled (sight now i) i.node
-    by false h = some_mapped (other_steps i) (stepped now id is) ∙ h
+    by : (b : Bool) → is_some (stepped now id strand is) ≡ can_step now strand (instance_at id is) →
+        is_some (cond b (option_map (first_steps i is) (local (sight now i) strand i.node)) (option_map (other_steps i) (stepped now id strand is))) ≡ can_step now strand (cond b (Some i) (instance_at id is))
+    by true h = some_mapped (first_steps i is) (local (sight now i) strand i.node) ∙ local_can (sight now i) strand i.node
+    by false h = some_mapped (other_steps i) (stepped now id strand is) ∙ h
 
-step_agrees : {A : Type 0} (now : ℕ) (strand : List ℕ) (s : Option A) (o : Option Instance) → is_some s ≡ can_go now o → Agree (cond (is_root strand) s None) (refusal_of_step now strand o)
-step_agrees now strand s None e = by (is_root strand)
+step_agrees : {A : Type 0} (now : ℕ) (strand : List ℕ) (s : Option A) (o : Option Instance) → is_some s ≡ can_step now strand o → Agree s (refusal_of_step now strand o)
+step_agrees now strand s None e = e
+step_agrees now strand s (Some i) e = by (can_go now strand i.node) e
   where
-    by : (b : Bool) → is_some (cond b s None) ≡ false
-    by true = e
-    by false = refl
-step_agrees now strand s (Some i) e = by (is_root strand) (is_enabled now i.node) e
-  where
-    by : (b t : Bool) → is_some s ≡ t → is_some (cond b s None) ≡ not (is_some (cond (b && t) None (Some NotEnabled)))
-    by true true e = e
-    by true false e = e
-    by false t e = refl
+    by : (t : Bool) → is_some s ≡ t → is_some s ≡ not (is_some (cond t None (Some NotEnabled)))
+    by true e = e
+    by false e = e
 
 event_agrees : (w : World) (e : Event) (o : Option ℕ) → Agree (cond (is_some o) None (Some (with_event w e))) (duplicate o None)
 event_agrees w e (Some p) = refl
@@ -98,8 +94,8 @@ agree w (Moment moment) = by (nat_le moment w.now)
     by true = refl
     by false = refl
 agree w (Step id strand) =
-    step_agrees w.now strand (option_map (with_instances w) (stepped w.now id w.instances)) (instance_at id w.instances)
-    (some_mapped (with_instances w) (stepped w.now id w.instances) ∙ stepped_some w.now id w.instances)
+    step_agrees w.now strand (option_map (with_instances w) (stepped w.now id strand w.instances)) (instance_at id w.instances)
+    (some_mapped (with_instances w) (stepped w.now id strand w.instances) ∙ stepped_some w.now id strand w.instances)
 
 -- a label that is refused leads nowhere
 pub refused_nowhere : (w : World) (l : Label) (r : Refusal) → refusal w l ≡ Some r → after w l ≡ None

@@ -1,32 +1,72 @@
 -- A step that is written into the map is the step of the definitions.
-use Rattle.std.proofs.Common.{◌≡◌, ◌∙◌, ap, refl, ℕ, zero, suc, ◌<◌, List, [], ◌∷◌, length, true, Some, option_map, slice_get, arith}
-use Rattle.std.specs.List.{AllByRecursion}
+use Rattle.std.proofs.Common.{◌≡◌, ◌∙◌, ap, sym, refl, subst, ℕ, zero, suc, ◌<◌, ◌==◌, List, [], ◌∷◌, length, true, Option, Some, None, option_map, slice_get, arith}
+use Rattle.std.specs.List.{AllByRecursion, list_any}
 use Rattle.std.proofs.lemmas.List.{length-map}
 use Rattle.std.proofs.lemmas.Option.{same_Some}
 use Rattle.indexmap.specs.IndexMap.{set_value_at}
-use Rattle.swf_meaning.specs.World.{Instance}
+use Rattle.swf_cloudevents.specs.declared.event.Event.{Event}
+use Rattle.swf_meaning.specs.Complete.{Stepped}
+use Rattle.swf_meaning.specs.Local.{local}
+use Rattle.swf_meaning.specs.Offer.{offered_one}
+use Rattle.swf_meaning.specs.Wake.{waits}
+use Rattle.swf_meaning.specs.World.{Instance, sight}
+use Rattle.swf_tasks.specs.Prepares.{applied, Fits, IsPrepared}
+use Rattle.swf_tasks.specs.Taken.{taken}
+use Rattle.swf_tasks.specs.declared.machine.Prepared.{Prepared}
+use Rattle.swf_tasks.specs.declared.machine.Step.{Step}
+use Rattle.swf_tasks.specs.declared.machine.Step.TheVariants.{Whole}
+use Rattle.swf_world.specs.Changes.{IsReady, after_step, offered_own, take_at}
 use Rattle.swf_world.specs.Fields.{instances_in}
 use Rattle.swf_world.specs.Kept.{IsPlaced}
 use Rattle.swf_world.specs.Queued.{enabled_at}
-use Rattle.swf_world.specs.Offers.{put_at}
-use Rattle.swf_world.proofs.MachineLemmas.{enabled_within}
+use Rattle.swf_world.proofs.MachineLemmas.{enabled_within, fits_id}
+use Rattle.swf_world.proofs.OfferLemmas.{waits_offered}
 
 -- an instance that can take a step is in the map
 pub entry_within : (now : ℕ) (is : List (List ℕ × Instance)) (n : ℕ) → enabled_at now (instances_in is) n ≡ true → n < length is
 entry_within now is n e = let h = enabled_within now (instances_in is) n e in omega (arith, length-map is (λ e. e.1))
 
--- an instance whose id is known is there
-pub id_within : (is : List (List ℕ × Instance)) (n : ℕ) (id : List ℕ) → option_map (λ i. i.id) (slice_get (instances_in is) n) ≡ Some id → n < length is
-id_within [] n id e = cc
-id_within (x ∷ xs) zero id e = omega arith
-id_within (x ∷ xs) (suc n) id e = let h = id_within xs n id e in omega arith
-
-pub set_put : (is : List (List ℕ × Instance)) (n : ℕ) (j : Instance) → instances_in (set_value_at is n j) ≡ put_at n j (instances_in is)
-set_put [] n j = refl
-set_put (x ∷ xs) zero j = refl
-set_put (x ∷ xs) (suc n) j = ap (λ is. x.1 ∷ is) (set_put xs n j)
-
 pub set_placed : (is : List (List ℕ × Instance)) (n : ℕ) (j : Instance) → AllByRecursion IsPlaced is → option_map (λ i. i.id) (slice_get (instances_in is) n) ≡ Some j.id → AllByRecursion IsPlaced (set_value_at is n j)
 set_placed [] n j placed e = placed
 set_placed (x ∷ xs) zero j placed e = (placed.0 ∙ same_Some x.1.id j.id e, placed.1)
 set_placed (x ∷ xs) (suc n) j placed e = (placed.0, set_placed xs n j placed.1 e)
+
+-- the instance of the map takes a step that was prepared
+pub set_taken : (is : List (List ℕ × Instance)) (n : ℕ) (step : Step) (i : Instance) → slice_get (instances_in is) n ≡ Some i → instances_in (set_value_at is n (applied step i)) ≡ take_at n step (instances_in is)
+set_taken [] n step i e = refl
+set_taken (x ∷ xs) zero step i e = ap (λ i. applied step i ∷ instances_in xs) (sym (same_Some x.1 i e))
+set_taken (x ∷ xs) (suc n) step i e = ap (λ is. x.1 ∷ is) (set_taken xs n step i e)
+
+-- what a step leads to is offered the event that goes out
+abbrev with_own : Instance × Option Event → Instance × Option Event
+with_own p = (offered_own p.1 p.0, p.1)
+
+own_step : (i : Instance) (o : Option Stepped) → option_map (after_step i) o ≡ option_map with_own (option_map (taken i) o)
+own_step i None = refl
+own_step i (Some m) = refl
+
+-- and waits for the same moments
+own_waits : (o : Option Event) (i : Instance) → waits (offered_own o i).node ≡ waits i.node
+own_waits None i = refl
+own_waits (Some e) i = waits_offered e i.node
+
+-- an instance is ready to take a step that was prepared, once the event was offered to it which goes out
+prepared_ready : (now n : ℕ) (strand : List ℕ) (is : List Instance) (i : Instance) (p : Prepared) (step : Step) → slice_get is n ≡ Some i → IsPrepared now strand i p → Fits step i → applied step i ≡ offered_own p.emitted (applied p.step i) →
+    IsReady now n strand is step p.until p.emitted
+prepared_ready now n strand is i p step there prepared fits same = record {
+  instance = i;
+  there = there;
+  fits = fits;
+  stepped = own_step i (local (sight now i) strand i.node) ∙ ap (option_map with_own) prepared.step ∙ ap (λ j. Some (j, p.emitted)) (sym same);
+  waits = λ m w. prepared.waits m (ap (λ ms. list_any (λ k. m == k) ms) (sym (ap (λ j. waits j.node) same ∙ own_waits p.emitted (applied p.step i))) ∙ w);
+}
+
+pub quiet_ready : (now n : ℕ) (strand : List ℕ) (is : List Instance) (i : Instance) (p : Prepared) (step : Step) → slice_get is n ≡ Some i → IsPrepared now strand i p → p.emitted ≡ None → step ≡ p.step → IsReady now n strand is step p.until p.emitted
+quiet_ready now n strand is i p step there prepared none same =
+    prepared_ready now n strand is i p step there prepared (subst (λ s. Fits s i) (sym same) prepared.fits) (ap (λ s. applied s i) same ∙ ap (λ o. offered_own o (applied p.step i)) (sym none))
+
+pub sent_ready : (now n : ℕ) (strand : List ℕ) (is : List Instance) (i : Instance) (p : Prepared) (step : Step) (e : Event) →
+    slice_get is n ≡ Some i → IsPrepared now strand i p → p.emitted ≡ Some e → step ≡ Whole (offered_one e (applied p.step i)) → IsReady now n strand is step p.until p.emitted
+sent_ready now n strand is i p step e there prepared emitted same =
+    prepared_ready now n strand is i p step there prepared (subst (λ s. Fits s i) (sym same) (fits_id p.step i prepared.fits))
+    (ap (λ s. applied s i) same ∙ ap (λ o. offered_own o (applied p.step i)) (sym emitted))

@@ -1,28 +1,19 @@
 -- What the timers say of the instances.
-use Rattle.std.proofs.Common.{◌≡◌, ◌∙◌, refl, sym, ℕ, ◌<◌, ◌≤◌, ◌==◌, ◌&&◌, inl, inr, List, [], ◌∷◌, nat_le, Bool, true, false, arith}
-use Rattle.std.proofs.lemmas.Bool.{le-leb, leb-true, eqb-true, eq-eqb, and_parts, and_from, or_cases, or_left, or_right, false_from_ne_true, cases_Bool}
+use Rattle.std.proofs.Common.{◌≡◌, ◌∙◌, sym, ℕ, ◌<◌, ◌≤◌, ◌==◌, ◌&&◌, ◌||◌, inl, inr, List, [], ◌∷◌, slice_get, nat_le, Bool, true, false, None, arith}
+use Rattle.std.proofs.lemmas.Bool.{le-leb, leb-true, lt-leb, eqb-true, and_parts, or_cases, or_left, or_right, false_from_ne_true}
 use Rattle.std.specs.List.{list_any}
-use Rattle.swf_meaning.specs.Wake.{until, is_by}
+use Rattle.swf_meaning.specs.Wake.{is_due}
 use Rattle.swf_meaning.specs.World.{Instance}
 use Rattle.swf_turns.specs.declared.timers.Timer.{Timer}
 use Rattle.swf_turns.specs.Line.{Line}
 use Rattle.swf_turns.specs.Waits.{is_set, is_over, Woken}
 use Rattle.swf_world.specs.Kept.{Waiting}
-use Rattle.swf_world.specs.Queued.{Queued}
-use Rattle.swf_world.specs.Waits.{above}
-use Rattle.swf_world.proofs.WaitLemmas.{enabled_later, wait_later, wait_within, wait_above, due_with, due_without}
+use Rattle.swf_world.specs.Queued.{Queued, enabled_at}
+use Rattle.swf_world.proofs.WaitLemmas.{enabled_later, nobody_due}
 
 -- a timer says that
 abbrev says : ℕ → ℕ → Timer → Bool
 says n m t = (n == t.number) && (m == t.until.0)
-
--- where some moment is reached, a timer is set until it
-pub some_over : (moment : ℕ) (timers : List Timer) → is_over moment timers ≡ true → (n : ℕ) × (m : ℕ) × (is_set n m timers ≡ true) × (nat_le m moment ≡ true)
-some_over moment [] e = cc
-some_over moment (t ∷ ts) e = elim (or_cases (nat_le t.until.0 moment) (is_over moment ts) e) [
-  | inl h ↦ (t.number, t.until.0, or_left (says t.number t.until.0 t) (is_set t.number t.until.0 ts) (and_from (t.number == t.number) (t.until.0 == t.until.0) (eq-eqb t.number t.number refl) (eq-eqb t.until.0 t.until.0 refl)), h)
-  | inr h ↦ let r = some_over moment ts h in (r.0, r.1, or_right (says r.0 r.1 t) (is_set r.0 r.1 ts) r.2, r.3)
-]
 
 -- where none is, none is set until one that is reached
 pub none_over : (moment : ℕ) (timers : List Timer) → is_over moment timers ≡ false → (n m : ℕ) → nat_le m moment ≡ true → is_set n m timers ≡ false
@@ -41,22 +32,27 @@ pub woken_all : (now moment : ℕ) (is : List Instance) (queue next : List ℕ) 
 woken_all now moment is queue next timers left w none le q = record {
   all = λ n e. elim (enabled_later now moment is n e) [
     | inl h ↦ w.kept n (q.all n h)
-    | inr h ↦ w.woken n h.0 (q.waits n h.0 ∙ h.1) (none_over moment left none n h.0 h.2)
+    | inr h ↦ w.woken n h.0 (q.waits n h.0 h.1 h.2) (none_over moment left none n h.0 h.3)
   ];
-  waits = λ n m. elim (cases_Bool (nat_le m moment)) [
-    | inl t ↦ none_over moment left none n m t ∙ sym (wait_above moment is n m t)
-    | inr t ↦ w.later n m t ∙ q.waits n m ∙ sym (wait_later now moment is n m le t)
-  ];
+  waits = λ n m later e. w.later n m (lt-leb m moment later) ∙ q.waits n m (omega arith) e;
+  known = λ n m e. q.known n m (w.only n m e);
 }
 
--- some wait is over by a moment exactly where a timer's moment is reached
-pub due_over : (now moment : ℕ) (is : List Instance) (queue : List ℕ) (timers : List Timer) → Queued now is queue timers → is_over moment timers ≡ list_any (λ i. is_by moment (above now (until i.node))) is
-due_over now moment is queue timers q = by (is_over moment timers) refl
-  where
-    by : (b : Bool) → is_over moment timers ≡ b → b ≡ list_any (λ i. is_by moment (above now (until i.node))) is
-    by true e = let r = some_over moment timers e in sym (due_with now moment is r.0 r.1 (sym (q.waits r.0 r.1) ∙ r.2) r.3)
-    by false e = sym (due_without now moment is (λ n m w. sym (q.waits n m) ∙ none_over moment timers e n m w))
+-- where no timer's moment is reached, and nobody has a turn, no strand waits until the moment
+pub none_waits : (now moment : ℕ) (is : List Instance) (queue : List ℕ) (timers : List Timer) → Queued now is queue timers → slice_get queue 0 ≡ None → is_over moment timers ≡ false → list_any (λ i. is_due moment i.node) is ≡ false
+none_waits now moment is [] timers q empty none =
+    nobody_due now moment is
+    (λ n. false_from_ne_true (enabled_at now is n) (λ e. let h = q.all n e in cc))
+    (λ n m later w. false_from_ne_true (nat_le m moment) (λ t. let f : true ≡ false = sym (q.waits n m later w) ∙ none_over moment timers none n m t in cc))
+none_waits now moment is (n ∷ queue) timers q empty none = cc
 
 -- each timer is of an instance that there is
 pub set_known : (now : ℕ) (is : List Instance) (turns : Line) (timers : List Timer) → Waiting is now turns timers → (n m : ℕ) → is_set n m timers ≡ true → n < turns.count
-set_known now is turns timers w n m e = let h = wait_within now is n m (sym (w.queued.waits n m) ∙ e) in omega (arith, w.count)
+set_known now is turns timers w n m e = let h = w.queued.known n m e in omega (arith, w.count)
+
+-- a timer was set, and each one is of an instance that there was
+pub set_within : (k n m count : ℕ) (b : Bool) (next timers : List Timer) → is_set k m next ≡ (((k == n) && b) || is_set k m timers) → n < count → (is_set k m timers ≡ true → k < count) → is_set k m next ≡ true → k < count
+set_within k n m count b next timers set within known e = elim (or_cases ((k == n) && b) (is_set k m timers) (sym set ∙ e)) [
+  | inl h ↦ omega (arith, within, eqb-true k n (and_parts (k == n) b h).0)
+  | inr h ↦ known h
+]

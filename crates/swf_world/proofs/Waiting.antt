@@ -9,9 +9,10 @@ use Rattle.std.specs.Map.{lookup, values_of}
 use Rattle.swf_text.specs.Same.{same}
 use Rattle.swf_meaning.specs.declared.label.Label.TheVariants.{Step}
 use Rattle.swf_meaning.specs.Local.{is_enabled}
+use Rattle.swf_meaning.specs.Strands.{can_go}
 use Rattle.swf_meaning.specs.World.{World, Instance}
 use Rattle.swf_meaning.specs.Answer.{instance_at}
-use Rattle.swf_meaning.specs.After.{after}
+use Rattle.swf_runs.specs.After.{after}
 use Rattle.swf_world.specs.declared.refusal.Refusal.TheVariants.{NotEnabled}
 use Rattle.swf_world.specs.Fields.{instances_in}
 use Rattle.swf_world.specs.Kept.{Kept, IsPlaced}
@@ -23,8 +24,9 @@ use Rattle.swf_turns.specs.Line.{is_among}
 use Rattle.swf_world.specs.Queued.{Queued, enabled_at}
 use Rattle.swf_turns.specs.Line.{Line}
 use Rattle.swf_world.specs.Refusals.{refusal, refusal_of_step}
-use Rattle.swf_world.specs.Enabled.{CanGo, strand_at, strands_of}
-use Rattle.swf_world.proofs.Lookups.{enabled_there, instance_lookup}
+use Rattle.swf_world.specs.Enabled.{CanGo}
+use Rattle.swf_world.proofs.Lookups.{instance_lookup, instance_there}
+use Rattle.swf_world.proofs.MachineLemmas.{enabled_there}
 use Rattle.swf_world.proofs.RefusalLaws.{taken_somewhere}
 
 -- the value of an entry
@@ -32,57 +34,24 @@ entry_value : (is : List (List ℕ × Instance)) (n : ℕ) (id : List ℕ) (v : 
 entry_value is n id v e = slice_get-map (λ e. e.1) is n ∙ ap (option_map (λ e. e.1)) (sym e)
 
 pub entry_enabled : (now : ℕ) (is : List (List ℕ × Instance)) (n : ℕ) (id : List ℕ) (v : Instance) → Some (id, v) ≡ slice_get is n → is_enabled now v.node ≡ enabled_at now (instances_in is) n
-entry_enabled now is n id v e = sym (enabled_there now is n v (entry_value is n id v e))
+entry_enabled now is n id v e = sym (enabled_there now (instances_in is) n v (instance_there is n v (entry_value is n id v e)))
 
 pub past_enabled : (now : ℕ) (is : List (List ℕ × Instance)) (n : ℕ) → None ≡ slice_get is n → false ≡ enabled_at now (instances_in is) n
 past_enabled now [] n e = refl
 past_enabled now (x ∷ xs) zero e = cc
 past_enabled now (x ∷ xs) (suc n) e = past_enabled now xs n e
 
--- the strand of an entry
-pub entry_strand : (now : ℕ) (is : List (List ℕ × Instance)) (n : ℕ) (id : List ℕ) (v : Instance) (b : Bool) → AllByRecursion IsPlaced is → Some (id, v) ≡ slice_get is n → b ≡ is_enabled now v.node →
-    strand_at now (instances_in is) n ≡ cond b ((id, []) ∷ []) []
-entry_strand now [] n id v b placed e t = cc
-entry_strand now (x ∷ xs) zero id v b placed e t =
-    let there : x ≡ (id, v) = same_Some x (id, v) (sym e) in
-    ap (λ y. cond (is_enabled now x.1.node) ((y, []) ∷ []) []) (sym placed.0)
-    ∙ (λ i. cond (is_enabled now (there i).1.node) (((there i).0, []) ∷ []) [])
-    ∙ ap (λ b. cond b ((id, []) ∷ []) []) (sym t)
-entry_strand now (x ∷ xs) (suc n) id v b placed e t = entry_strand now xs n id v b placed.1 e t
-
-pub past_strand : (now : ℕ) (is : List (List ℕ × Instance)) (n : ℕ) → None ≡ slice_get is n → strand_at now (instances_in is) n ≡ []
-past_strand now [] n e = refl
-past_strand now (x ∷ xs) zero e = cc
-past_strand now (x ∷ xs) (suc n) e = past_strand now xs n e
-
--- the strands of one instance more
-one_more : (now : ℕ) (is : List Instance) (n : ℕ) → strands_of now (take (suc n) is) ≡ strands_of now (take n is) ++ strand_at now is n
-one_more now [] zero = refl
-one_more now [] (suc n) = refl
-one_more now (i ∷ is) zero = refl
-one_more now (i ∷ is) (suc n) = by (is_enabled now i.node) (one_more now is n)
-  where
-    by : (b : Bool) → strands_of now (take (suc n) is) ≡ strands_of now (take n is) ++ strand_at now is n →
-        cond b ((i.id, []) ∷ strands_of now (take (suc n) is)) (strands_of now (take (suc n) is)) ≡ cond b ((i.id, []) ∷ strands_of now (take n is)) (strands_of now (take n is)) ++ strand_at now is n
-    by true h = ap (λ xs. (i.id, []) ∷ xs) h
-    by false h = h
-
-pub more_strands : (now : ℕ) (is : List Instance) (n : ℕ) → strands_of now (take (n + 1) is) ≡ strands_of now (take n is) ++ strand_at now is n
-more_strands now is n = ap (λ k. strands_of now (take k is)) (add-one n) ∙ one_more now is n
-
 -- a step that leads somewhere can go
-goes : (w : World) (id : List ℕ) (o : Option World) → after w (Step id []) ≡ o → is_some o ≡ true → CanGo w (Step id [])
-goes w id None e h = cc
-goes w id (Some m) e h = record { id = id; step = refl; next = m; after = e }
+goes : (w : World) (id strand : List ℕ) (o : Option World) → after w (Step id strand) ≡ o → is_some o ≡ true → CanGo w (Step id strand)
+goes w id strand None e h = cc
+goes w id strand (Some m) e h = record { id = id; strand = strand; step = refl; next = m; after = e }
 
--- the instance of a number that is enabled takes the step of its id
-pub entry_goes : (is : List (List ℕ × Instance)) (n : ℕ) (id : List ℕ) (v : Instance) (w : World) → AllByRecursion IsPlaced is → Some (id, v) ≡ slice_get is n → lookup (same id) is ≡ Some v → w.instances ≡ instances_in is → enabled_at w.now w.instances n ≡ true →
-    CanGo w (Step id [])
-entry_goes is n id v w placed e found there enabled =
-    let can : is_enabled w.now v.node ≡ true = entry_enabled w.now is n id v e ∙ ap (λ xs. enabled_at w.now xs n) (sym there) ∙ enabled in
+-- a strand that can take a step takes that of the id of its instance
+pub entry_goes : (is : List (List ℕ × Instance)) (id strand : List ℕ) (v : Instance) (w : World) → AllByRecursion IsPlaced is → lookup (same id) is ≡ Some v → w.instances ≡ instances_in is → can_go w.now strand v.node ≡ true → CanGo w (Step id strand)
+entry_goes is id strand v w placed found there can =
     let at : instance_at id w.instances ≡ Some v = ap (instance_at id) there ∙ instance_lookup id is placed ∙ found in
-    let taken : refusal w (Step id []) ≡ None = ap (refusal_of_step w.now []) at ∙ ap (λ b. cond b None (Some NotEnabled)) can in
-    goes w id (after w (Step id [])) refl (taken_somewhere w (Step id []) taken)
+    let taken : refusal w (Step id strand) ≡ None = ap (refusal_of_step w.now strand) at ∙ ap (λ b. cond b None (Some NotEnabled)) can in
+    goes w id strand (after w (Step id strand)) refl (taken_somewhere w (Step id strand) taken)
 
 -- some instance can take a step
 abbrev pub is_loud : ℕ → List Instance → Bool
@@ -109,6 +78,7 @@ queued_popped now is timers n queue gone q = record {
     | inr h ↦ h
   ];
   waits = q.waits;
+  known = q.known;
 }
 
 -- the same of the first of the queue
@@ -123,6 +93,7 @@ queued_turned now is timers [] w q = absurd (omega arith)
 queued_turned now is timers (n ∷ queue) w q = record {
   all = λ m e. turned m ∙ q.all m e;
   waits = q.waits;
+  known = q.known;
 }
   where
     or_swap : (a b : Bool) → (b || (a || false)) ≡ (a || b)

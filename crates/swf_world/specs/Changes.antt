@@ -1,5 +1,5 @@
 -- What a prepared change asks of the world that it is made for, and the world that it makes.
-use Rattle.std.specs.Prelude.{◌≡◌, ◌+◌, ◌<◌, ◌≤◌, ℕ, List, ◌++◌, false, length, Option, Some, None, option_map, option_and_then, option_to_list, slice_get}
+use Rattle.std.specs.Prelude.{◌≡◌, ◌+◌, ◌<◌, ◌≤◌, ◌||◌, ℕ, zero, suc, List, [], ◌∷◌, ◌++◌, true, false, length, Option, Some, None, option_map, option_to_list, slice_get}
 use Rattle.std.specs.List.{AllByRecursion}
 use Rattle.swf_cloudevents.specs.declared.event.Event.{Event}
 use Rattle.swf_document.specs.declared.document.DocKey.{DocKey}
@@ -8,16 +8,18 @@ use Rattle.swf_meaning.specs.declared.key.Key.TheVariants as keys
 use Rattle.swf_meaning.specs.Complete.{Stepped}
 use Rattle.swf_meaning.specs.Local.{local}
 use Rattle.swf_meaning.specs.Offer.{offered_one}
-use Rattle.swf_meaning.specs.Wake.{until}
+use Rattle.swf_meaning.specs.Wake.{waits}
 use Rattle.swf_meaning.specs.World.{World, Instance, sight, with_step}
-use Rattle.swf_meaning.specs.After.{is_used, counted, with_document, with_instance}
+use Rattle.swf_runs.specs.After.{is_used, counted, with_document, with_instance}
+use Rattle.swf_tasks.specs.Prepares.{applied, Fits, is_at, waits_for}
+use Rattle.swf_tasks.specs.declared.machine.Step.{Step}
 use Rattle.swf_world.specs.declared.change.Change.{Change}
 use Rattle.swf_world.specs.declared.change.ChangeKind.{ChangeKind}
 use Rattle.swf_world.specs.declared.change.ChangeKind.TheVariants as kinds
 use Rattle.swf_world.specs.declared.offer.Hearing.{Hearing}
 use Rattle.swf_world.specs.declared.world.Loaded.{Loaded}
 use Rattle.swf_world.specs.Kept.{IsNamed, IsPlaced}
-use Rattle.swf_world.specs.Offers.{put_at, put_all, IsHeardFrom}
+use Rattle.swf_world.specs.Offers.{put_all, IsHeardFrom}
 
 -- a document under its own key, which was not used
 pub record SuitsLoad (w : World) (key : DocKey) (used : Key) (loaded : Loaded) : Type 0 where
@@ -30,7 +32,7 @@ pub record SuitsStart (w : World) (id : List ℕ) (used : Key) (instance : Insta
   pub placed : IsPlaced (id, instance)
   pub used_is : used ≡ keys.Instance id
   pub new : is_used (keys.Instance id) w ≡ false
-  pub awake : until instance.node ≡ None
+  pub awake : waits instance.node ≡ []
 
 -- an event's key, which was not used, and instances that took the event, no more than there are
 pub record SuitsEvent (w : World) (used : Key) (heard : List Hearing) : Type 0 where
@@ -55,13 +57,25 @@ offered_own (Some e) i = offered_one e i
 abbrev pub after_step : Instance → Stepped → Instance × Option Event
 after_step i m = (offered_own m.emitted (with_step i m), m.emitted)
 
--- the same after its step at a moment; none where it can take none
-abbrev pub stepped_one : ℕ → Instance → Option (Instance × Option Event)
-stepped_one now i = option_map (after_step i) (local (sight now i) i.node)
+-- the same after a strand's step at a moment; none where it can take none
+abbrev pub stepped_one : ℕ → List ℕ → Instance → Option (Instance × Option Event)
+stepped_one now strand i = option_map (after_step i) (local (sight now i) strand i.node)
 
--- the instance of that number after its step is this one, this event goes out, and these took it, no more than there are
-pub record SuitsStep (w : World) (n : ℕ) (j : Instance) (emitted : Option Event) (heard : List Hearing) : Type 0 where
-  pub stepped : option_and_then (stepped_one w.now) (slice_get w.instances n) ≡ Some (j, emitted)
+-- what was prepared for the instance of that number is a strand's step, this event goes out, and no other moment is waited for than before
+-- and the new one
+pub record IsReady (now n : ℕ) (strand : List ℕ) (is : List Instance) (step : Step) (until : Option ℕ) (emitted : Option Event) : Type 0 where
+  pub instance : Instance
+  pub there : slice_get is n ≡ Some instance
+  pub fits : Fits step instance
+  pub stepped : stepped_one now strand instance ≡ Some (applied step instance, emitted)
+  pub waits : (m : ℕ) → waits_for m (applied step instance).node ≡ true → (is_at m until || waits_for m instance.node) ≡ true
+
+-- a strand of the instance of that number can take this step, and these, no more than there are, took the event that goes out; it is not one
+-- of them
+pub record SuitsStep (w : World) (n : ℕ) (step : Step) (until : Option ℕ) (emitted : Option Event) (heard : List Hearing) : Type 0 where
+  pub strand : List ℕ
+  pub ready : IsReady w.now n strand w.instances step until emitted
+  pub apart : slice_get (put_all heard w.instances) n ≡ slice_get w.instances n
   pub from : AllByRecursion (IsHeardFrom w.instances) heard
   pub few : length heard ≤ length w.instances
 
@@ -73,23 +87,33 @@ with_heard w used heard = record (counted used w) { instances = put_all heard w.
 abbrev pub with_moment : World → ℕ → World
 with_moment w moment = record (counted (keys.Moment moment) w) { now = moment }
 
--- an instance took its step
-abbrev pub with_stepped : World → ℕ → Instance → Option Event → List Hearing → World
-with_stepped w n j emitted heard = record w { instances = put_at n j (put_all heard w.instances); outbox = w.outbox ++ option_to_list emitted; count = w.count + 1 }
+-- the step fits the instance of that number
+abbrev pub FitsAt : ℕ → Step → List Instance → Type 0
+FitsAt n step is = (i : Instance) × (slice_get is n ≡ Some i) × Fits step i
+
+-- that instance took it
+abbrev pub take_at : ℕ → Step → List Instance → List Instance
+take_at n step [] = []
+take_at zero step (i ∷ is) = applied step i ∷ is
+take_at (suc n) step (i ∷ is) = i ∷ take_at n step is
+
+-- an instance took its step, and the event went out
+abbrev pub with_stepped : World → ℕ → Step → Option Event → List Hearing → World
+with_stepped w n step emitted heard = record w { instances = take_at n step (put_all heard w.instances); outbox = w.outbox ++ option_to_list emitted; count = w.count + 1 }
 
 abbrev pub suits : World → ChangeKind → Type 0
 suits w (kinds.Load key used loaded) = SuitsLoad w key used loaded
 suits w (kinds.Start id used instance) = SuitsStart w id used instance
 suits w (kinds.Event used heard) = SuitsEvent w used heard.items
 suits w (kinds.Moment moment) = SuitsMoment w moment
-suits w (kinds.Step n j emitted heard) = SuitsStep w n j emitted heard.items
+suits w (kinds.Step n step until emitted heard) = SuitsStep w n step until emitted heard.items
 
 abbrev pub changed_by : World → ChangeKind → World
 changed_by w (kinds.Load key used loaded) = with_document w loaded.value loaded.document
 changed_by w (kinds.Start id used instance) = with_instance w instance
 changed_by w (kinds.Event used heard) = with_heard w used heard.items
 changed_by w (kinds.Moment moment) = with_moment w moment
-changed_by w (kinds.Step n j emitted heard) = with_stepped w n j emitted heard.items
+changed_by w (kinds.Step n step until emitted heard) = with_stepped w n step emitted heard.items
 
 -- the change was made for a world in this state
 abbrev pub Suits : World → Change → Type 0

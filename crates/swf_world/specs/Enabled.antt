@@ -1,28 +1,23 @@
 -- The strands that can take a step.
-use Rattle.std.specs.Prelude.{◌≡◌, ℕ, zero, suc, List, [], ◌∷◌, Some, if◌then◌else◌}
+use Rattle.std.specs.Prelude.{◌≡◌, ℕ, List, [], Some, filter, flat_map, map}
 use Rattle.swf_meaning.specs.declared.label.Label.{Label}
 use Rattle.swf_meaning.specs.declared.label.Label.TheVariants.{Step}
-use Rattle.swf_meaning.specs.Local.{is_enabled}
+use Rattle.swf_meaning.specs.Strands.{can_go, strands}
 use Rattle.swf_meaning.specs.World.{World, Instance}
-use Rattle.swf_meaning.specs.After.{after}
+use Rattle.swf_runs.specs.After.{after}
 
-abbrev pub strands_of : ℕ → List Instance → List (List ℕ × List ℕ)
-strands_of now [] = []
-strands_of now (i ∷ is) = if is_enabled now i.node then (i.id, []) ∷ strands_of now is else strands_of now is
+-- those of an instance, ascending, each with the id of the instance
+abbrev pub enabled_of : ℕ → Instance → List (List ℕ × List ℕ)
+enabled_of now i = map (λ s. (i.id, s)) (filter (λ s. can_go now s i.node) (strands i.node))
 
--- the strand of the instance of that number, where it can take a step
-abbrev pub strand_at : ℕ → List Instance → ℕ → List (List ℕ × List ℕ)
-strand_at now [] n = []
-strand_at now (i ∷ is) zero = if is_enabled now i.node then (i.id, []) ∷ [] else []
-strand_at now (i ∷ is) (suc n) = strand_at now is n
-
--- every enabled strand with the id of its instance, in start order
+-- those of all instances, in start order
 abbrev pub enabled_strands : World → List (List ℕ × List ℕ)
-enabled_strands w = strands_of w.now w.instances
+enabled_strands w = flat_map (enabled_of w.now) w.instances
 
--- a step outside every branch that some instance can take now
+-- a step that a strand of some instance can take now
 pub record CanGo (w : World) (l : Label) : Type 0 where
   pub id : List ℕ
-  pub step : l ≡ Step id []
+  pub strand : List ℕ
+  pub step : l ≡ Step id strand
   pub next : World
   pub after : after w l ≡ Some next

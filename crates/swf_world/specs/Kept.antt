@@ -6,7 +6,7 @@ use Rattle.swf_text.specs.Same.{same}
 use Rattle.swf_document.specs.declared.document.DocKey.{DocKey}
 use Rattle.swf_meaning.specs.declared.key.Key.{Key}
 use Rattle.swf_meaning.specs.declared.key.Key.TheVariants as keys
-use Rattle.swf_meaning.specs.Keys.{same_key}
+use Rattle.swf_runs.specs.Keys.{same_key}
 use Rattle.swf_meaning.specs.World.{Instance}
 use Rattle.swf_turns.specs.declared.timers.Timer.{Timer}
 use Rattle.swf_world.specs.declared.world.Loaded.{Loaded}

@@ -3,7 +3,7 @@ use Rattle.std.specs.Prelude.{◌≡◌, ◌≤◌, ℕ, zero, suc, List, [], �
 use Rattle.std.specs.List.{AllByRecursion}
 use Rattle.swf_cloudevents.specs.declared.event.Event.{Event}
 use Rattle.swf_meaning.specs.Offer.{offered_all, offered_one}
-use Rattle.swf_meaning.specs.Wake.{until}
+use Rattle.swf_meaning.specs.Wake.{waits}
 use Rattle.swf_meaning.specs.World.{Instance}
 use Rattle.swf_world.specs.declared.offer.Hearing.{Hearing}
 
@@ -24,9 +24,9 @@ offered_but n e [] = []
 offered_but zero e (i ∷ is) = i ∷ offered_all e is
 offered_but (suc n) e (i ∷ is) = offered_one e i ∷ offered_but n e is
 
--- what no offer changes: the id, and until when it waits
-abbrev pub mark : Instance → List ℕ × Option ℕ
-mark i = (i.id, until i.node)
+-- what no offer changes: the id, and the moments that strands wait for
+abbrev pub mark : Instance → List ℕ × List ℕ
+mark i = (i.id, waits i.node)
 
 -- it is one of these instances, which took an event
 abbrev pub IsHeardFrom : List Instance → Hearing → Type 0

@@ -1,5 +1,5 @@
 -- What preparing a label answers in a world that has room.
-use Rattle.std.specs.Prelude.{◌≡◌, List, ℕ, length, option_and_then, slice_get, Some, None, Result, Ok, Err}
+use Rattle.std.specs.Prelude.{◌≡◌, List, ℕ, length, slice_get, Some, None, Result, Ok, Err}
 use Rattle.swf_value.specs.Value.{Value}
 use Rattle.swf_cloudevents.specs.declared.event.Event.{Event}
 use Rattle.swf_document.specs.declared.document.Document.{Document}
@@ -9,13 +9,13 @@ use Rattle.swf_meaning.specs.Complete.{Stepped}
 use Rattle.swf_meaning.specs.Local.{local}
 use Rattle.swf_meaning.specs.Offer.{takers}
 use Rattle.swf_meaning.specs.World.{World, Instance, new_instance, sight, with_step}
-use Rattle.swf_meaning.specs.After.{after, stepped, taken_by}
+use Rattle.swf_runs.specs.After.{after, stepped, taken_by}
 use Rattle.swf_world.specs.declared.change.Change.{Change}
 use Rattle.swf_world.specs.declared.change.ChangeKind.{ChangeKind}
 use Rattle.swf_world.specs.declared.change.ChangeKind.TheVariants as kinds
 use Rattle.swf_world.specs.declared.refusal.PrepareFault.{PrepareFault}
 use Rattle.swf_world.specs.declared.refusal.PrepareFault.TheVariants.{Refused, OutOfMemory}
-use Rattle.swf_world.specs.Changes.{Suits, changed, stepped_one}
+use Rattle.swf_world.specs.Changes.{IsReady, Suits, changed}
 use Rattle.swf_world.specs.Offers.{put_at, IsOffer, IsSent}
 use Rattle.swf_world.specs.Refusals.{refusal}
 
@@ -41,19 +41,20 @@ pub record IsTelling (is : List Instance) (e : Event) (c : Change) : Type 0 wher
   pub tells : TellsTo is e c.kind
   pub taken : c.taken ≡ takers e is
 
--- the instance of that number takes its step at a moment, and the others are told the event that goes out
-abbrev pub Steps : ℕ → ℕ → List Instance → ChangeKind → Type 0
-Steps now n is (kinds.Step m j emitted heard) = (m ≡ n) × (option_and_then (stepped_one now) (slice_get is n) ≡ Some (j, emitted)) × IsSent n emitted is heard.items
-Steps now n is k = ⊥
+-- a strand of the instance of that number takes its step at a moment, and the others are told the event that goes out
+abbrev pub Steps : ℕ → ℕ → List ℕ → List Instance → ChangeKind → Type 0
+Steps now n strand is (kinds.Step m step until emitted heard) = (m ≡ n) × IsReady now n strand is step until emitted × IsSent n emitted is heard.items
+Steps now n strand is k = ⊥
 
 -- the change of a step
-pub record IsStepping (now n : ℕ) (is : List Instance) (c : Change) : Type 0 where
-  pub steps : Steps now n is c.kind
+pub record IsStepping (now n : ℕ) (strand : List ℕ) (is : List Instance) (c : Change) : Type 0 where
+  pub steps : Steps now n strand is c.kind
   pub taken : c.taken ≡ 0
 
--- the instance of that number is the first of its id: its step is the one of the definitions
-abbrev pub StepsFirst : World → List ℕ → ℕ → Type 0
-StepsFirst w id n = (i : Instance) (m : Stepped) → slice_get w.instances n ≡ Some i → local (sight w.now i) i.node ≡ Some m → stepped w.now id w.instances ≡ Some (put_at n (with_step i m) w.instances, m.emitted)
+-- the instance of that number is the first of its id: a strand's step is the one of the definitions
+abbrev pub StepsFirst : World → List ℕ → List ℕ → ℕ → Type 0
+StepsFirst w id strand n =
+    (i : Instance) (m : Stepped) → slice_get w.instances n ≡ Some i → local (sight w.now i) strand i.node ≡ Some m → stepped w.now id strand w.instances ≡ Some (put_at n (with_step i m) w.instances, m.emitted)
 
 -- what was made, or want of memory
 abbrev pub or_memory : {E : Type 0} → Result Change E → Result Change PrepareFault

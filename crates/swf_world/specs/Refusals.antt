@@ -1,15 +1,15 @@
 -- Why a label is not taken: the first cause in order.
-use Rattle.std.specs.Prelude.{◌&&◌, ℕ, List, Bool, not, nat_le, length, Option, Some, None, Result, Ok, Err, unwrap_or, if◌then◌else◌}
+use Rattle.std.specs.Prelude.{ℕ, List, Bool, not, nat_le, length, Option, Some, None, Result, Ok, Err, unwrap_or, if◌then◌else◌}
 use Rattle.swf_document.specs.declared.fault.Fault.{Fault}
 use Rattle.swf_document.specs.declared.document.Document.{Document}
 use Rattle.swf_meaning.specs.declared.label.Label.{Label}
 use Rattle.swf_meaning.specs.declared.label.Label.TheVariants.{Load, Start, Event, Reply, Moment, Step}
 use Rattle.swf_meaning.specs.declared.key.Key.{Key}
 use Rattle.swf_meaning.specs.declared.key.Key.TheVariants as keys
-use Rattle.swf_meaning.specs.World.{World, Instance, is_root}
-use Rattle.swf_meaning.specs.Local.{is_enabled}
+use Rattle.swf_meaning.specs.World.{World, Instance}
+use Rattle.swf_meaning.specs.Strands.{can_go}
 use Rattle.swf_meaning.specs.Answer.{instance_at}
-use Rattle.swf_meaning.specs.After.{document_at, most_documents, most_instances, load_faults, accepted, is_open}
+use Rattle.swf_runs.specs.After.{document_at, most_documents, most_instances, load_faults, accepted, is_open}
 use Rattle.swf_world.specs.UsedKey.{used_at}
 use Rattle.swf_world.specs.declared.refusal.Refusal.{Refusal}
 use Rattle.swf_world.specs.declared.refusal.Refusal.TheVariants.{Refused, Duplicate, Stale, UnknownDocument, UnknownInstance, Full, Past, NotEnabled}
@@ -48,7 +48,7 @@ refusal_of_moment w moment = cause (nat_le moment w.now) (Past w.now) None
 -- a step is refused where there is no such instance, or its strand can take none
 abbrev pub refusal_of_step : ℕ → List ℕ → Option Instance → Option Refusal
 refusal_of_step now strand None = Some UnknownInstance
-refusal_of_step now strand (Some i) = if is_root strand && is_enabled now i.node then None else Some NotEnabled
+refusal_of_step now strand (Some i) = if can_go now strand i.node then None else Some NotEnabled
 
 abbrev pub refusal : World → Label → Option Refusal
 refusal w (Load v) = refusal_of_load w (load_faults v) (accepted v)

@@ -1,25 +1,21 @@
 -- Until when instances wait.
-use Rattle.std.specs.Prelude.{◌==◌, ℕ, zero, suc, List, [], ◌∷◌, Bool, false, nat_le, Option, Some, None, if◌then◌else◌}
+use Rattle.std.specs.Prelude.{◌&&◌, ℕ, zero, suc, List, [], ◌∷◌, Bool, false, nat_le, nat_lt, Option, Some, None, if◌then◌else◌}
 use Rattle.std.specs.List.{list_any}
-use Rattle.swf_meaning.specs.Wake.{until, is_by}
+use Rattle.swf_meaning.specs.Wake.{is_due as is_due_in}
 use Rattle.swf_meaning.specs.World.{World, Instance}
+use Rattle.swf_tasks.specs.Prepares.{waits_for}
 
 -- a moment, where it is above now
 abbrev pub above : ℕ → Option ℕ → Option ℕ
 above now None = None
 above now (Some m) = if nat_le m now then None else Some m
 
--- the moment above now that the instance of that number waits for
-abbrev pub wait_at : ℕ → List Instance → ℕ → Option ℕ
-wait_at now [] n = None
-wait_at now (i ∷ is) zero = above now (until i.node)
-wait_at now (i ∷ is) (suc n) = wait_at now is n
+-- a strand of the instance of that number waits until that moment
+abbrev pub waits_at : List Instance → ℕ → ℕ → Bool
+waits_at [] n m = false
+waits_at (i ∷ is) zero m = waits_for m i.node
+waits_at (i ∷ is) (suc n) m = waits_at is n m
 
--- it is that moment
-abbrev pub is_at : ℕ → Option ℕ → Bool
-is_at m None = false
-is_at m (Some k) = m == k
-
--- some instance waits now, and waits no more at that moment
+-- the moment is above now, and a strand of some instance waits until it, or until one before it
 abbrev pub is_due : World → ℕ → Bool
-is_due w moment = list_any (λ i. is_by moment (above w.now (until i.node))) w.instances
+is_due w moment = nat_lt w.now moment && list_any (λ i. is_due_in moment i.node) w.instances

@@ -14,13 +14,14 @@ fn is_built(kind: &Kind) -> bool
         Kind::Do(_)
         | Kind::Emit(_)
         | Kind::For(_)
+        | Kind::Fork(_)
         | Kind::Listen(_)
         | Kind::Raise(_)
         | Kind::Set(_)
         | Kind::Switch(_)
         | Kind::Try(_)
         | Kind::Wait(_) => true,
-        Kind::Call(_) | Kind::Fork(_) | Kind::Run(_) => false,
+        Kind::Call(_) | Kind::Run(_) => false,
     }
 }
 
@@ -49,6 +50,7 @@ fn unbuilt_task(task: &Task) -> Option<&Place>
     match &task.kind {
         Kind::Do(tasks) => unbuilt(tasks.as_slice()),
         Kind::For(spec) => unbuilt(spec.tasks.as_slice()),
+        Kind::Fork(spec) => unbuilt(spec.branches.as_slice()),
         Kind::Try(spec) => {
             if let Some(handler) = &spec.handler {
                 let place = unbuilt(handler.as_slice());
@@ -78,11 +80,8 @@ pub fn not_built(alloc: Global, document: &Document) -> Result<Faults, AllocErro
     ensures { IfOk result (λ faults. faults ≡ not_built document.now) }
 {
     let mut faults = Faults::new(alloc);
-    match first_unbuilt(document) {
-        Some(place) => {
-            faults.push(place.copy(alloc)?, FaultKind::NotInProfile)?;
-            Ok(faults)
-        }
-        None => Ok(faults),
+    if let Some(place) = first_unbuilt(document) {
+        faults.push(place.copy(alloc)?, FaultKind::NotInProfile)?;
     }
+    Ok(faults)
 }

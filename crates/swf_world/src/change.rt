@@ -1,18 +1,19 @@
 // Changes of the world, and how they are made.
-ghost use Rattle.std.specs.Prelude.{◌≡◌, ◌≤◌, ◌<◌, ◌^◌, ◌++◌, ◌∷◌, ◌==◌, ◌&&◌, ◌||◌, [], ℕ, List, None, Some, length, option_map, option_to_list, slice_get, true};
+ghost use Rattle.std.specs.Prelude.{◌≡◌, ◌≤◌, ◌<◌, ◌^◌, ◌++◌, ◌∷◌, ◌==◌, ◌&&◌, ◌||◌, [], ℕ, List, None, length, option_to_list, true};
 ghost use Rattle.std.specs.List.{AllByRecursion};
 ghost use Rattle.std.specs.Vec.{vec_len, vec_capacity};
 ghost use Rattle.indexmap.specs.IndexMap.{get, keys, spare};
-ghost use Rattle.swf_meaning.specs.After.{with_document, with_instance};
+ghost use Rattle.swf_runs.specs.After.{with_document, with_instance};
 ghost use Rattle.swf_world.specs.Fields.{instances_in};
 ghost use Rattle.swf_world.specs.Kept.{IsPlaced};
-ghost use Rattle.swf_world.specs.Changes.{Suits, SuitsLoad, SuitsStart, SuitsEvent, SuitsMoment, SuitsStep, with_heard, with_moment, with_stepped, changed};
-ghost use Rattle.swf_world.specs.Offers.{put_at, put_all, IsHeardFrom};
+ghost use Rattle.swf_world.specs.Changes.{Suits, SuitsLoad, SuitsStart, SuitsEvent, SuitsMoment, SuitsStep, FitsAt, take_at, with_heard, with_moment, with_stepped, changed};
+ghost use Rattle.swf_world.specs.Offers.{put_all, IsHeardFrom};
 ghost use Rattle.swf_turns.specs.Line.{is_among};
 ghost use Rattle.swf_turns.specs.Waits.{is_set};
 ghost use Rattle.swf_turns.specs.declared.timers.Timer.{Timer};
 ghost use Rattle.swf_world.specs.Queued.{Queued};
-ghost use Rattle.swf_world.specs.Waits.{above, is_at};
+ghost use Rattle.swf_tasks.specs.Prepares.{is_at};
+ghost use Rattle.swf_world.specs.Waits.{above};
 
 use crate::offer::Hearing;
 use crate::world::{Loaded, World};
@@ -22,7 +23,7 @@ use swf_cloudevents::Event;
 use swf_document::DocKey;
 use swf_duration::Moment;
 use swf_meaning::Key;
-use swf_tasks::Machine;
+use swf_tasks::{Machine, Step};
 use swf_text::Text;
 use swf_turns::{Timers, Turns};
 
@@ -55,10 +56,12 @@ pub enum ChangeKind {
     },
     /// The moment that is reached, in milliseconds.
     Moment(u64),
-    /// The instance of that number after its step, the event that goes out, and the others that took it.
+    /// The step of the instance of that number, the moment that its strand begins to wait for, the event that goes out, and the
+    /// others that took it.
     Step {
         number: usize,
-        instance: Machine,
+        step: Step,
+        until: Option<u64>,
         emitted: Option<Event>,
         heard: Vec<Hearing>,
     },
@@ -91,10 +94,11 @@ impl World {
             ChangeKind::Moment(moment) => self.install_moment(moment),
             ChangeKind::Step {
                 number,
-                instance,
+                step,
+                until,
                 emitted,
                 heard,
-            } => self.install_step(number, instance, emitted, heard),
+            } => self.install_step(number, step, until, emitted, heard),
         }
         Installed { place, taken }
     }
@@ -143,21 +147,22 @@ impl World {
         self.count += 1;
     }
 
-    // The others that took the event are in their places before the instance itself.
+    // The others that took the event are in their places before the instance itself takes its step.
     fn install_step(
         &mut self,
         number: usize,
-        instance: Machine,
+        step: Step,
+        until: Option<u64>,
         emitted: Option<Event>,
         heard: Vec<Hearing>,
     )
-        requires suits { SuitsStep self.old.world number instance emitted heard.items }
+        requires suits { SuitsStep self.old.world number step until emitted heard.items }
         requires room { 0 < self.old.room }
-        ensures { self.new.world ≡ with_stepped self.old.world number instance emitted heard.items }
+        ensures { self.new.world ≡ with_stepped self.old.world number step emitted heard.items }
     {
         install_heard(&mut self.instances, &mut self.turns, heard);
-        set_timer(&mut self.timers, number, instance.until(), self.moment);
-        go_on(&mut self.instances, number, instance);
+        set_timer(&mut self.timers, number, until, self.moment);
+        take_at(&mut self.instances, number, step);
         put_out(&mut self.outbox, emitted);
         self.count += 1;
     }
@@ -178,22 +183,22 @@ fn install_heard(instances: &mut IndexMap<Text, Machine>, turns: &mut Turns, hea
 {
     for Hearing { number, instance } in heard {
         turns.put(number);
-        go_on(instances, number, instance);
+        take_at(instances, number, Step::Whole(instance));
     }
 }
 
-// The instance of a number is now this one, of the same id.
-fn go_on(instances: &mut IndexMap<Text, Machine>, number: usize, instance: Machine)
+// The instance of a number takes a step that was prepared.
+fn take_at(instances: &mut IndexMap<Text, Machine>, number: usize, step: Step)
     requires placed { AllByRecursion IsPlaced instances.old.entries }
-    requires same { option_map (λ i. i.id) (slice_get (instances_in instances.old.entries) number) ≡ Some instance.id }
-    ensures stepped { instances_in instances.new.entries ≡ put_at number instance (instances_in instances.old.entries) }
+    requires fits { FitsAt number step (instances_in instances.old.entries) }
+    ensures stepped { instances_in instances.new.entries ≡ take_at number step (instances_in instances.old.entries) }
     ensures placed { AllByRecursion IsPlaced instances.new.entries }
     ensures ids { keys instances.new ≡ keys instances.old }
 {
-    instances[number] = instance;
+    instances[number].take(step);
 }
 
-// Adds the timer of an instance that waits, unless its wait is over.
+// Adds the timer of an instance that begins to wait, unless the moment has come.
 fn set_timer(timers: &mut Timers, number: usize, until: Option<u64>, now: Moment)
     requires { 0 < timers.old.room }
     ensures { (n m : ℕ) → is_set n m timers.new.set ≡ (((n == number) && is_at m (above now until)) || is_set n m timers.old.set) }

@@ -1,7 +1,7 @@
 // How a used key is looked up without a copy.
 ghost use Rattle.std.specs.Prelude.{◌≡◌, refl};
 ghost use Rattle.swf_world.specs.UsedKey.{stands_for, hashed_alike, stands_alike, sought_alike, used_at, sought_key};
-ghost use Rattle.swf_meaning.specs.Keys.{same_doc};
+ghost use Rattle.swf_runs.specs.Keys.{same_doc};
 
 use indexmap::{Equivalent, IndexMap};
 use std::hash::Hash;

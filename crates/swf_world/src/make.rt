@@ -1,5 +1,8 @@
 // The changes that labels make.
 ghost use Rattle.std.specs.Prelude.{◌≡◌, ◌<◌, length, IfOk};
+ghost use Rattle.swf_meaning.specs.Offer.{offered_one};
+ghost use Rattle.swf_tasks.specs.Prepares.{applied, Fits};
+ghost use Rattle.swf_tasks.specs.declared.machine.Step.TheVariants as Step;
 ghost use Rattle.swf_world.specs.Fields.{instances_in};
 ghost use Rattle.swf_world.specs.Prepares.{untold, load_of, start_of, IsTelling, IsStepping};
 
@@ -11,7 +14,7 @@ use std::alloc::{AllocError, Global};
 use swf_cloudevents::Event;
 use swf_duration::Moment;
 use swf_meaning::Key;
-use swf_tasks::{Machine, Site, StepResult};
+use swf_tasks::{Machine, Site, Step};
 use swf_text::{Strand, Text};
 use swf_validate::Accepted;
 use swf_value::Json;
@@ -72,7 +75,7 @@ pub fn event_change(
     })
 }
 
-/// The change that puts an instance after its step in its place. An event that goes out is offered to all, and to it as well.
+/// The change of an instance's step. An event that goes out is offered to all, and to it as well.
 pub fn step_change(
     alloc: Global,
     number: usize,
@@ -81,22 +84,39 @@ pub fn step_change(
     site: &Site<'_>,
 ) -> Result<Change, AllocError>
     requires { number < length instances.now.entries }
-    ensures { IfOk result (IsStepping site.entry.now.now number (instances_in instances.now.entries)) }
+    ensures { IfOk result (IsStepping site.entry.now.now number strand.now (instances_in instances.now.entries)) }
 {
-    let mut instance = instances[number].copy(alloc)?;
-    let (emitted, heard) = match instance.step(alloc, strand, site) {
-        Ok(StepResult::Quiet) => (None, Vec::new(alloc)),
-        Ok(StepResult::Emitted(event)) => {
-            instance.deliver_event(alloc, &event)?;
-            let offered = offer(alloc, &event, instances, number)?;
-            (Some(event), offered.heard)
-        }
-        Err(_) => return Err(AllocError),
+    let instance = &instances[number];
+    let Ok(prepared) = instance.prepare(alloc, strand, site) else {
+        return Err(AllocError);
     };
+    let mut step = prepared.step;
+    let mut heard = Vec::new(alloc);
+    if let Some(event) = &prepared.emitted {
+        step = offered_step(alloc, instance, step, event)?;
+        heard = offer(alloc, event, instances, number)?.heard;
+    }
     Ok(untold(ChangeKind::Step {
         number,
-        instance,
-        emitted,
+        step,
+        until: prepared.until,
+        emitted: prepared.emitted,
         heard,
     }))
+}
+
+// The step of an instance that is offered the event which goes out.
+fn offered_step(
+    alloc: Global,
+    instance: &Machine,
+    step: Step,
+    event: &Event,
+) -> Result<Step, AllocError>
+    requires { Fits step instance.now }
+    ensures { IfOk result (λ s. s ≡ Step.Whole (offered_one event.now (applied step instance.now))) }
+{
+    let mut instance = instance.copy(alloc)?;
+    instance.take(step);
+    instance.deliver_event(alloc, event)?;
+    Ok(Step::Whole(instance))
 }

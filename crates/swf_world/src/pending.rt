@@ -1,19 +1,18 @@
 // What all instances wait for, and the events that went out.
-ghost use Rattle.std.specs.Prelude.{◌≡◌, ◌++◌, ◌∷◌, [], IfOk, OnOk, IsTrue, drop, take, if◌then◌else◌};
+ghost use Rattle.std.specs.Prelude.{◌≡◌, ◌++◌, ◌∷◌, [], IfOk, OnOk, IsTrue, codes, drop, map, take, option_to_list, if◌then◌else◌};
 ghost use Rattle.swf_text.specs.Same.{is_ascii};
 ghost use Rattle.swf_value.specs.Value.{list};
 ghost use Rattle.swf_value.specs.Node.{items_of};
-ghost use Rattle.swf_meaning.specs.Pending.{is_listening, root_value, listen_value, timer_value, listens, timers, timer_before, pending_value, outbox_value};
+ghost use Rattle.swf_meaning.specs.Pending.{listening, waiting, strand_value, listen_value, timer_value, pending_value, outbox_value};
 ghost use Rattle.swf_meaning.specs.Printed.{most_told};
-ghost use Rattle.swf_meaning.specs.Wake.{until};
+ghost use Rattle.swf_strands.specs.Ways.{listens_at, until_at};
 ghost use Rattle.swf_world.specs.Fields.{instances_in};
 
 use indexmap::IndexMap;
 use std::alloc::{AllocError, Global};
 use swf_cloudevents::{Event, event_json};
-use swf_duration::Moment;
 use swf_tasks::Machine;
-use swf_text::Text;
+use swf_text::{Strand, Text};
 use swf_value::{Json, Member, member};
 
 /// How many events are told at most.
@@ -23,19 +22,13 @@ const MOST_TOLD: usize = 100;
 const GREATEST: u64 = 9_007_199_254_740_991;
 
 /// The listens and the timers of all instances, in start order. No task that is built makes a call.
-pub fn pending(
-    alloc: Global,
-    instances: &IndexMap<Text, Machine>,
-    now: Moment,
-) -> Result<Json, AllocError>
+pub fn pending(alloc: Global, instances: &IndexMap<Text, Machine>) -> Result<Json, AllocError>
     ensures { IfOk result (λ v. v ≡ pending_value (instances_in instances.now.entries)) }
 {
     let mut listens = Vec::new(alloc);
     let mut timers = Vec::new(alloc);
     for number in 0..instances.len() {
-        let instance = &instances[number];
-        push_listen(alloc, &mut listens, instance, now)?;
-        push_timer(alloc, &mut timers, instance)?;
+        push_instance(alloc, &mut listens, &mut timers, &instances[number])?;
     }
     let mut members = Vec::new(alloc);
     members.push(list_member(alloc, "calls", Vec::new(alloc))?)?;
@@ -74,66 +67,88 @@ fn list_member(alloc: Global, name: &str, items: Vec<Json>) -> Result<Member, Al
     member(alloc, name, Json::list(alloc, items)?)
 }
 
-// Adds what is told of an instance that listens.
+// Adds what is told of the strands of an instance that listen or wait, ascending.
+fn push_instance(
+    alloc: Global,
+    listens: &mut Vec<Json>,
+    timers: &mut Vec<Json>,
+    instance: &Machine,
+) -> Result<(), AllocError>
+    ensures listens { OnOk result (listens.new.items ≡ listens.old.items ++ map (listen_value instance.now) (listening [] instance.now.node)) }
+    ensures timers { OnOk result (timers.new.items ≡ timers.old.items ++ map (timer_value instance.now) (waiting [] instance.now.node)) }
+{
+    for strand in instance.strands(alloc)? {
+        push_listen(alloc, listens, instance, &strand)?;
+        push_timer(alloc, timers, instance, &strand)?;
+    }
+    Ok(())
+}
+
+// Adds what is told of a strand that listens.
 fn push_listen(
     alloc: Global,
     listens: &mut Vec<Json>,
     instance: &Machine,
-    now: Moment,
+    strand: &Strand,
 ) -> Result<(), AllocError>
-    ensures { OnOk result (listens.new.items ≡ listens.old.items ++ (if is_listening instance.now.node then listen_value instance.now ∷ [] else [])) }
+    ensures { OnOk result (listens.new.items ≡ listens.old.items ++ (if listens_at strand.now instance.now.node then listen_value instance.now strand.now ∷ [] else [])) }
 {
-    if is_listening(instance, now) {
-        listens.push(listen_value(alloc, instance)?)?;
+    if instance.listens(strand) {
+        listens.push(listen_value(alloc, instance, strand)?)?;
     }
     Ok(())
 }
 
-// Adds what is told of an instance that waits until a moment.
-fn push_timer(alloc: Global, timers: &mut Vec<Json>, instance: &Machine) -> Result<(), AllocError>
-    ensures { OnOk result (timers.new.items ≡ timers.old.items ++ timer_before instance.now (until instance.now.node) []) }
+// Adds what is told of a strand that waits for a moment.
+fn push_timer(
+    alloc: Global,
+    timers: &mut Vec<Json>,
+    instance: &Machine,
+    strand: &Strand,
+) -> Result<(), AllocError>
+    ensures { OnOk result (timers.new.items ≡ timers.old.items ++ map (λ m. timer_value instance.now (strand.now, m)) (option_to_list (until_at strand.now instance.now.node))) }
 {
-    if let Some(until) = instance.until() {
-        timers.push(timer_value(alloc, instance, until)?)?;
+    if let Some(until) = instance.until(strand) {
+        timers.push(timer_value(alloc, instance, strand, until)?)?;
     }
     Ok(())
 }
 
-// Whether an instance listens, and has not heard all: it has not ended, can take no step and waits for no moment.
-fn is_listening(instance: &Machine, now: Moment) -> bool
-    ensures { result ≡ is_listening instance.now.node }
+// The numbers of a strand's branches.
+fn strand_member(alloc: Global, strand: &Strand) -> Result<Member, AllocError>
+    ensures { IfOk result (λ m. m ≡ record { name = codes "strand"; value = strand_value strand.now }) }
 {
-    if instance.is_enabled(now) {
-        return false;
+    let mut items = Vec::new(alloc);
+    for number in strand.as_slice() {
+        items.push(Json::int(*number as i64))?;
     }
-    if instance.until().is_some() {
-        return false;
-    }
-    if instance.output().is_some() {
-        return false;
-    }
-    instance.problem().is_none()
+    list_member(alloc, "strand", items)
 }
 
-fn listen_value(alloc: Global, instance: &Machine) -> Result<Json, AllocError>
-    ensures { IfOk result (λ v. v ≡ listen_value instance.now) }
+fn listen_value(alloc: Global, instance: &Machine, strand: &Strand) -> Result<Json, AllocError>
+    ensures { IfOk result (λ v. v ≡ listen_value instance.now strand.now) }
 {
     let mut members = Vec::new(alloc);
     members.push(member(alloc, "instance", Json::text(instance.id().copy()?))?)?;
-    members.push(list_member(alloc, "strand", Vec::new(alloc))?)?;
+    members.push(strand_member(alloc, strand)?)?;
     Json::object(alloc, members)
 }
 
 // A moment above the greatest number that a value holds counts as want of memory.
-fn timer_value(alloc: Global, instance: &Machine, until: u64) -> Result<Json, AllocError>
-    ensures { IfOk result (λ v. v ≡ timer_value instance.now until) }
+fn timer_value(
+    alloc: Global,
+    instance: &Machine,
+    strand: &Strand,
+    until: u64,
+) -> Result<Json, AllocError>
+    ensures { IfOk result (λ v. v ≡ timer_value instance.now (strand.now, until)) }
 {
     if until > GREATEST {
         return Err(AllocError);
     }
     let mut members = Vec::new(alloc);
     members.push(member(alloc, "instance", Json::text(instance.id().copy()?))?)?;
-    members.push(list_member(alloc, "strand", Vec::new(alloc))?)?;
+    members.push(strand_member(alloc, strand)?)?;
     members.push(member(alloc, "until", Json::int(until as i64))?)?;
     Json::object(alloc, members)
 }

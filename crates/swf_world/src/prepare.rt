@@ -1,17 +1,15 @@
 // Whether a label is taken, and the change that it makes.
-ghost use Rattle.std.specs.Prelude.{◌≡◌, ◌<◌, List, length, Err, IfOk, OnOk, None, Some, true};
+ghost use Rattle.std.specs.Prelude.{◌≡◌, ◌<◌, List, length, Err, IfOk, OnOk, None, Some};
 ghost use Rattle.swf_calls.specs.declared.reply.CallReply.{CallReply as Reply};
 ghost use Rattle.swf_document.specs.declared.document.Document.{Document as Read};
 ghost use Rattle.swf_document.specs.declared.fault.Fault.{Fault};
 ghost use Rattle.swf_meaning.specs.declared.key.Key.TheVariants as keys;
-ghost use Rattle.swf_meaning.specs.World.{is_root};
 ghost use Rattle.swf_meaning.specs.Answer.{instance_at};
-ghost use Rattle.swf_meaning.specs.After.{after, accepted, document_at, load_faults, taken_by};
+ghost use Rattle.swf_runs.specs.After.{after, accepted, document_at, load_faults, taken_by};
 ghost use Rattle.std.specs.List.{AllByRecursion};
 ghost use Rattle.swf_world.specs.Early.{IsEarly, IsEarlyRefusal};
 ghost use Rattle.swf_world.specs.Changes.{Suits, changed};
 ghost use Rattle.swf_world.specs.Refusals.{refusal, refusal_of_load, refusal_of_start, refusal_of_moment, refusal_of_step, duplicate, refused_by, IsLoad};
-ghost use Rattle.swf_world.specs.Queued.{enabled_at};
 ghost use Rattle.swf_world.specs.UsedKey.{used_at};
 ghost use Rattle.swf_world.specs.Prepares.{Prepares, StepsFirst, IsStepping, or_memory};
 
@@ -49,17 +47,11 @@ impl World {
     {
         match label {
             Label::Load(_) => Ok(()),
-            Label::Start { id, key, .. } => match self.startable(id, key) {
-                Ok(_) => Ok(()),
-                Err(refusal) => Err(refusal),
-            },
+            Label::Start { id, key, .. } => self.startable(id, key).map(|_| ()),
             Label::Event(event) => self.tellable(event),
             Label::Reply { activity, .. } => Err(self.reply_refusal(activity)),
             Label::Moment(moment) => self.reachable(*moment),
-            Label::Step { id, strand } => match self.steppable(id, strand) {
-                Ok(_) => Ok(()),
-                Err(refusal) => Err(refusal),
-            },
+            Label::Step { id, strand } => self.steppable(id, strand).map(|_| ()),
         }
     }
 
@@ -152,7 +144,7 @@ impl World {
 
     fn step_change(&self, number: usize, strand: &Strand) -> Result<Change, AllocError>
         requires { number < length self.now.world.instances }
-        ensures { IfOk result (IsStepping self.now.world.now number self.now.world.instances) }
+        ensures { IfOk result (IsStepping self.now.world.now number strand.now self.now.world.instances) }
     {
         let words = self.words.as_ref().ok_or(AllocError)?;
         let site = Site {
@@ -244,10 +236,10 @@ impl World {
         Ok(())
     }
 
-    // The number of the instance that can take a step, or why it cannot.
+    // The number of the instance whose strand can take a step, or why it cannot.
     fn steppable(&self, id: &Text, strand: &Strand) -> Result<usize, Refusal>
         ensures refused { refused_by result ≡ refusal_of_step self.now.world.now strand.now (instance_at id.now self.now.world.instances) }
-        ensures found { IfOk result (λ n. (enabled_at self.now.world.now self.now.world.instances n ≡ true) × (is_root strand.now ≡ true) × StepsFirst self.now.world id.now n) }
+        ensures found { IfOk result (λ n. (n < length self.now.world.instances) × StepsFirst self.now.world id.now strand.now n) }
     {
         let Some(number) = self.instances.get_index_of(id) else {
             return Err(Refusal::UnknownInstance);
@@ -264,10 +256,7 @@ impl World {
 fn ready(made: Result<Change, AllocError>) -> Result<Change, PrepareFault>
     ensures { result ≡ or_memory made }
 {
-    match made {
-        Ok(change) => Ok(change),
-        Err(_) => Err(PrepareFault::OutOfMemory),
-    }
+    made.map_err(|_| PrepareFault::OutOfMemory)
 }
 
 // The document of a value that can be loaded, or its faults.

@@ -3,15 +3,11 @@ ghost use Rattle.std.specs.Prelude.{◌≡◌, ◌⊎◌, ◌++◌, List, Err, I
 ghost use Rattle.swf_world.specs.Answers.{answer, found, IsOfWorld};
 ghost use Rattle.swf_meaning.specs.declared.label.Label.{Label};
 ghost use Rattle.swf_meaning.specs.Answer.{status};
-ghost use Rattle.swf_world.specs.Enabled.{enabled_strands, strand_at};
-ghost use Rattle.swf_world.specs.Fields.{instances_in};
-ghost use Rattle.swf_world.specs.Kept.{IsPlaced};
-ghost use Rattle.std.specs.List.{AllByRecursion};
+ghost use Rattle.swf_world.specs.Enabled.{enabled_of, enabled_strands};
 
 use crate::pending::{outbox, pending};
 use crate::reports::report;
 use crate::world::World;
-use indexmap::IndexMap;
 use std::alloc::{AllocError, Global};
 use swf_duration::Moment;
 use swf_meaning::{Answer, Query};
@@ -36,7 +32,7 @@ impl World {
     {
         match query {
             Query::Status(id) => self.status(id),
-            Query::Pending => match pending(self.alloc, &self.instances, self.moment) {
+            Query::Pending => match pending(self.alloc, &self.instances) {
                 Ok(value) => Ok(Answer::Pending(value)),
                 Err(_) => Err(QueryFault::OutOfMemory),
             },
@@ -67,32 +63,25 @@ impl World {
     {
         let mut strands = Vec::new(self.alloc);
         for number in 0..self.instances.len() {
-            push_enabled(
-                self.alloc,
-                &mut strands,
-                &self.instances,
-                number,
-                self.moment,
-            )?;
+            let instance = &self.instances[number];
+            push_enabled(self.alloc, &mut strands, instance, self.moment)?;
         }
         Ok(strands)
     }
 }
 
-// Adds the strand of the instance of a number, where it can take a step.
+// Adds the strands of an instance that can take a step, ascending.
 fn push_enabled(
     alloc: Global,
     strands: &mut Vec<(Text, Strand)>,
-    instances: &IndexMap<Text, Machine>,
-    number: usize,
+    instance: &Machine,
     now: Moment,
 ) -> Result<(), AllocError>
-    requires { AllByRecursion IsPlaced instances.now.entries }
-    ensures { OnOk result (strands.new.items ≡ strands.old.items ++ strand_at now (instances_in instances.now.entries) number) }
+    ensures { OnOk result (strands.new.items ≡ strands.old.items ++ enabled_of now instance.now) }
 {
-    if let Some((id, instance)) = instances.get_index(number) {
-        if instance.is_enabled(now) {
-            strands.push((id.copy()?, Strand::root(alloc)))?;
+    for strand in instance.strands(alloc)? {
+        if instance.enabled(&strand, now) {
+            strands.push((instance.id().copy()?, strand))?;
         }
     }
     Ok(())

@@ -1,7 +1,7 @@
 // Whose turn it is: the enabled instances take steps in turn.
 ghost use Rattle.std.specs.Prelude.{◌≡◌, ◌<◌, List, Ok, None, true, IfOk, IfSome, IfNone, [], length};
 ghost use Rattle.std.specs.List.{AllByRecursion};
-ghost use Rattle.swf_meaning.specs.Runs.{is_quiet};
+ghost use Rattle.swf_runs.specs.Runs.{is_quiet};
 ghost use Rattle.swf_meaning.specs.World.{World as TheWorld};
 ghost use Rattle.swf_world.specs.Enabled.{CanGo};
 ghost use Rattle.swf_world.specs.Fields.{instances_in};
@@ -15,7 +15,7 @@ use std::alloc::{AllocError, Global};
 use swf_duration::Moment;
 use swf_meaning::Label;
 use swf_tasks::Machine;
-use swf_text::{Strand, Text};
+use swf_text::Text;
 use swf_turns::Turns;
 
 impl World {
@@ -28,7 +28,7 @@ impl World {
         let Some(number) = first_enabled(&mut self.turns, &self.instances, self.moment) else {
             return Ok(None);
         };
-        let label = step_label(self.alloc, &self.instances, number)?;
+        let label = step_label(self.alloc, &self.instances, number, self.moment)?;
         self.turns.turn();
         Ok(Some(label))
     }
@@ -72,18 +72,21 @@ fn is_enabled(instances: &IndexMap<Text, Machine>, number: usize, now: Moment) -
     }
 }
 
-// The step of the instance of a number.
+// The step of the instance of a number, which can take one.
 fn step_label(
     alloc: Global,
     instances: &IndexMap<Text, Machine>,
     number: usize,
+    now: Moment,
 ) -> Result<Label, AllocError>
     requires placed { AllByRecursion IsPlaced instances.now.entries }
-    requires known { number < length instances.now.entries }
-    ensures { IfOk result (λ l. (w : TheWorld) → w.instances ≡ instances_in instances.now.entries → enabled_at w.now w.instances number ≡ true → CanGo w l) }
+    requires enabled { enabled_at now (instances_in instances.now.entries) number ≡ true }
+    ensures { IfOk result (λ l. (w : TheWorld) → w.instances ≡ instances_in instances.now.entries → w.now ≡ now → CanGo w l) }
 {
-    let (id, _) = instances.get_index(number).unwrap();
+    let (id, instance) = instances.get_index(number).unwrap();
+    let Some(strand) = instance.next_strand(alloc, now)? else {
+        unreachable!();
+    };
     let id = id.copy()?;
-    let strand = Strand::root(alloc);
     Ok(Label::Step { id, strand })
 }

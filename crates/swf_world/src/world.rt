@@ -33,7 +33,7 @@ pub struct World {
     /// Every used key with its place.
     pub(crate) keys: IndexMap<Key, u64>,
     pub(crate) turns: Turns,
-    /// Of the instances that wait until a moment above now.
+    /// Of every strand that waits until a moment above now, and of some that wait no more.
     pub(crate) timers: Timers,
     /// The one that was reached last.
     pub(crate) moment: Moment,
@@ -89,11 +89,17 @@ impl World {
         self.moment
     }
 
-    /// Whether some instance that waits now waits no more at that moment, in milliseconds. It takes no memory.
+    /// Whether a moment, in milliseconds, is above now, and some strand waits until it, or until one before it. It takes no memory.
     pub fn due(&self, moment: u64) -> bool
         ensures { result ≡ is_due self.now.world moment }
     {
-        self.timers.is_over(moment)
+        if moment <= self.moment.milliseconds() {
+            return false;
+        }
+        if !self.timers.is_over(moment) && self.turns.first().is_none() {
+            return false;
+        }
+        self.instances.values().any(|instance| instance.due(moment))
     }
 
     /// The id of the instance of that number, from 0, in start order. It takes no memory.

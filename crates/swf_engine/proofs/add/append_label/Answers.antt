@@ -1,5 +1,5 @@
 use Rattle.std.proofs.Common.{◌≡◌, ◌∙◌, ap, sym, refl, subst, Some, Err, Result, IfOk}
-use Rattle.swf_meaning.specs.After.{after}
+use Rattle.swf_runs.specs.After.{after}
 use Rattle.swf_meaning.specs.World.{World}
 use Rattle.swf_world.specs.Changes.{changed}
 use Rattle.swf_world.specs.Early.{IsEarlyRefusal}

@@ -1,5 +1,5 @@
 use Rattle.std.proofs.Common.{◌≡◌, Some, take}
-use Rattle.swf_meaning.specs.Runs.{run_from}
+use Rattle.swf_runs.specs.Runs.{run_from}
 use Rattle.swf_engine.proofs.replay.replay.Given as goal
 
 -- the labels so far led to this world

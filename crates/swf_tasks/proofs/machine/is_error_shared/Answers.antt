@@ -1,8 +1,8 @@
 use Rattle.std.proofs.Common.{◌∙◌, ◌++◌, ◌∷◌, [], ap}
 use Rattle.swf_scene.specs.declared.made.Layer.{Layer}
 use Rattle.swf_scene.specs.Layers.{frames_of}
-use Rattle.swf_tasks.proofs.StackLemmas.{error-last, error-none}
-use Rattle.swf_tasks.proofs.StrandLemmas.{last-of, no-frames, no-top, some-frames}
+use Rattle.swf_strands.proofs.StrandLemmas.{last-of, no-frames, no-top, some-frames}
+use Rattle.swf_tasks.proofs.WayLemmas.{error-last, error-none}
 use Rattle.swf_tasks.proofs.machine.is_error_shared.Goals as goal
 
 pub returns-in-Some-Running-default : goal.returns-in-Some-Running-default

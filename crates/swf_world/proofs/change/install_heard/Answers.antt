@@ -1,15 +1,15 @@
-use Rattle.std.proofs.Common.{◌≡◌, ◌∙◌, ap, sym, subst, refl, List, length, map, option_map, arith}
+use Rattle.std.proofs.Common.{◌≡◌, ◌∙◌, ap, sym, subst, refl, List, length, map, arith}
 use Rattle.std.specs.List.{AllByRecursion}
 use Rattle.std.proofs.lemmas.Bool.{or_left}
 use Rattle.std.proofs.lemmas.List.{nil_from_length}
 use Rattle.swf_world.specs.declared.offer.Hearing.{Hearing}
 use Rattle.swf_world.specs.Fields.{instances_in}
-use Rattle.swf_world.specs.Offers.{put_all, IsHeardFrom, mark}
+use Rattle.swf_world.specs.Offers.{put_at, put_all, IsHeardFrom, mark}
 use Rattle.swf_turns.specs.Line.{is_among}
 use Rattle.swf_world.specs.Queued.{Queued}
-use Rattle.swf_world.proofs.HeardLemmas.{heard_within, queued_heard}
+use Rattle.swf_world.proofs.HeardLemmas.{heard_fits, heard_within, queued_heard, whole_put}
 use Rattle.swf_world.proofs.MachineLemmas.{length_put}
-use Rattle.swf_world.proofs.OfferLemmas.{from_again, marked_id, marks_put}
+use Rattle.swf_world.proofs.OfferLemmas.{from_again, marks_put}
 use Rattle.swf_world.proofs.change.install_heard.Goals as goal
 
 pub loop-number-init : goal.loop-number-init
@@ -37,11 +37,11 @@ put-requires-clause-known c =
 pub put-requires-clause-room : goal.put-requires-clause-room
 put-requires-clause-room c = omega (arith, c.loop-number.invariant.room, ap (λ (hs : List Hearing). length hs) c.in-Some.ensures.steps.0)
 
-pub go_on-requires-clause-same : goal.go_on-requires-clause-same
-go_on-requires-clause-same c =
+pub take_at-requires-clause-fits : goal.take_at-requires-clause-fits
+take_at-requires-clause-fits c =
     let is = instances_in c.loop-number.instances.entries in
     let from = subst (AllByRecursion (IsHeardFrom is)) c.in-Some.ensures.steps.0 c.loop-number.invariant.from in
-    marked_id is c.in-Some.field-0.number ∙ ap (option_map (λ m. m.0)) from.0
+    heard_fits is c.in-Some.field-0.number c.in-Some.field-0.instance from.0
 
 pub loop-number-preserved : goal.loop-number-preserved
 loop-number-preserved c =
@@ -49,14 +49,14 @@ loop-number-preserved c =
     let hs = c.next.new.self.rest.items in
     let n = c.in-Some.field-0.number in
     let j = c.in-Some.field-0.instance in
-    let put = c.go_on.ensures.stepped in
+    let put : instances_in c.take_at.new.instances.entries ≡ put_at n j is = c.take_at.ensures.stepped ∙ whole_put n j is in
     let from = subst (AllByRecursion (IsHeardFrom is)) c.in-Some.ensures.steps.0 c.loop-number.invariant.from in
-    let marks : map mark is ≡ map mark (instances_in c.go_on.new.instances.entries) = sym (ap (map mark) put ∙ marks_put is n j from.0) in
+    let marks : map mark is ≡ map mark (instances_in c.take_at.new.instances.entries) = sym (ap (map mark) put ∙ marks_put is n j from.0) in
     record {
       heard = ap (put_all hs) put ∙ sym (ap (λ hs. put_all hs is) c.in-Some.ensures.steps.0) ∙ c.loop-number.invariant.heard;
-      placed = c.go_on.ensures.placed;
-      ids = c.go_on.ensures.ids ∙ c.loop-number.invariant.ids;
-      from = from_again is (instances_in c.go_on.new.instances.entries) hs marks from.1;
+      placed = c.take_at.ensures.placed;
+      ids = c.take_at.ensures.ids ∙ c.loop-number.invariant.ids;
+      from = from_again is (instances_in c.take_at.new.instances.entries) hs marks from.1;
       count = c.put.ensures.count ∙ c.loop-number.invariant.count;
       long = ap length put ∙ length_put is n j ∙ c.loop-number.invariant.long;
       room = omega (arith, c.loop-number.invariant.room, c.put.ensures.room, ap (λ (hs : List Hearing). length hs) c.in-Some.ensures.steps.0);

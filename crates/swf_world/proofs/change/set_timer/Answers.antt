@@ -1,7 +1,8 @@
 use Rattle.std.proofs.Common.{◌∙◌, ◌==◌, ◌&&◌, ◌||◌, ap, sym, cond, Some, None, arith}
 use Rattle.std.proofs.lemmas.Bool.{lt-leb}
 use Rattle.swf_turns.specs.Waits.{is_set}
-use Rattle.swf_world.specs.Waits.{above, is_at}
+use Rattle.swf_tasks.specs.Prepares.{is_at}
+use Rattle.swf_world.specs.Waits.{above}
 use Rattle.swf_world.proofs.change.set_timer.Goals as goal
 
 pub returns-then-until-milliseconds : goal.returns-then-until-milliseconds

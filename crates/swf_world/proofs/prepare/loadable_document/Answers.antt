@@ -3,7 +3,7 @@ use Rattle.swf_document.specs.declared.document.Document.{Document}
 use Rattle.swf_document.specs.declared.fault.Fault.{Fault}
 use Rattle.swf_reader.specs.Reads.{document_of}
 use Rattle.swf_meaning.specs.Built.{not_built}
-use Rattle.swf_meaning.specs.After.{if_none, load_faults, or_not_built}
+use Rattle.swf_runs.specs.After.{if_none, load_faults, or_not_built}
 use Rattle.swf_world.proofs.prepare.loadable_document.Goals as goal
 
 none_of : (d : Document) (fs : List Fault) → fs ≢ [] → if_none d fs ≡ None

@@ -1,18 +1,16 @@
-use Rattle.std.proofs.Common.{◌≡◌, ◌∙◌, ap, sym, subst, ℕ, Bool}
-use Rattle.std.specs.Prelude.{nat_lt, IfOk}
-use Rattle.swf_meaning.specs.Node.{Node}
-use Rattle.swf_meaning.specs.Offer.{offered, takers_in}
-use Rattle.swf_meaning.specs.World.{Instance}
-use Rattle.swf_scene.specs.Stack.{top_node}
-use Rattle.swf_tasks.proofs.HearLemmas.{takers-plug}
-use Rattle.swf_tasks.proofs.StrandLemmas.{node-is}
+use Rattle.std.proofs.Common.{◌≡◌, nat_lt, Some}
+use Rattle.std.specs.Prelude.{IfOk}
+use Rattle.swf_frames.specs.Tree.{find}
+use Rattle.swf_meaning.specs.Offer.{offered}
+use Rattle.swf_strands.specs.Strands.{node_of}
+use Rattle.swf_strands.proofs.TreeLemmas.{root-held}
+use Rattle.swf_tasks.proofs.WayLemmas.{of-root, all-told}
 use Rattle.swf_tasks.proofs.machine.Machine.hears.Goals as goal
+
+pub hears_in-requires : goal.hears_in-requires
+hears_in-requires c = root-held c.self.inside.forest c.root.result c.root.ensures.root c.root.ensures.distinct c.self.invariant
 
 pub returns : goal.returns
 returns c =
-    let s = c.stack_of.ensures in
-    let top = c.stack_of.result.top.now in
-    let e = c.args.event.now in
-    let same : nat_lt 0 (offered e (top_node top)).1 ≡ nat_lt 0 (takers_in e c.args.self.now) =
-    ap (nat_lt 0) (sym (takers-plug e s.0 (top_node top))) ∙ ap (λ (n : Node). nat_lt 0 (offered e n).1) (node-is c.self.inside.forest s.0 top s.1.1) ∙ ap (λ (i : Instance). nat_lt 0 (takers_in e i)) c.self.view_is
-    in subst (λ (n : Bool). IfOk c.hears.result (λ b. b ≡ n)) same c.hears.ensures
+    of-root (λ n. IfOk c.hears_in.result (λ b. b ≡ nat_lt 0 (offered c.args.event.now n).1)) c.self.inside.setting c.self.inside.forest c.root.result c.args.self.now c.self.view_is c.root.ensures.root c.self.invariant (λ b f.
+    all-told (λ x. find c.self.inside.forest.strands c.root.result ≡ Some x) (λ h x. h ≡ nat_lt 0 (offered c.args.event.now (node_of x)).1) c.hears_in.result b f c.hears_in.ensures)

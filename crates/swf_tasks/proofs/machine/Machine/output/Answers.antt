@@ -1,18 +1,23 @@
-use Rattle.std.proofs.Common.{◌≡◌, ◌∙◌, ap, None}
-use Rattle.swf_meaning.specs.World.{Instance}
+use Rattle.std.proofs.Common.{◌≡◌, Some, None}
+use Rattle.swf_scene.specs.Layers.{frames_of}
 use Rattle.swf_tasks.specs.Installed.{output_in}
-use Rattle.swf_scene.specs.Stack.{plug, top_node}
-use Rattle.swf_tasks.proofs.StackLemmas.{output-none, output-around}
-use Rattle.swf_tasks.proofs.StrandLemmas.{node-is, length_running}
+use Rattle.swf_strands.proofs.StrandLemmas.{length_running}
+use Rattle.swf_strands.proofs.TreeLemmas.{root-held}
+use Rattle.swf_tasks.proofs.WayLemmas.{of-root, output-some, output-around, output-none}
 use Rattle.swf_tasks.proofs.machine.Machine.output.Goals as goal
 use Rattle.swf_tasks.proofs.machine.Machine.output.Goals.{in_default-via-in-Done+else-is_empty, in_default-via-in_default}
 
+pub stack_of-requires : goal.stack_of-requires
+stack_of-requires c = root-held c.self.inside.forest c.root.result c.root.ensures.root c.root.ensures.distinct c.self.invariant
+
+pub returns-in-Done : goal.returns-in-Done
+returns-in-Done c =
+    of-root (λ n. Some c.in-Done.output ≡ output_in n) c.self.inside.setting c.self.inside.forest c.root.result c.args.self.now c.self.view_is c.root.ensures.root c.self.invariant (λ b f.
+    output-some b c.stack_of.result.top.now c.in-Done.output c.in-Done.flow _ c.is_empty.result (c.stack_of.ensures.top b f) c.in-Done.is (length_running (frames_of b.frames) c.stack_of.result.around.now (c.stack_of.ensures.around b f)) c.is_empty.ensures c.if-is_empty.true)
+
 pub returns-in_default : goal.returns-in_default
 returns-in_default c =
-    let s = c.stack_of.ensures in
-    let t = c.stack_of.result.top.now in
-    let none : None ≡ output_in (plug s.0 (top_node t)) = elim c.in_default.branch [
-      | in_default-via-in-Done+else-is_empty w ↦ output-around s.0 t _ w.is_empty.result (length_running s.0 c.stack_of.result.around.now s.1.0) w.is_empty.ensures w.if-is_empty.false
-      | in_default-via-in_default w ↦ output-none s.0 t w.in_default.not-Done
-    ] in
-    none ∙ ap output_in (node-is c.self.inside.forest s.0 _ s.1.1) ∙ ap (λ (i : Instance). output_in i.node) c.self.view_is
+    of-root (λ n. None ≡ output_in n) c.self.inside.setting c.self.inside.forest c.root.result c.args.self.now c.self.view_is c.root.ensures.root c.self.invariant (λ b f. elim c.in_default.branch [
+      | in_default-via-in-Done+else-is_empty w ↦ output-around b _ w.is_empty.result (length_running (frames_of b.frames) c.stack_of.result.around.now (c.stack_of.ensures.around b f)) w.is_empty.ensures w.if-is_empty.false
+      | in_default-via-in_default w ↦ output-none b c.stack_of.result.top.now (c.stack_of.ensures.top b f) w.in_default.not-Done
+    ])

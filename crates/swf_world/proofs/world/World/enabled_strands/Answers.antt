@@ -1,10 +1,12 @@
-use Rattle.std.proofs.Common.{◌∙◌, ap, sym, ◌++◌}
-use Rattle.swf_world.specs.Enabled.{strand_at}
+use Rattle.swf_world.specs.Enabled.{enabled_of}
 use Rattle.swf_world.specs.Fields.{instances_in}
-use Rattle.swf_world.proofs.Waiting.{more_strands}
+use Rattle.swf_world.proofs.Lookups.{instance_there}
+use Rattle.swf_world.proofs.StrandsLemmas.{told_more}
 use Rattle.swf_world.proofs.world.World.enabled_strands.Goals as goal
 
 pub loop-number-preserved : goal.loop-number-preserved
 loop-number-preserved c =
-    c.in_ok-push_enabled.ensures ∙ ap (λ xs. xs ++ strand_at c.self.inside.moment (instances_in c.self.inside.instances.entries) c.loop-number.number) c.loop-number.invariant
-    ∙ sym (more_strands c.self.inside.moment (instances_in c.self.inside.instances.entries) c.loop-number.number)
+    let is = c.self.inside.instances.entries in
+    let k = c.loop-number.number in
+    let i = c.index-instance.result.now in
+    told_more (enabled_of c.self.inside.moment) (instances_in is) k i _ _ (instance_there is k i c.index-instance.ensures) c.in_ok-push_enabled.ensures c.loop-number.invariant

@@ -1,6 +1,6 @@
 use Rattle.std.proofs.Common.{◌∙◌, ap, arith}
 use Rattle.swf_meaning.specs.declared.key.Key.TheVariants.{Document}
-use Rattle.swf_meaning.specs.After.{with_document}
+use Rattle.swf_runs.specs.After.{with_document}
 use Rattle.swf_world.proofs.Grows.{kept_loaded, loaded_world, new_key, new_in_view}
 use Rattle.swf_world.proofs.world.World.install_load.Goals as goal
 

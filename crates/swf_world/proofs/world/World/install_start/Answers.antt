@@ -1,6 +1,6 @@
 use Rattle.std.proofs.Common.{◌∙◌, ap, refl, arith}
 use Rattle.swf_meaning.specs.declared.key.Key.TheVariants.{Instance}
-use Rattle.swf_meaning.specs.After.{with_instance}
+use Rattle.swf_runs.specs.After.{with_instance}
 use Rattle.swf_world.proofs.Grows.{kept_started, started_world, new_key, new_in_view}
 use Rattle.swf_world.proofs.world.World.install_start.Goals as goal
 

@@ -1,7 +1,6 @@
 use Rattle.std.proofs.Common.{◌∙◌, ap, sym, subst, not}
 use Rattle.swf_world.specs.Fields.{instances_in}
 use Rattle.swf_world.specs.Queued.{Queued}
-use Rattle.swf_world.proofs.StepLemmas.{entry_within}
 use Rattle.swf_world.proofs.Waiting.{quiet_without, queued_turned, kept_turned}
 use Rattle.swf_world.proofs.world.World.next_step.Goals as goal
 
@@ -10,9 +9,6 @@ returns-in_default-clause-none c = λ _. ap not
     (quiet_without c.self.inside.moment (instances_in c.self.inside.instances.entries) c.self.inside.timers.set
     (subst (λ queue. Queued c.self.inside.moment (instances_in c.self.inside.instances.entries) queue c.self.inside.timers.set) c.in_default.ensures.none
     (c.first_enabled.ensures.turns c.self.inside.timers.set c.self.invariant.waiting.queued)))
-
-pub step_label-requires-clause-known : goal.step_label-requires-clause-known
-step_label-requires-clause-known c = entry_within c.self.inside.moment c.self.inside.instances.entries c.in-Some.number c.in-Some.ensures.some.0
 
 pub invariant_of-self : goal.invariant_of-self
 invariant_of-self c =

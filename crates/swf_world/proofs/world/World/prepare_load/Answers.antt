@@ -1,5 +1,5 @@
 use Rattle.std.proofs.Common.{◌≡◌, ◌∙◌, ap, sym, subst, Some, Err}
-use Rattle.swf_meaning.specs.After.{accepted, load_faults}
+use Rattle.swf_runs.specs.After.{accepted, load_faults}
 use Rattle.swf_meaning.specs.declared.label.Label.TheVariants.{Load}
 use Rattle.swf_world.specs.declared.refusal.Refusal.TheVariants.{Refused}
 use Rattle.swf_world.specs.Refusals.{refused_by, refusal_of_load}

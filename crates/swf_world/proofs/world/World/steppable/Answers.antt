@@ -16,7 +16,7 @@ returns-then-enabled-clause-refused c =
 pub returns-then-enabled-clause-found : goal.returns-then-enabled-clause-found
 returns-then-enabled-clause-found c =
     step_found c.self.inside.documents.entries c.self.inside.instances.entries c.self.inside.keys.entries c.self.inside.moment c.self.inside.outbox.items c.self.inside.count _ c.args.self.now c.self.view_is c.args.id.now c.args.strand.now c.index.result.now c.in-Some.number
-    c.self.invariant.placed c.in-Some.ensures.index c.index.ensures (sym c.if-enabled.true ∙ c.enabled.ensures)
+    c.self.invariant.placed c.in-Some.ensures.index c.index.ensures
 
 pub returns-else-enabled-clause-refused : goal.returns-else-enabled-clause-refused
 returns-else-enabled-clause-refused c =

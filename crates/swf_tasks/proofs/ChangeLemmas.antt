@@ -1,0 +1,413 @@
+-- A step changes one strand of a node.
+use Rattle.std.proofs.Common.{◌≡◌, ◌∙◌, refl, sym, ap, subst, ℕ, zero, suc, ◌+◌, ◌≤◌, Bool, true, false, List, [], ◌∷◌, ◌++◌, length, take, Option, Some, None, Ok, Err, is_some, add-one, arith}
+use Rattle.std.specs.Prelude.{option_map, option_to_list, if◌then◌else◌, Result, IfOk}
+use Rattle.std.proofs.lemmas.Option.{same_Some}
+use Rattle.swf_value.specs.Value.{Value}
+use Rattle.swf_document.specs.Task.{Task}
+use Rattle.swf_document.specs.declared.common.Flow.TheVariants as flows
+use Rattle.swf_frames.specs.Tree.{Tree, Branch, find}
+use Rattle.swf_frames.specs.Paths.{Found, nth}
+use Rattle.swf_meaning.specs.Complete.{Stepped, becomes, complete}
+use Rattle.swf_meaning.specs.Fork.{after_branch, joined, outputs, put, settled}
+use Rattle.swf_meaning.specs.Local.{local, local_branch, competes}
+use Rattle.swf_meaning.specs.Strands.{can_go, can_go_branch}
+use Rattle.swf_meaning.specs.Node.{Node, Fresh, Live, Done, Fault, Forked, Nodes, no_nodes, branch}
+use Rattle.swf_meaning.specs.Sight.{Sight}
+use Rattle.swf_rules.specs.Settles.{ending, GivesSome}
+use Rattle.swf_scene.specs.Layers.{frames_of, top_of, running, stacked}
+use Rattle.swf_scene.specs.Stack.{plug, top_node, made_node, stepped_of, seen_in, forked, waiting}
+use Rattle.swf_scene.proofs.LayerLemmas.{frames_of-running, frames_of-stacked, top_of-stacked}
+use Rattle.swf_scene.specs.Halts.{Gives}
+use Rattle.swf_scene.specs.declared.halt.Halt.{Halt}
+use Rattle.swf_scene.specs.declared.halt.Halt.TheVariants as halts
+use Rattle.swf_scene.specs.declared.made.Frame.{Frame}
+use Rattle.swf_scene.specs.declared.made.Layer.{Layer}
+use Rattle.swf_scene.specs.declared.made.Layer.TheVariants as layers
+use Rattle.swf_scene.specs.declared.made.Made.{Made}
+use Rattle.swf_scene.specs.declared.made.Top.{Top}
+use Rattle.swf_scene.specs.declared.made.Top.TheVariants as tops
+use Rattle.swf_tasks.specs.Installed.{put_in, IsStep, AreAround}
+use Rattle.swf_tasks.specs.Stepped.{IsChange, IsChangeOf, IsForkOf, ended_of, if_ended, has_ended, listed}
+use Rattle.swf_strands.specs.Strands.{IsStack, made_layers, node_of, nodes_of, is_fork, IsGrownAt, IsHeld}
+use Rattle.swf_strands.specs.Ways.{has_strand, replaced}
+use Rattle.swf_tasks.specs.declared.step.Change.{Change}
+use Rattle.swf_tasks.proofs.StepLemmas.{plug-append, is_open, local-plug, can_go-live}
+use Rattle.swf_strands.proofs.TreeLemmas.{nth_node, nth_node-of, nth_node-none, nothing, yes-no, has-fork, fork-node, at-child, replaced-fork, plain-node, held-is, IsChild}
+use Rattle.swf_strands.proofs.OrderLemmas.{can_go-child}
+
+-- ---- a stack of running tasks and a top
+
+pub stack-is : (fs : List Frame) (t : Top) (ls : List Layer) → ls ≡ stacked fs t → IsStack ls
+stack-is fs t ls e =
+    e ∙ sym (ap (λ gs. stacked gs (top_of ls)) (ap frames_of e ∙ frames_of-stacked fs t) ∙ ap (stacked fs) (ap top_of e ∙ top_of-stacked fs t))
+
+pub made-stack : (fs : List Frame) (t : Top) (ls : List Layer) → ls ≡ stacked fs t → made_layers ls ≡ plug fs (made_node t)
+made-stack fs t ls e =
+    ap (λ gs. plug gs (made_node (top_of ls))) (ap frames_of e ∙ frames_of-stacked fs t) ∙ ap (λ x. plug fs (made_node x)) (ap top_of e ∙ top_of-stacked fs t)
+
+-- what a rule makes, with these tasks around it
+pub made-around : (os : List Frame) (m : Made) (ls : List Layer) → ls ≡ stacked (os ++ option_to_list m.frame) m.top → made_layers ls ≡ plug os (stepped_of m).node
+made-around os m ls e = made-stack (os ++ option_to_list m.frame) m.top ls e ∙ plug-append os (option_to_list m.frame) (made_node m.top)
+
+-- ---- what stands innermost takes its step
+
+pub own-change : (s : Sight) (fs os : List Frame) (t : Top) (m : Made) (c : Change) → AreAround fs t os → IsStep s fs t (stepped_of m) → c.depth ≡ 0 → c.layers.items ≡ stacked (os ++ option_to_list m.frame) m.top → c.context ≡ m.context → c.emitted ≡ m.emitted →
+    IsChange s [] (plug fs (top_node t)) c
+own-change s fs os t m c around step d ls x e = record {
+  deep = omega (arith, d);
+  there = ap (λ n. has_strand (take n []) (plug fs (top_node t))) d;
+  stack = stack-is (os ++ option_to_list m.frame) m.top c.layers.items ls;
+  step = step os around ∙ ap Some (λ i. record { node = node i; context = sym x i; emitted = sym e i });
+}
+  where
+    node : plug os (stepped_of m).node ≡ replaced (take c.depth []) (made_layers c.layers.items) (plug fs (top_node t))
+    node = sym (made-around os m c.layers.items ls) ∙ sym (ap (λ n. replaced (take n []) (made_layers c.layers.items) (plug fs (top_node t))) d)
+
+-- ---- a branch takes its step
+
+pub local_branch-nth : (s : Sight) (i : ℕ) (bs : List ℕ) (ns : Nodes) (n : Node) → nth_node ns i ≡ Some n → local_branch s i bs ns ≡ local s bs n
+local_branch-nth s i bs no_nodes n e = absurd (nothing n e)
+local_branch-nth s zero bs (branch m ns) n e = ap (local s bs) (same_Some m n e)
+local_branch-nth s (suc i) bs (branch m ns) n e = local_branch-nth s i bs ns n e
+
+-- inside running tasks a branch of a `fork` takes its step
+pub local-fork : (s : Sight) (fs : List Frame) (t : Task) (v u : Value) (ns : Nodes) (i : ℕ) (bs : List ℕ) (n : Node) (m : Stepped) → nth_node ns i ≡ Some n → local (seen_in s fs) bs n ≡ Some m →
+    local s (i ∷ bs) (plug fs (Live t v u (Forked ns))) ≡ Some (put_in fs (after_branch (seen_in s fs) t v u (competes t) ns i m))
+local-fork s fs t v u ns i bs n m e l =
+    local-plug s (i ∷ bs) fs (Live t v u (Forked ns)) (after_branch (seen_in s fs) t v u (competes t) ns i m) refl
+    (ap (option_map (after_branch (seen_in s fs) t v u (competes t) ns i)) (local_branch-nth (seen_in s fs) i bs ns n e ∙ l))
+
+-- the `fork` goes on while the branch has not ended
+open-after : (s : Sight) (t : Task) (v u : Value) (compete : Bool) (ns : Nodes) (i : ℕ) (m : Stepped) → is_open m.node ≡ true → after_branch s t v u compete ns i m ≡ record { node = Live t v u (Forked (put ns i m.node)); context = m.context; emitted = m.emitted }
+open-after s t v u compete ns i m e = by m.node refl
+  where
+    by : (n : Node) → n ≡ m.node → after_branch s t v u compete ns i m ≡ record { node = Live t v u (Forked (put ns i m.node)); context = m.context; emitted = m.emitted }
+    by (Fresh q w) h = ap (λ x. record (settled (record s { context = m.context }) t v u compete (put ns i m.node) x) { emitted = m.emitted }) (sym h)
+    by (Live q w x k) h = ap (λ y. record (settled (record s { context = m.context }) t v u compete (put ns i m.node) y) { emitted = m.emitted }) (sym h)
+    by (Done w f) h = absurd (yes-no (sym e ∙ ap is_open (sym h)))
+    by (Fault p) h = absurd (yes-no (sym e ∙ ap is_open (sym h)))
+
+abbrev rest : List Layer → List Layer
+rest [] = []
+rest (l ∷ ls) = ls
+
+abbrev is_running : List Layer → Bool
+is_running [] = false
+is_running (layers.Running f ∷ ls) = true
+is_running (layers.Top t ∷ ls) = false
+
+-- what stands innermost with nothing around it stands alone
+top-alone : (t : Top) (ls : List Layer) → IsStack (layers.Top t ∷ ls) → ls ≡ []
+top-alone t ls h = by (frames_of ls) h
+  where
+    by : (fs : List Frame) → layers.Top t ∷ ls ≡ stacked fs t → ls ≡ []
+    by [] e = ap rest e
+    by (f ∷ fs) e = absurd (yes-no (sym (ap is_running e)))
+
+-- what the outermost strand is after the step: what it ended in, or a task that has not ended
+pub open-or-ended : (d : ℕ) (bs : List ℕ) (ls : List Layer) (n : Node) → d ≤ length bs → has_strand (take d bs) n ≡ true → IsStack ls → ended_of d ls ≡ None → is_open (replaced (take d bs) (made_layers ls) n) ≡ true
+open-or-ended zero bs ls n l h stack none = open-layers ls stack none
+  where
+    open-top : (t : Top) → if_ended t ≡ None → is_open (made_node t) ≡ true
+    open-top (tops.Fresh r v) e = refl
+    open-top (tops.Done w f) e = absurd (nothing _ (sym e))
+    open-top (tops.Fault p) e = absurd (nothing _ (sym e))
+    open-top (tops.Waiting r v u k m) e = refl
+    open-top (tops.Hearing r v u b hs) e = refl
+    open-top (tops.Forked r v u) e = refl
+
+    open-layers : (ls : List Layer) → IsStack ls → ended_of zero ls ≡ None → is_open (made_layers ls) ≡ true
+    open-layers [] stack e = cc
+    open-layers (layers.Running f ∷ ls) stack e = refl
+    open-layers (layers.Top t ∷ ls) stack e = subst (λ ks. is_open (made_layers (layers.Top t ∷ ks)) ≡ true) (sym (top-alone t ls stack)) (open-top t e)
+open-or-ended (suc d) [] ls n l h stack none = absurd (omega (arith, l))
+open-or-ended (suc d) (b ∷ bs) ls (Fresh t v) l h stack none = absurd (yes-no (sym h))
+open-or-ended (suc d) (b ∷ bs) ls (Live t v u k) l h stack none = refl
+open-or-ended (suc d) (b ∷ bs) ls (Done w f) l h stack none = absurd (yes-no (sym h))
+open-or-ended (suc d) (b ∷ bs) ls (Fault p) l h stack none = absurd (yes-no (sym h))
+
+-- ---- the change of a branch is one of the strand
+
+take-first : (d i : ℕ) (is : List ℕ) → take (d + 1) (i ∷ is) ≡ i ∷ take d is
+take-first d i is = ap (λ n. take n (i ∷ is)) (add-one d)
+
+-- what the node of a branch becomes
+abbrev pub branch_after : Change → List ℕ → Node → Stepped
+branch_after c inner n = record { node = replaced (take c.depth inner) (made_layers c.layers.items) n; context = c.context; emitted = c.emitted }
+
+-- the strand with the branch anew
+pub goes-on : (s : Sight) (b : Branch Layer) (i : ℕ) (h : Found Layer) (inner : List ℕ) (c r : Change) → IsGrownAt b → nth b.below i ≡ Some h → IsChange (seen_in s (frames_of b.frames)) inner (node_of h.held) c →
+    ((t : Task) (v u : Value) → top_of b.frames ≡ tops.Forked t v u → after_branch (seen_in s (frames_of b.frames)) t v u (competes t) (nodes_of b.below) i (branch_after c inner (node_of h.held)) ≡ record { node = Live t v u (Forked (put (nodes_of b.below) i (branch_after c inner (node_of h.held)).node)); context = c.context; emitted = c.emitted }) →
+    r ≡ record c { depth = c.depth + 1 } → IsChange s (i ∷ inner) (node_of b) r
+goes-on s b i h inner c r g e change after is = subst (IsChange s (i ∷ inner) (node_of b)) (sym is) (record {
+  deep = omega (arith, change.deep);
+  there = ap (λ bs. has_strand bs (node_of b)) (take-first c.depth i inner) ∙ ap is_some (at-child b i (take c.depth inner) h g e) ∙ change.there;
+  stack = change.stack;
+  step = ap (local s (i ∷ inner)) f.1.1.1.1
+      ∙ local-fork s fs f.0 f.1.0 f.1.1.0 ns i inner (node_of h.held) x n change.step
+      ∙ ap (λ y. Some (put_in fs y)) (after f.0 f.1.0 f.1.1.0 f.1.1.1.0)
+      ∙ ap (λ m. Some (record { node = m; context = c.context; emitted = c.emitted })) (sym node);
+})
+  where
+    fs : List Frame
+    fs = frames_of b.frames
+
+    ns : Nodes
+    ns = nodes_of b.below
+
+    x : Stepped
+    x = branch_after c inner (node_of h.held)
+
+    n : nth_node ns i ≡ Some (node_of h.held)
+    n = nth_node-of b.below i h e
+
+    f : (t : Task) × ((v : Value) × ((u : Value) × ((top_of b.frames ≡ tops.Forked t v u) × (node_of b ≡ plug fs (Live t v u (Forked ns))))))
+    f = fork-node b.frames ns (has-fork b i h g e)
+
+    node : replaced (take (c.depth + 1) (i ∷ inner)) (made_layers c.layers.items) (node_of b) ≡ plug fs (Live f.0 f.1.0 f.1.1.0 (Forked (put ns i x.node)))
+    node = ap (λ bs. replaced bs (made_layers c.layers.items) (node_of b)) (take-first c.depth i inner)
+        ∙ ap (replaced (i ∷ take c.depth inner) (made_layers c.layers.items)) f.1.1.1.1
+        ∙ replaced-fork i (take c.depth inner) (made_layers c.layers.items) fs f.0 f.1.0 f.1.1.0 ns (node_of h.held) n
+
+-- where the branch has not ended
+pub goes-deeper : (s : Sight) (b : Branch Layer) (i : ℕ) (h : Found Layer) (inner : List ℕ) (c r : Change) → IsGrownAt b → nth b.below i ≡ Some h → IsChange (seen_in s (frames_of b.frames)) inner (node_of h.held) c →
+    ended_of c.depth c.layers.items ≡ None → r ≡ record c { depth = c.depth + 1 } → IsChange s (i ∷ inner) (node_of b) r
+goes-deeper s b i h inner c r g e change none is =
+    goes-on s b i h inner c r g e change
+    (λ t v u top. open-after (seen_in s (frames_of b.frames)) t v u (competes t) (nodes_of b.below) i (branch_after c inner (node_of h.held)) (open-or-ended c.depth inner c.layers.items (node_of h.held) change.deep change.there change.stack none)) is
+
+-- ---- a branch ends
+
+abbrev pub or_on : Sight → Task → Value → Value → Nodes → Option Stepped → Stepped
+or_on s t v u ns None = becomes s (Live t v u (Forked ns))
+or_on s t v u ns (Some m) = m
+
+or-joined : (s : Sight) (t : Task) (v u : Value) (ns : Nodes) (compete : Bool) (w : Value) (ws : Option (List Value)) →
+    (if compete then complete s t v u w else joined s t v u ns ws) ≡ or_on s t v u ns (if compete then Some (complete s t v u w) else option_map (complete s t v u) (option_map listed ws))
+or-joined s t v u ns true w ws = refl
+or-joined s t v u ns false w None = refl
+or-joined s t v u ns false w (Some ws) = refl
+
+-- what becomes of the `fork`
+pub settled-ending : (s : Sight) (t : Task) (v u : Value) (compete : Bool) (ns : Nodes) (x : Top) → has_ended x ≡ true → settled s t v u compete ns (top_node x) ≡ or_on s t v u ns (ending s t v u compete (option_map listed (outputs ns)) x)
+settled-ending s t v u compete ns (tops.Fresh r w) e = absurd (yes-no (sym e))
+settled-ending s t v u compete ns (tops.Waiting r w y n m) e = absurd (yes-no (sym e))
+settled-ending s t v u compete ns (tops.Hearing r w y b hs) e = absurd (yes-no (sym e))
+settled-ending s t v u compete ns (tops.Forked r w y) e = absurd (yes-no (sym e))
+settled-ending s t v u compete ns (tops.Done w flows.End) e = refl
+settled-ending s t v u compete ns (tops.Done w flows.Continue) e = or-joined s t v u ns compete w (outputs ns)
+settled-ending s t v u compete ns (tops.Done w flows.Exit) e = or-joined s t v u ns compete w (outputs ns)
+settled-ending s t v u compete ns (tops.Done w (flows.Task k)) e = or-joined s t v u ns compete w (outputs ns)
+settled-ending s t v u compete ns (tops.Fault p) e = refl
+
+ended-top : (t x : Top) → if_ended t ≡ Some x → (t ≡ x) × (has_ended x ≡ true)
+ended-top (tops.Fresh r v) x e = absurd (nothing x e)
+ended-top (tops.Waiting r v u n m) x e = absurd (nothing x e)
+ended-top (tops.Hearing r v u b hs) x e = absurd (nothing x e)
+ended-top (tops.Forked r v u) x e = absurd (nothing x e)
+ended-top (tops.Done w f) x e = (same_Some _ x e, ap has_ended (sym (same_Some (tops.Done w f) x e)))
+ended-top (tops.Fault p) x e = (same_Some _ x e, ap has_ended (sym (same_Some (tops.Fault p) x e)))
+
+made-ended : (x : Top) → has_ended x ≡ true → made_node x ≡ top_node x
+made-ended (tops.Fresh r v) e = refl
+made-ended (tops.Waiting r v u n m) e = refl
+made-ended (tops.Hearing r v u b hs) e = refl
+made-ended (tops.Forked r v u) e = absurd (yes-no (sym e))
+made-ended (tops.Done w f) e = refl
+made-ended (tops.Fault p) e = refl
+
+-- the node of a branch that ended, where that is put anew
+pub ended-node : (d : ℕ) (bs : List ℕ) (ls : List Layer) (n : Node) (x : Top) → IsStack ls → ended_of d ls ≡ Some x → (has_ended x ≡ true) × (replaced (take d bs) (made_layers ls) n ≡ top_node x)
+ended-node zero bs (layers.Top t ∷ ls) n x stack e =
+    let h = ended-top t x e in
+    (h.1, ap (λ ks. made_layers (layers.Top t ∷ ks)) (top-alone t ls stack) ∙ ap made_node h.0 ∙ made-ended x h.1)
+ended-node zero bs (layers.Running f ∷ ls) n x stack e = absurd (nothing x e)
+ended-node zero bs [] n x stack e = absurd (nothing x e)
+ended-node (suc d) bs ls n x stack e = absurd (nothing x e)
+
+-- what the `fork` sees of the branch that ended
+abbrev settling : Sight → Branch Layer → ℕ → Change → Top → Task → Value → Value → Option Stepped
+settling s b i c x t v u = ending (record s { context = c.context }) t v u (competes t) (option_map listed (outputs (put (nodes_of b.below) i (top_node x)))) x
+
+after-ended : (s : Sight) (b : Branch Layer) (i : ℕ) (c : Change) (inner : List ℕ) (n : Node) (x : Top) (t : Task) (v u : Value) → IsStack c.layers.items → ended_of c.depth c.layers.items ≡ Some x →
+    after_branch s t v u (competes t) (nodes_of b.below) i (branch_after c inner n) ≡ record (or_on (record s { context = c.context }) t v u (put (nodes_of b.below) i (top_node x)) (settling s b i c x t v u)) { emitted = c.emitted }
+after-ended s b i c inner n x t v u stack e =
+    let h = ended-node c.depth inner c.layers.items n x stack e in
+    ap (λ y. record (settled (record s { context = c.context }) t v u (competes t) (put (nodes_of b.below) i y) y) { emitted = c.emitted }) h.1
+    ∙ ap (λ (y : Stepped). record y { emitted = c.emitted }) (settled-ending (record s { context = c.context }) t v u (competes t) (put (nodes_of b.below) i (top_node x)) x h.0)
+
+-- it goes on
+pub settle-on : (s : Sight) (b : Branch Layer) (i : ℕ) (h : Found Layer) (inner : List ℕ) (c r : Change) (x : Top) → IsGrownAt b → nth b.below i ≡ Some h → IsChange (seen_in s (frames_of b.frames)) inner (node_of h.held) c →
+    ended_of c.depth c.layers.items ≡ Some x → ((t : Task) (v u : Value) → top_of b.frames ≡ tops.Forked t v u → settling (seen_in s (frames_of b.frames)) b i c x t v u ≡ None) → r ≡ record c { depth = c.depth + 1 } → IsChange s (i ∷ inner) (node_of b) r
+settle-on s b i h inner c r x g e change ended none is =
+    goes-on s b i h inner c r g e change (λ t v u top.
+    after-ended (seen_in s (frames_of b.frames)) b i c inner (node_of h.held) x t v u change.stack ended
+    ∙ ap (λ o. record (or_on (record (seen_in s (frames_of b.frames)) { context = c.context }) t v u (put (nodes_of b.below) i (top_node x)) o) { emitted = c.emitted }) (none t v u top)
+    ∙ ap (λ y. record { node = Live t v u (Forked (put (nodes_of b.below) i y)); context = c.context; emitted = c.emitted }) (sym (ended-node c.depth inner c.layers.items (node_of h.held) x change.stack ended).1)) is
+
+-- it ends
+pub settle-off : (s : Sight) (b : Branch Layer) (i : ℕ) (h : Found Layer) (inner : List ℕ) (c r : Change) (x : Top) (m : Made) → IsGrownAt b → nth b.below i ≡ Some h → IsChange (seen_in s (frames_of b.frames)) inner (node_of h.held) c →
+    ended_of c.depth c.layers.items ≡ Some x → ((t : Task) (v u : Value) → top_of b.frames ≡ tops.Forked t v u → settling (seen_in s (frames_of b.frames)) b i c x t v u ≡ Some (stepped_of m)) →
+    r.depth ≡ 0 → r.layers.items ≡ stacked (frames_of b.frames ++ option_to_list m.frame) m.top → r.context ≡ m.context → r.emitted ≡ c.emitted → IsChange s (i ∷ inner) (node_of b) r
+settle-off s b i h inner c r x m g e change ended some d ls k o = record {
+  deep = omega (arith, d);
+  there = ap (λ n. has_strand (take n (i ∷ inner)) (node_of b)) d;
+  stack = stack-is (fs ++ option_to_list m.frame) m.top r.layers.items ls;
+  step = ap (local s (i ∷ inner)) f.1.1.1.1
+      ∙ local-fork s fs f.0 f.1.0 f.1.1.0 (nodes_of b.below) i inner (node_of h.held) (branch_after c inner (node_of h.held)) (nth_node-of b.below i h e) change.step
+      ∙ ap (λ y. Some (put_in fs y)) (after-ended (seen_in s fs) b i c inner (node_of h.held) x f.0 f.1.0 f.1.1.0 change.stack ended)
+      ∙ ap (λ o. Some (put_in fs (record (or_on (record (seen_in s fs) { context = c.context }) f.0 f.1.0 f.1.1.0 (put (nodes_of b.below) i (top_node x)) o) { emitted = c.emitted }))) (some f.0 f.1.0 f.1.1.0 f.1.1.1.0)
+      ∙ ap Some (λ j. record { node = node j; context = sym k j; emitted = sym o j });
+}
+  where
+    fs : List Frame
+    fs = frames_of b.frames
+
+    f : (t : Task) × ((v : Value) × ((u : Value) × ((top_of b.frames ≡ tops.Forked t v u) × (node_of b ≡ plug fs (Live t v u (Forked (nodes_of b.below)))))))
+    f = fork-node b.frames (nodes_of b.below) (has-fork b i h g e)
+
+    node : plug fs (stepped_of m).node ≡ replaced (take r.depth (i ∷ inner)) (made_layers r.layers.items) (node_of b)
+    node = sym (made-around fs m r.layers.items ls) ∙ sym (ap (λ n. replaced (take n (i ∷ inner)) (made_layers r.layers.items) (node_of b)) d)
+
+-- ---- what the rule of a `fork` gives
+
+abbrev pub on_fork : (Task → Value → Value → Type 0) → Top → Type 0
+on_fork P (tops.Fresh t v) = Unit {0}
+on_fork P (tops.Done w f) = Unit {0}
+on_fork P (tops.Fault p) = Unit {0}
+on_fork P (tops.Waiting t v u n m) = Unit {0}
+on_fork P (tops.Hearing t v u bound hs) = Unit {0}
+on_fork P (tops.Forked t v u) = P t v u
+
+-- what it makes of the branch that ended is what the definition does
+pub settles-to : (z s : Sight) (b : Branch Layer) (i : ℕ) (c : Change) (x : Top) (a : Task) (p q k : Value) (compete : Bool) (o : Option Value) (e : Option Stepped) → z ≡ record s { context = k } → k ≡ c.context → compete ≡ competes a →
+    o ≡ option_map listed (outputs (put (nodes_of b.below) i (top_node x))) → ending z a p q compete o x ≡ e → top_of b.frames ≡ tops.Forked a p q → (t : Task) (v u : Value) → top_of b.frames ≡ tops.Forked t v u → settling s b i c x t v u ≡ e
+settles-to z s b i c x a p q k compete o e hz hk hc ho he ha t v u ht =
+    subst (on_fork (λ t v u. settling s b i c x t v u ≡ e)) (sym ha ∙ ht) here
+  where
+    here : settling s b i c x a p q ≡ e
+    here = sym (ap (λ y. ending y a p q compete o x) (hz ∙ ap (λ y. record s { context = y }) hk)
+        ∙ ap (λ y. ending (record s { context = c.context }) a p q y o x) hc
+        ∙ ap (λ y. ending (record s { context = c.context }) a p q (competes a) y x) ho) ∙ he
+
+pub halted : (z : Sight) (t : Task) (v : Value) (e : Option Stepped) (h : Halt) (m : Made) → GivesSome z e (Err h) → ((s : Sight) (x : Stepped) → s.context ≡ z.context → Gives s x (Err h) → stepped_of m ≡ x) → e ≡ Some (stepped_of m)
+halted z t v e (halts.Fault p) m h k = h ∙ ap Some (sym (k z (becomes z (Fault p)) refl refl))
+halted z t v e halts.OutOfMemory m h k =
+    absurd (yes-no (sym (ap (λ (x : Stepped). is_open x.node) (k z (becomes z (Fresh t v)) refl tt)) ∙ ap (λ (x : Stepped). is_open x.node) (k z (becomes z (Done v flows.Continue)) refl tt)))
+
+-- ---- options
+
+pub none-of : {A B : Type 0} (f : A → B) (o : Option A) (p : Option B) → option_map f o ≡ p → ((x : A) → o ≡ Some x → ⊥) → p ≡ None
+none-of f None p e q = sym e
+none-of f (Some x) p e q = absurd (q x refl)
+
+pub some-of : {A B : Type 0} (f : A → B) (o : Option A) (p : Option B) (x : A) → option_map f o ≡ p → o ≡ Some x → p ≡ Some (f x)
+some-of f o p x e is = sym e ∙ ap (option_map f) is
+
+-- ---- the branch that a way begins with
+
+pub own-fork : (now : ℕ) (b : Branch Layer) → can_go now [] (node_of b) ≡ true → is_fork (top_of b.frames) ≡ false
+own-fork now b can = by (is_fork (top_of b.frames)) refl
+  where
+    by : (x : Bool) → is_fork (top_of b.frames) ≡ x → is_fork (top_of b.frames) ≡ false
+    by false e = e
+    by true e =
+        let f = fork-node b.frames (nodes_of b.below) e in
+        absurd (yes-no (sym can ∙ ap (can_go now []) f.1.1.1.1 ∙ can_go-live now (frames_of b.frames) f.0 f.1.0 f.1.1.0 (Forked (nodes_of b.below))))
+
+module _ (now : ℕ) (is : List ℕ) where
+  can_go-among : (i : ℕ) (ns : Nodes) → nth_node ns i ≡ None → can_go_branch now i is ns ≡ false
+  can_go-among zero no_nodes e = refl
+  can_go-among (suc i) no_nodes e = refl
+  can_go-among zero (branch m ns) e = absurd (nothing m (sym e))
+  can_go-among (suc i) (branch m ns) e = can_go-among i ns e
+
+  can_go-waiting : (i : ℕ) (r : Task) (v u : Value) (n : Option ℕ) (m : ℕ) (ns : Nodes) → can_go now (i ∷ is) (forked (Live r v u (waiting n m)) ns) ≡ false
+  can_go-waiting i r v u None m ns = refl
+  can_go-waiting i r v u (Some k) m ns = refl
+
+  can_go-top : (i : ℕ) (t : Top) (ns : Nodes) → nth_node ns i ≡ None → can_go now (i ∷ is) (forked (top_node t) ns) ≡ false
+  can_go-top i (tops.Fresh r v) ns e = refl
+  can_go-top i (tops.Done w f) ns e = refl
+  can_go-top i (tops.Fault p) ns e = refl
+  can_go-top i (tops.Waiting r v u n m) ns e = can_go-waiting i r v u n m ns
+  can_go-top i (tops.Hearing r v u b hs) ns e = refl
+  can_go-top i (tops.Forked r v u) ns e = can_go-among i ns e
+
+  can_go-plug : (i : ℕ) (fs : List Frame) (n : Node) → can_go now (i ∷ is) n ≡ false → can_go now (i ∷ is) (plug fs n) ≡ false
+  can_go-plug i [] n e = e
+  can_go-plug i (f ∷ []) (Fresh a v) e = refl
+  can_go-plug i (f ∷ []) (Live a v u k) e = e
+  can_go-plug i (f ∷ []) (Done w d) e = refl
+  can_go-plug i (f ∷ []) (Fault p) e = refl
+  can_go-plug i (f ∷ g ∷ fs) n e = can_go-plug i (g ∷ fs) n e
+
+  pub nowhere-goes : (i : ℕ) (b : Branch Layer) → nth b.below i ≡ None → can_go now (i ∷ is) (node_of b) ≡ true → ⊥
+  nowhere-goes i b none can =
+      yes-no (sym can ∙ can_go-plug i (frames_of b.frames) (forked (top_node (top_of b.frames)) (nodes_of b.below)) (can_go-top i (top_of b.frames) (nodes_of b.below) (nth_node-none b.below i none)))
+
+pub no-numbers : (bs : List ℕ) → length bs ≡ 0 → bs ≡ []
+no-numbers [] e = refl
+no-numbers (b ∷ bs) e = absurd (omega (arith, e))
+
+-- ---- the step of a strand itself, told of the strand
+
+-- what stands on the strand of a number
+abbrev pub Around : Tree Layer → ℕ → List Layer → Type 0
+Around t n ls = (b : Branch Layer) → find t.strands n ≡ Some b → ls ≡ running (frames_of b.frames)
+
+abbrev pub OnTop : Tree Layer → ℕ → Top → Type 0
+OnTop t n x = (b : Branch Layer) → find t.strands n ≡ Some b → x ≡ top_of b.frames
+
+abbrev pub Goes : ℕ → Tree Layer → ℕ → List ℕ → Type 0
+Goes now t n bs = (b : Branch Layer) → find t.strands n ≡ Some b → can_go now bs (node_of b) ≡ true
+
+own-node : (now : ℕ) (t : Tree Layer) (n : ℕ) (x : Top) (b : Branch Layer) → OnTop t n x → find t.strands n ≡ Some b → can_go now [] (node_of b) ≡ true → node_of b ≡ plug (frames_of b.frames) (top_node x)
+own-node now t n x b top f can = plain-node b.frames (nodes_of b.below) (own-fork now b can) ∙ ap (λ y. plug (frames_of b.frames) (top_node y)) (sym (top b f))
+
+pub own-goes : (now : ℕ) (t : Tree Layer) (n : ℕ) (bs : List ℕ) (ls : List Layer) (x : Top) → IsHeld t n → bs ≡ [] → Goes now t n bs → Around t n ls → OnTop t n x →
+    (fs : List Frame) × ((ls ≡ running fs) × (can_go now [] (plug fs (top_node x)) ≡ true))
+own-goes now t n bs ls x held empty goes around top =
+    let b = held.1.0 in
+    let f = held.1.1.0 in
+    let can = subst (λ is. can_go now is (node_of b) ≡ true) empty (goes b f) in
+    (frames_of b.frames, (around b f, ap (can_go now []) (sym (own-node now t n x b top f can)) ∙ can))
+
+pub own-told : {E : Type 0} (s : Sight) (t : Tree Layer) (n : ℕ) (bs : List ℕ) (ls : List Layer) (x : Top) (r : Result Change E) → bs ≡ [] → Goes s.now t n bs → Around t n ls → OnTop t n x →
+    IfOk r (λ c. (fs : List Frame) → ls ≡ running fs → IsChange s [] (plug fs (top_node x)) c) → IfOk r (λ c. (b : Branch Layer) → find t.strands n ≡ Some b → IsChange s bs (node_of b) c)
+own-told s t n bs ls x (Err e) empty goes around top h = tt
+own-told s t n bs ls x (Ok c) empty goes around top h = λ b f.
+    let can = subst (λ is. can_go s.now is (node_of b) ≡ true) empty (goes b f) in
+    subst (λ is. IsChange s is (node_of b) c) (sym empty) (subst (λ m. IsChange s [] m c) (sym (own-node s.now t n x b top f can)) (h (frames_of b.frames) (around b f)))
+
+-- ---- the step of a branch, told of the strand
+
+pub child-goes : (now : ℕ) (t : Tree Layer) (n i c : ℕ) (bs is : List ℕ) → IsHeld t n → IsChild t n i c → bs ≡ i ∷ is → Goes now t n bs → Goes now t c is
+child-goes now t n i c bs is held child e goes h g =
+    let b = held.1.0 in
+    let f = held.1.1.0 in
+    let k = child b f in
+    let same : k.0 ≡ h = same_Some k.0 h (sym k.1.1.0 ∙ g) in
+    subst (λ (x : Branch Layer). can_go now is (node_of x) ≡ true) same
+    (sym (can_go-child now i is b (record { number = c; held = k.0 }) held.1.1.1 k.1.0) ∙ subst (λ xs. can_go now xs (node_of b) ≡ true) e (goes b f))
+
+pub fork-there : (t : Tree Layer) (n i c : ℕ) → IsHeld t n → IsChild t n i c → (b : Branch Layer) → find t.strands n ≡ Some b → IsForkOf b i
+fork-there t n i c held child b f =
+    let h = child b f in
+    let d : Found Layer = record { number = c; held = h.0 } in
+    (has-fork b i d (held-is t n b held f) h.1.0, (d, h.1.0))
+
+pub branch-told : {E : Type 0} (s z y : Sight) (t : Tree Layer) (n i c : ℕ) (bs is : List ℕ) (ls : List Layer) (x : Change) (r : Result Change E) → IsHeld t n → IsChild t n i c → bs ≡ i ∷ is → Around t n ls → z ≡ seen_in s (frames_of ls) → y ≡ z →
+    ((h : Branch Layer) → find t.strands c ≡ Some h → IsChange y is (node_of h) x) →
+    IfOk r (λ k. (b : Branch Layer) (s : Sight) (inner : List ℕ) → find t.strands n ≡ Some b → z ≡ seen_in s (frames_of b.frames) → IsChangeOf z inner b i x → IsChange s (i ∷ inner) (node_of b) k) →
+    IfOk r (λ k. (b : Branch Layer) → find t.strands n ≡ Some b → IsChange s bs (node_of b) k)
+branch-told s z y t n i c bs is ls x (Err e) held child eq around seen same inner h = tt
+branch-told s z y t n i c bs is ls x (Ok k) held child eq around seen same inner h = λ b f.
+    let d = child b f in
+    let fs : frames_of ls ≡ frames_of b.frames = ap frames_of (around b f) ∙ frames_of-running (frames_of b.frames) in
+    subst (λ js. IsChange s js (node_of b) k) (sym eq)
+    (h b s is f (seen ∙ ap (seen_in s) fs) (record { number = c; held = d.0 }, (d.1.0, subst (λ w. IsChange w is (node_of d.0) x) same (inner d.0 d.1.1.0))))
+
+pub ok-then : {E : Type 0} (P Q : Change → Type 0) (r : Result Change E) → IfOk r Q → ((c : Change) → Q c → P c) → IfOk r P
+ok-then P Q (Ok c) h f = f c h
+ok-then P Q (Err e) h f = tt

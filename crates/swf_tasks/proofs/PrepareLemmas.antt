@@ -1,0 +1,226 @@
+-- What the step of a strand makes of an instance.
+use Rattle.std.proofs.Common.{◌≡◌, ◌∙◌, refl, sym, ap, subst, ℕ, zero, suc, ◌+◌, ◌-◌, Bool, true, false, List, [], ◌∷◌, take, Some, None, arith}
+use Rattle.std.proofs.Math.Bool.{or-false}
+use Rattle.std.proofs.lemmas.Option.{same_Some}
+use Rattle.std.proofs.lemmas.List.Folds.{list_any-append}
+use Rattle.std.specs.List.{list_any}
+use Rattle.std.specs.Prelude.{◌||◌, ◌==◌, option_map}
+use Rattle.swf_value.specs.Value.{Value}
+use Rattle.swf_document.specs.Task.{Tasks, no_tasks, named}
+use Rattle.swf_frames.specs.Tree.{Tree, Strands, no_strands, strand, Branch, find, numbers, count}
+use Rattle.swf_meaning.specs.Fork.{branches_in, branches_of, fresh, count as count_nodes}
+use Rattle.swf_meaning.specs.Node.{Node, Fresh, Live, Done, Fault, Inside, At, Later, Sleep, Hear, Forked, Nodes, no_nodes, branch}
+use Rattle.swf_meaning.specs.Sight.{Sight}
+use Rattle.swf_meaning.specs.Strands.{can_go}
+use Rattle.swf_meaning.specs.Wake.{waits, waits_inside, waits_among}
+use Rattle.swf_meaning.specs.World.{Instance, number_after, sight}
+use Rattle.swf_scene.specs.Layers.{frames_of, top_of}
+use Rattle.swf_scene.specs.Stack.{plug, top_node, made_node, setting_sight, instance_of}
+use Rattle.swf_scene.specs.declared.made.Frame.{Frame}
+use Rattle.swf_scene.specs.declared.made.Layer.{Layer}
+use Rattle.swf_scene.specs.declared.made.Top.{Top}
+use Rattle.swf_scene.specs.declared.made.Top.TheVariants as tops
+use Rattle.swf_scene.specs.declared.scene.Setting.{Setting}
+use Rattle.swf_tasks.specs.Prepares.{applied, changed, Fits, IsPrepared, Puts, waits_for, is_at, until_in, until_in_top}
+use Rattle.swf_tasks.specs.Stepped.{IsChange}
+use Rattle.swf_strands.specs.Strands.{strand_node, nodes_of, node_of, root_node, is_fork, made_layers, Stands, IsGrown}
+use Rattle.swf_tasks.specs.Taken.{taken}
+use Rattle.swf_strands.specs.Ways.{replaced, replaced_inside, replaced_among}
+use Rattle.swf_tasks.specs.declared.machine.Part.{Part}
+use Rattle.swf_tasks.specs.declared.machine.Prepared.{Prepared}
+use Rattle.swf_tasks.specs.declared.machine.Step.TheVariants as steps
+use Rattle.swf_tasks.specs.declared.step.Change.{Change}
+use Rattle.swf_strands.proofs.TreeLemmas.{yes-no, fork-node, plain-node, root-holds}
+
+-- ---- how many branches run
+
+-- the branches of the `fork`s of a node, as `branches_in` has them
+abbrev mutual
+  branches : Node → ℕ
+  branches (Fresh t v) = zero
+  branches (Live t v u k) = branches_inside k
+  branches (Done w f) = zero
+  branches (Fault p) = zero
+
+  branches_inside : Inside → ℕ
+  branches_inside (At r i n) = branches n
+  branches_inside (Later n m) = zero
+  branches_inside (Sleep m) = zero
+  branches_inside (Hear bound hs) = zero
+  branches_inside (Forked ns) = count_nodes ns + branches_among ns
+
+  branches_among : Nodes → ℕ
+  branches_among no_nodes = zero
+  branches_among (branch n ns) = branches n + branches_among ns
+
+branches-same : (n : Node) → branches_in n ≡ branches n
+branches-same n = refl
+
+branches-plug : (fs : List Frame) (n : Node) → branches (plug fs n) ≡ branches n
+branches-plug [] n = refl
+branches-plug (f ∷ fs) n = branches-plug fs n
+
+plain-branches : (t : Top) → is_fork t ≡ false → branches (top_node t) ≡ 0
+plain-branches (tops.Fresh r v) e = refl
+plain-branches (tops.Done w d) e = refl
+plain-branches (tops.Fault p) e = refl
+plain-branches (tops.Waiting r v u None m) e = refl
+plain-branches (tops.Waiting r v u (Some n) m) e = refl
+plain-branches (tops.Hearing r v u bound hs) e = refl
+plain-branches (tops.Forked r v u) e = cc
+
+branches-node : (ls : List Layer) (below : Strands Layer) → Stands ls below → branches (strand_node ls (nodes_of below)) ≡ count_nodes (nodes_of below) + branches_among (nodes_of below)
+branches-node ls below s = by (is_fork (top_of ls)) refl
+  where
+    by : (x : Bool) → is_fork (top_of ls) ≡ x → branches (strand_node ls (nodes_of below)) ≡ count_nodes (nodes_of below) + branches_among (nodes_of below)
+    by true e =
+        let f = fork-node ls (nodes_of below) e in
+        ap branches f.1.1.1.1 ∙ branches-plug (frames_of ls) (Live f.0 f.1.0 f.1.1.0 (Forked (nodes_of below)))
+    by false e =
+        ap branches (plain-node ls (nodes_of below) e) ∙ branches-plug (frames_of ls) (top_node (top_of ls)) ∙ plain-branches (top_of ls) e
+        ∙ sym (ap (λ ss. count_nodes (nodes_of ss) + branches_among (nodes_of ss)) (s.1 e))
+
+count-strands : (ss : Strands Layer) → IsGrown ss → count ss ≡ count_nodes (nodes_of ss) + branches_among (nodes_of ss)
+count-strands no_strands g = refl
+count-strands (strand m ls below after) g =
+    let here = branches-node ls below g.0 in
+    let inner = count-strands below g.1 in
+    let others = count-strands after g.2 in
+    omega (arith, here, inner, others)
+
+-- all strands but the root
+pub count-branches : (t : Tree Layer) (r : ℕ) → numbers t.strands ≡ r ∷ [] → IsGrown t.strands → count t.strands ≡ branches_in (root_node t.strands) + 1
+count-branches t r e g =
+    let b = root-holds t r e g in
+    let all : count t.strands ≡ count (strand r b.0.frames b.0.below no_strands) = ap count b.1.1.1.0 in
+    let inner = count-strands b.0.below b.1.1.0.1 in
+    let here = branches-node b.0.frames b.0.below b.1.1.0.0 in
+    let root : branches_in (root_node t.strands) ≡ branches (node_of b.0) = ap branches_in b.1.1.1.1 in
+    omega (arith, all, inner, here, root)
+
+sight-is : (s : Setting) (n : Node) (k now : ℕ) → k ≡ branches_in n + 1 → setting_sight s (k - 1) now ≡ sight now (instance_of s n)
+sight-is s n k now e = let few : k - 1 ≡ branches_in n = omega (arith, e) in ap (λ j. setting_sight s j now) few
+
+-- the change that the root tells is that of the instance
+pub root-change : (t : Tree Layer) (r k now : ℕ) (s : Setting) (i : Instance) (sg : Sight) (bs : List ℕ) (c : Change) → instance_of s (root_node t.strands) ≡ i → numbers t.strands ≡ r ∷ [] → IsGrown t.strands → k ≡ count t.strands →
+    sg ≡ setting_sight s (k - 1) now → ((b : Branch Layer) → find t.strands r ≡ Some b → IsChange sg bs (node_of b) c) → IsChange (sight now i) bs i.node c
+root-change t r k now s i sg bs c view e g many seen change =
+    let b = root-holds t r e g in
+    let same : sg ≡ sight now (instance_of s (root_node t.strands)) = seen ∙ sight-is s (root_node t.strands) k now (many ∙ count-branches t r e g) in
+    let root : IsChange sg bs (root_node t.strands) c = subst (λ n. IsChange sg bs n c) (sym b.1.1.1.1) (change b.0 b.1.0) in
+    subst (λ (j : Instance). IsChange (sight now j) bs j.node c) view (subst (λ x. IsChange x bs (root_node t.strands) c) same root)
+
+-- what the root is told: the strand of the instance can take a step
+pub root-can : (t : Tree Layer) (r now then : ℕ) (s : Setting) (i : Instance) (bs ws : List ℕ) → instance_of s (root_node t.strands) ≡ i → numbers t.strands ≡ r ∷ [] → IsGrown t.strands → then ≡ now → ws ≡ bs → can_go now bs i.node ≡ true →
+    (b : Branch Layer) → find t.strands r ≡ Some b → can_go then ws (node_of b) ≡ true
+root-can t r now then s i bs ws view e g moment same can b f =
+    let x = root-holds t r e g in
+    ap (λ k. can_go k ws (node_of b)) moment
+    ∙ ap (λ w. can_go now w (node_of b)) same
+    ∙ ap (λ (y : Branch Layer). can_go now bs (node_of y)) (sym (same_Some x.0 b (sym x.1.0 ∙ f)))
+    ∙ ap (can_go now bs) (sym x.1.1.1.1)
+    ∙ ap (λ (j : Instance). can_go now bs j.node) view
+    ∙ can
+
+-- ---- a strand that is put anew
+
+-- with all branches of a `fork` that begins on it
+pub puts-whole : (s : Setting) (old new : Strands Layer) (i m : Instance) (p : Part) (ws : List ℕ) → instance_of s (root_node old) ≡ i → ws ≡ p.strand → root_node new ≡ replaced (take p.depth ws) (made_layers p.layers.items) (root_node old) →
+    m ≡ record i { node = root_node new; context = p.context; number = p.number } → Puts (steps.Whole m) p i
+puts-whole s old new i m p ws view same node is =
+    let x = made_layers p.layers.items in
+    record {
+      fits = ap (λ (j : Instance). j.id) is;
+      becomes = is ∙ ap (λ n. record i { node = n; context = p.context; number = p.number }) (node ∙ ap (λ w. replaced (take p.depth w) x (root_node old)) same ∙ ap (λ (j : Instance). replaced (changed p) x j.node) view);
+    }
+
+-- ---- the moments that are waited for
+
+either-first : (a x b c : Bool) → (a ≡ true → (x || b) ≡ true) → (a || c) ≡ true → (x || (b || c)) ≡ true
+either-first a true b c f h = refl
+either-first a false true c f h = refl
+either-first true false false c f h = absurd (yes-no (sym (f refl)))
+either-first false false false c f h = h
+
+either-rest : (a x c d : Bool) → (c ≡ true → (x || d) ≡ true) → (a || c) ≡ true → (x || (a || d)) ≡ true
+either-rest a true c d f h = refl
+either-rest true false c d f h = refl
+either-rest false false c d f h = f h
+
+or-right : (x b : Bool) → b ≡ true → (x || b) ≡ true
+or-right true b h = refl
+or-right false b h = h
+
+or-left : (x b : Bool) → x ≡ true → (x || b) ≡ true
+or-left true b h = refl
+or-left false b h = absurd (yes-no (sym h))
+
+abbrev is_among : ℕ → List ℕ → Bool
+is_among m ms = list_any (λ k. m == k) ms
+
+-- those of the strands that stay, and those of the new one
+mutual
+  waits-replaced : (m : ℕ) (bs : List ℕ) (x n : Node) → waits_for m (replaced bs x n) ≡ true → (waits_for m x || waits_for m n) ≡ true
+  waits-replaced m [] x n h = or-left (waits_for m x) (waits_for m n) h
+  waits-replaced m (b ∷ bs) x (Fresh t v) h = or-right (waits_for m x) false h
+  waits-replaced m (b ∷ bs) x (Live t v u k) h = waits-inside m b bs x k h
+  waits-replaced m (b ∷ bs) x (Done w f) h = or-right (waits_for m x) false h
+  waits-replaced m (b ∷ bs) x (Fault p) h = or-right (waits_for m x) false h
+
+  waits-inside : (m b : ℕ) (bs : List ℕ) (x : Node) (k : Inside) → is_among m (waits_inside (replaced_inside b bs x k)) ≡ true → (waits_for m x || is_among m (waits_inside k)) ≡ true
+  waits-inside m b bs x (At r i n) h = waits-replaced m (b ∷ bs) x n h
+  waits-inside m b bs x (Later n k) h = or-right (waits_for m x) (is_among m (k ∷ [])) h
+  waits-inside m b bs x (Sleep k) h = or-right (waits_for m x) (is_among m (k ∷ [])) h
+  waits-inside m b bs x (Hear bound hs) h = or-right (waits_for m x) false h
+  waits-inside m b bs x (Forked ns) h = waits-beside m b bs x ns h
+
+  waits-beside : (m b : ℕ) (bs : List ℕ) (x : Node) (ns : Nodes) → is_among m (waits_among (replaced_among b bs x ns)) ≡ true → (waits_for m x || is_among m (waits_among ns)) ≡ true
+  waits-beside m b bs x no_nodes h = or-right (waits_for m x) false h
+  waits-beside m zero bs x (branch n ns) h =
+      ap (λ y. waits_for m x || y) (list_any-append (λ k. m == k) (waits n) (waits_among ns))
+      ∙ either-first (waits_for m (replaced bs x n)) (waits_for m x) (waits_for m n) (is_among m (waits_among ns)) (waits-replaced m bs x n) (sym (list_any-append (λ k. m == k) (waits (replaced bs x n)) (waits_among ns)) ∙ h)
+  waits-beside m (suc b) bs x (branch n ns) h =
+      ap (λ y. waits_for m x || y) (list_any-append (λ k. m == k) (waits n) (waits_among ns))
+      ∙ either-rest (waits_for m n) (waits_for m x) (is_among m (waits_among (replaced_among b bs x ns))) (is_among m (waits_among ns)) (waits-beside m b bs x ns) (sym (list_any-append (λ k. m == k) (waits n) (waits_among (replaced_among b bs x ns))) ∙ h)
+
+waits-plug : (fs : List Frame) (n : Node) → waits (plug fs n) ≡ waits n
+waits-plug [] n = refl
+waits-plug (f ∷ fs) n = waits-plug fs n
+
+waits-fresh : (ts : Tasks) (u : Value) → waits_among (fresh ts u) ≡ []
+waits-fresh no_tasks u = refl
+waits-fresh (named k t ts) u = waits-fresh ts u
+
+waits-top : (m : ℕ) (t : Top) → waits_for m (made_node t) ≡ is_at m (until_in_top t)
+waits-top m (tops.Fresh r v) = refl
+waits-top m (tops.Done w d) = refl
+waits-top m (tops.Fault p) = refl
+waits-top m (tops.Waiting r v u None k) = or-false (m == k)
+waits-top m (tops.Waiting r v u (Some n) k) = or-false (m == k)
+waits-top m (tops.Hearing r v u bound hs) = refl
+waits-top m (tops.Forked r v u) = ap (is_among m) (waits-fresh (branches_of r) u)
+
+waits-made : (m : ℕ) (ls : List Layer) → waits_for m (made_layers ls) ≡ is_at m (until_in ls)
+waits-made m ls = ap (is_among m) (waits-plug (frames_of ls) (made_node (top_of ls))) ∙ waits-top m (top_of ls)
+
+-- ---- the step that was prepared
+
+-- the instance after a change
+abbrev pub instance_after : Instance → List ℕ → Change → Instance
+instance_after i bs c = record i { node = replaced (take c.depth bs) (made_layers c.layers.items) i.node; context = c.context; number = number_after i.number c.emitted }
+
+pub becomes-after : (s : Setting) (n : Node) (i j : Instance) (bs ws : List ℕ) (c : Change) (k : ℕ) → instance_of s n ≡ i → ws ≡ bs → k ≡ number_after s.number c.emitted →
+    j ≡ record i { node = replaced (take c.depth ws) (made_layers c.layers.items) i.node; context = c.context; number = k } → j ≡ instance_after i bs c
+becomes-after s n i j bs ws c k view same next is =
+    let number : k ≡ number_after i.number c.emitted = next ∙ ap (λ (x : Instance). number_after x.number c.emitted) view in
+    is ∙ λ a. record i { node = replaced (take c.depth (same a)) (made_layers c.layers.items) i.node; context = c.context; number = number a }
+
+pub prepared-by : (now : ℕ) (bs : List ℕ) (i : Instance) (c : Change) (p : Prepared) → IsChange (sight now i) bs i.node c → Fits p.step i → applied p.step i ≡ instance_after i bs c → p.emitted ≡ c.emitted → p.until ≡ until_in c.layers.items → IsPrepared now bs i p
+prepared-by now bs i c p change fits is same until = record {
+  fits = fits;
+  step = ap (option_map (taken i)) change.step ∙ λ j. Some (sym is j, sym same j);
+  waits = λ m w.
+      let x = made_layers c.layers.items in
+      let new : waits_for m (replaced (take c.depth bs) x i.node) ≡ true = sym (ap (λ (y : Instance). waits_for m y.node) is) ∙ w in
+      sym (ap (λ y. y || waits_for m i.node) (waits-made m c.layers.items ∙ ap (is_at m) (sym until))) ∙ waits-replaced m (take c.depth bs) x i.node new;
+}

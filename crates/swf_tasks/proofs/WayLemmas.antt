@@ -1,0 +1,298 @@
+-- What stands on the strand that branch numbers lead to decides for it.
+use Rattle.std.proofs.Common.{◌≡◌, ◌∙◌, refl, sym, ap, subst, ℕ, zero, suc, Bool, true, false, not, List, [], ◌∷◌, ◌++◌, length, Option, Some, None, Ok, Err}
+use Rattle.std.proofs.Math.Dec.{eqb-suc-zero}
+use Rattle.std.specs.Prelude.{◌==◌, Result, IfOk}
+use Rattle.swf_value.specs.Value.{Value, Members}
+use Rattle.swf_document.specs.Task.{Task}
+use Rattle.swf_document.specs.declared.common.Flow.{Flow}
+use Rattle.swf_document.specs.declared.error.Problem.{Problem}
+use Rattle.swf_frames.specs.Tree.{Tree, Branch, find, numbers}
+use Rattle.swf_meaning.specs.Listen.{is_heard}
+use Rattle.swf_meaning.specs.Node.{Node, Fresh, Live, Done, Fault, Inside, At, Later, Sleep, Hear, Forked, Nodes, no_nodes, branch}
+use Rattle.swf_meaning.specs.Parts.{kind_of}
+use Rattle.swf_meaning.specs.Shared.{is_shared, is_shared_inside, is_shared_branch, is_shared_kind, is_shared_error}
+use Rattle.swf_meaning.specs.Strands.{can_go, can_go_inside, can_go_branch}
+use Rattle.swf_meaning.specs.World.{Instance}
+use Rattle.swf_meaning.specs.declared.heard.Heard.{Heard}
+use Rattle.swf_scene.specs.Layers.{frames_of, top_of}
+use Rattle.swf_scene.specs.Stack.{plug, top_node, forked, waiting, round_of, instance_of}
+use Rattle.swf_scene.specs.declared.made.Frame.{Frame}
+use Rattle.swf_scene.specs.declared.made.Layer.{Layer}
+use Rattle.swf_scene.specs.declared.made.Top.{Top}
+use Rattle.swf_scene.specs.declared.made.Top.TheVariants as tops
+use Rattle.swf_scene.specs.declared.scene.Setting.{Setting}
+use Rattle.swf_tasks.specs.Installed.{output_in, problem_in}
+use Rattle.swf_strands.specs.Strands.{nodes_of, node_of, root_node, IsGrown, IsHeld}
+use Rattle.swf_strands.specs.Ways.{at, at_inside, at_among, own_until, own_until_inside, own_listens}
+use Rattle.swf_tasks.proofs.StepLemmas.{plug-append}
+use Rattle.swf_strands.proofs.TreeLemmas.{root-holds, at-walk, at-nowhere, waiting-forked, IsAt, IsNowhere}
+
+-- ---- the tree of an instance
+
+-- what holds of what the root holds, holds of it
+pub of-root : (P : Node → Type 0) (s : Setting) (t : Tree Layer) (r : ℕ) (i : Instance) → instance_of s (root_node t.strands) ≡ i → numbers t.strands ≡ r ∷ [] → IsGrown t.strands → ((b : Branch Layer) → find t.strands r ≡ Some b → P (node_of b)) → P i.node
+of-root P s t r i view e g h =
+    let x = root-holds t r e g in
+    subst (λ (j : Instance). P j.node) view (subst P (sym x.1.1.1.1) (h x.0 x.1.0))
+
+-- what a result tells of each that suits, it tells of this one
+pub all-told : {T E A : Type 0} (Q : A → Type 0) (P : T → A → Type 0) (r : Result T E) (a : A) → Q a → IfOk r (λ x. (b : A) → Q b → P x b) → IfOk r (λ x. P x a)
+all-told Q P (Ok x) a q h = h a q
+all-told Q P (Err e) a q h = tt
+
+-- where the way leads
+pub on-strand : (P : Option Node → Type 0) (s : Setting) (t : Tree Layer) (r c : ℕ) (way bs : List ℕ) (i : Instance) → instance_of s (root_node t.strands) ≡ i → numbers t.strands ≡ r ∷ [] → IsGrown t.strands → way ≡ bs → IsAt t r way c →
+    ((b : Branch Layer) → find t.strands c ≡ Some b → P (Some (node_of b))) → P (at bs i.node)
+on-strand P s t r c way bs i view e g same is h =
+    let x = root-holds t r e g in
+    let y = is x.0 x.1.0 in
+    let there : at way (node_of x.0) ≡ Some (node_of y.0) = at-walk way (record { number = r; held = x.0 }) (record { number = c; held = y.0 }) x.1.1.0 y.1.0 in
+    let found : P (at way (root_node t.strands)) = subst P (sym (ap (at way) x.1.1.1.1 ∙ there)) (h y.0 y.1.1.0) in
+    subst (λ (j : Instance). P (at bs j.node)) view (subst (λ w. P (at w (root_node t.strands))) same found)
+
+pub no-strand : (P : Option Node → Type 0) (s : Setting) (t : Tree Layer) (r : ℕ) (way bs : List ℕ) (i : Instance) → instance_of s (root_node t.strands) ≡ i → numbers t.strands ≡ r ∷ [] → IsGrown t.strands → way ≡ bs → IsNowhere t r way → P None → P (at bs i.node)
+no-strand P s t r way bs i view e g same is h =
+    let x = root-holds t r e g in
+    let none : at way (node_of x.0) ≡ None = at-nowhere way (record { number = r; held = x.0 }) x.1.1.0 (is x.0 x.1.0) in
+    let left : P (at way (root_node t.strands)) = subst P (sym (ap (at way) x.1.1.1.1 ∙ none)) h in
+    subst (λ (j : Instance). P (at bs j.node)) view (subst (λ w. P (at w (root_node t.strands))) same left)
+
+-- the strand that a way leads to is held
+pub way-held : (t : Tree Layer) (r c : ℕ) (bs : List ℕ) → IsHeld t r → IsAt t r bs c → IsHeld t c
+way-held t r c bs held is = let y = is held.1.0 held.1.1.0 in (held.0, (y.0, y.1.1))
+
+-- ---- it can take a step
+
+abbrev pub can_go_there : ℕ → Option Node → Bool
+can_go_there now None = false
+can_go_there now (Some n) = can_go now [] n
+
+mutual
+  pub can_go-at : (now : ℕ) (bs : List ℕ) (n : Node) → can_go now bs n ≡ can_go_there now (at bs n)
+  can_go-at now [] n = refl
+  can_go-at now (b ∷ bs) (Fresh t v) = refl
+  can_go-at now (b ∷ bs) (Live t v u k) = can_go-inside now b bs t k
+  can_go-at now (b ∷ bs) (Done w f) = refl
+  can_go-at now (b ∷ bs) (Fault p) = refl
+
+  can_go-inside : (now b : ℕ) (bs : List ℕ) (t : Task) (k : Inside) → can_go_inside now (b ∷ bs) t k ≡ can_go_there now (at_inside b bs k)
+  can_go-inside now b bs t (At r i (Fresh x y)) = refl
+  can_go-inside now b bs t (At r i (Live x y z k)) = can_go-inside now b bs x k
+  can_go-inside now b bs t (At r i (Done w f)) = refl
+  can_go-inside now b bs t (At r i (Fault p)) = refl
+  can_go-inside now b bs t (Later n m) = refl
+  can_go-inside now b bs t (Sleep m) = refl
+  can_go-inside now b bs t (Hear bound hs) = refl
+  can_go-inside now b bs t (Forked ns) = can_go-among now b bs ns
+
+  can_go-among : (now b : ℕ) (bs : List ℕ) (ns : Nodes) → can_go_branch now b bs ns ≡ can_go_there now (at_among b bs ns)
+  can_go-among now zero bs no_nodes = refl
+  can_go-among now (suc b) bs no_nodes = refl
+  can_go-among now zero bs (branch n ns) = can_go-at now bs n
+  can_go-among now (suc b) bs (branch n ns) = can_go-among now b bs ns
+
+-- ---- its next step is shared
+
+abbrev pub is_shared_there : Option Node → Bool
+is_shared_there None = false
+is_shared_there (Some n) = is_shared [] n
+
+mutual
+  pub is_shared-at : (bs : List ℕ) (n : Node) → is_shared bs n ≡ is_shared_there (at bs n)
+  is_shared-at [] n = refl
+  is_shared-at (b ∷ bs) (Fresh t v) = refl
+  is_shared-at (b ∷ bs) (Live t v u k) = is_shared-inside b bs t k
+  is_shared-at (b ∷ bs) (Done w f) = refl
+  is_shared-at (b ∷ bs) (Fault p) = refl
+
+  is_shared-inside : (b : ℕ) (bs : List ℕ) (t : Task) (k : Inside) → is_shared_inside (b ∷ bs) t k ≡ is_shared_there (at_inside b bs k)
+  is_shared-inside b bs t (At r i (Fresh x y)) = refl
+  is_shared-inside b bs t (At r i (Live x y z k)) = is_shared-inside b bs x k
+  is_shared-inside b bs t (At r i (Done w f)) = refl
+  is_shared-inside b bs t (At r i (Fault p)) = refl
+  is_shared-inside b bs t (Later n m) = refl
+  is_shared-inside b bs t (Sleep m) = refl
+  is_shared-inside b bs t (Hear bound hs) = refl
+  is_shared-inside b bs t (Forked ns) = is_shared-among b bs ns
+
+  is_shared-among : (b : ℕ) (bs : List ℕ) (ns : Nodes) → is_shared_branch b bs ns ≡ is_shared_there (at_among b bs ns)
+  is_shared-among zero bs no_nodes = refl
+  is_shared-among (suc b) bs no_nodes = refl
+  is_shared-among zero bs (branch n ns) = is_shared-at bs n
+  is_shared-among (suc b) bs (branch n ns) = is_shared-among b bs ns
+
+is_shared-done : (f : Frame) (fs : List Frame) (w : Value) (d : Flow) → is_shared [] (plug (f ∷ fs) (Done w d)) ≡ false
+is_shared-done f [] w d = refl
+is_shared-done f (g ∷ gs) w d = is_shared-done g gs w d
+
+is_shared-live : (fs : List Frame) (t : Task) (v u : Value) (k : Inside) → is_shared [] (plug fs (Live t v u k)) ≡ is_shared_inside [] t k
+is_shared-live [] t v u k = refl
+is_shared-live (f ∷ []) t v u k = refl
+is_shared-live (f ∷ g ∷ gs) t v u k = is_shared-live (g ∷ gs) t v u k
+
+is_shared-fresh : (fs : List Frame) (t : Task) (v : Value) → is_shared [] (plug fs (Fresh t v)) ≡ is_shared_kind (kind_of t)
+is_shared-fresh [] t v = refl
+is_shared-fresh (f ∷ []) t v = refl
+is_shared-fresh (f ∷ g ∷ gs) t v = is_shared-fresh (g ∷ gs) t v
+
+waiting-alone : (t : Task) (n : Option ℕ) (m : ℕ) → is_shared_inside [] t (waiting n m) ≡ false
+waiting-alone t None m = refl
+waiting-alone t (Some n) m = refl
+
+-- what stands innermost decides
+abbrev pub shares_with : Branch Layer → Top → Bool
+shares_with b t = is_shared [] (plug (frames_of b.frames) (forked (top_node t) (nodes_of b.below)))
+
+shares-is : (b : Branch Layer) (t x : Top) (y : Bool) → t ≡ top_of b.frames → t ≡ x → shares_with b x ≡ y → y ≡ is_shared [] (node_of b)
+shares-is b t x y s e h = sym (ap (shares_with b) (sym s ∙ e) ∙ h)
+
+pub shared-fresh : (b : Branch Layer) (t : Top) (r : Task) (v : Value) → t ≡ top_of b.frames → t ≡ tops.Fresh r v → is_shared_kind (kind_of r) ≡ is_shared [] (node_of b)
+shared-fresh b t r v s e = shares-is b t (tops.Fresh r v) (is_shared_kind (kind_of r)) s e (is_shared-fresh (frames_of b.frames) r v)
+
+pub shared-done : (b : Branch Layer) (t : Top) (w : Value) (d : Flow) → t ≡ top_of b.frames → t ≡ tops.Done w d → false ≡ is_shared [] (node_of b)
+shared-done b t w d s e = shares-is b t (tops.Done w d) false s e (by (frames_of b.frames))
+  where
+    by : (fs : List Frame) → is_shared [] (plug fs (Done w d)) ≡ false
+    by [] = refl
+    by (f ∷ fs) = is_shared-done f fs w d
+
+pub shared-fault : (b : Branch Layer) (t : Top) (p : Problem) (y : Bool) → t ≡ top_of b.frames → t ≡ tops.Fault p → y ≡ is_shared [] (plug (frames_of b.frames) (Fault p)) → y ≡ is_shared [] (node_of b)
+shared-fault b t p y s e h = shares-is b t (tops.Fault p) y s e (sym h)
+
+pub shared-waiting : (b : Branch Layer) (t : Top) (r : Task) (v u : Value) (n : Option ℕ) (m : ℕ) → t ≡ top_of b.frames → t ≡ tops.Waiting r v u n m → false ≡ is_shared [] (node_of b)
+shared-waiting b t r v u n m s e =
+    shares-is b t (tops.Waiting r v u n m) false s e
+    (ap (λ x. is_shared [] (plug (frames_of b.frames) x)) (waiting-forked r v u n m (nodes_of b.below)) ∙ is_shared-live (frames_of b.frames) r v u (waiting n m) ∙ waiting-alone r n m)
+
+pub shared-hearing : (b : Branch Layer) (t : Top) (r : Task) (v u : Value) (bound : Members) (hs : List Heard) → t ≡ top_of b.frames → t ≡ tops.Hearing r v u bound hs → false ≡ is_shared [] (node_of b)
+shared-hearing b t r v u bound hs s e = shares-is b t (tops.Hearing r v u bound hs) false s e (is_shared-live (frames_of b.frames) r v u (Hear bound hs))
+
+pub shared-forked : (b : Branch Layer) (t : Top) (r : Task) (v u : Value) → t ≡ top_of b.frames → t ≡ tops.Forked r v u → false ≡ is_shared [] (node_of b)
+shared-forked b t r v u s e = shares-is b t (tops.Forked r v u) false s e (is_shared-live (frames_of b.frames) r v u (Forked (nodes_of b.below)))
+
+-- an error inside the last of some tasks
+pub error-last : (fs os : List Frame) (f : Frame) (p : Problem) → fs ≡ os ++ f ∷ [] → is_shared_error (round_of f.round) (kind_of f.task) ≡ is_shared [] (plug fs (Fault p))
+error-last fs os f p e =
+    sym (ap (λ hs. is_shared [] (plug hs (Fault p))) e ∙ ap (is_shared []) (plug-append os (f ∷ []) (Fault p))
+    ∙ is_shared-live os f.task f.raw f.input (At (round_of f.round) f.place (Fault p)))
+
+pub error-none : (fs : List Frame) (p : Problem) → fs ≡ [] → false ≡ is_shared [] (plug fs (Fault p))
+error-none fs p e = sym (ap (λ gs. is_shared [] (plug gs (Fault p))) e)
+
+-- ---- it waits
+
+own_until-plug : (fs : List Frame) (n : Node) → own_until (plug fs n) ≡ own_until n
+own_until-plug [] n = refl
+own_until-plug (f ∷ fs) n = own_until-plug fs n
+
+own_until-waiting : (n : Option ℕ) (m : ℕ) → own_until_inside (waiting n m) ≡ Some m
+own_until-waiting None m = refl
+own_until-waiting (Some n) m = refl
+
+pub until-waiting : (b : Branch Layer) (t : Top) (r : Task) (v u : Value) (n : Option ℕ) (m : ℕ) → t ≡ top_of b.frames → t ≡ tops.Waiting r v u n m → Some m ≡ own_until (node_of b)
+until-waiting b t r v u n m s e =
+    sym (own_until-plug (frames_of b.frames) (forked (top_node (top_of b.frames)) (nodes_of b.below)) ∙ ap (λ x. own_until (forked (top_node x) (nodes_of b.below))) (sym s ∙ e)
+    ∙ ap own_until (waiting-forked r v u n m (nodes_of b.below)) ∙ own_until-waiting n m)
+
+pub until-not : (b : Branch Layer) (t : Top) → t ≡ top_of b.frames → ((r : Task) (v u : Value) (n : Option ℕ) (m : ℕ) → t ≡ tops.Waiting r v u n m → ⊥) → None ≡ own_until (node_of b)
+until-not b t s isnt =
+    sym (own_until-plug (frames_of b.frames) (forked (top_node (top_of b.frames)) (nodes_of b.below)) ∙ ap (λ x. own_until (forked (top_node x) (nodes_of b.below))) (sym s) ∙ by t isnt)
+  where
+    by : (t : Top) → ((r : Task) (v u : Value) (n : Option ℕ) (m : ℕ) → t ≡ tops.Waiting r v u n m → ⊥) → own_until (forked (top_node t) (nodes_of b.below)) ≡ None
+    by (tops.Fresh r v) isnt = refl
+    by (tops.Done w d) isnt = refl
+    by (tops.Fault p) isnt = refl
+    by (tops.Waiting r v u n m) isnt = absurd (isnt r v u n m refl)
+    by (tops.Hearing r v u bound hs) isnt = refl
+    by (tops.Forked r v u) isnt = refl
+
+-- ---- it listens
+
+own_listens-plug : (fs : List Frame) (n : Node) → own_listens (plug fs n) ≡ own_listens n
+own_listens-plug [] n = refl
+own_listens-plug (f ∷ fs) n = own_listens-plug fs n
+
+own_listens-top : (b : Branch Layer) (t : Top) → t ≡ top_of b.frames → own_listens (node_of b) ≡ own_listens (forked (top_node t) (nodes_of b.below))
+own_listens-top b t s = own_listens-plug (frames_of b.frames) (forked (top_node (top_of b.frames)) (nodes_of b.below)) ∙ ap (λ x. own_listens (forked (top_node x) (nodes_of b.below))) (sym s)
+
+pub listens-hearing : (b : Branch Layer) (t : Top) (r : Task) (v u : Value) (bound : Members) (hs : List Heard) → t ≡ top_of b.frames → t ≡ tops.Hearing r v u bound hs → not (is_heard r hs) ≡ own_listens (node_of b)
+listens-hearing b t r v u bound hs s e = sym (own_listens-top b t s ∙ ap (λ x. own_listens (forked (top_node x) (nodes_of b.below))) e)
+
+pub listens-not : (b : Branch Layer) (t : Top) → t ≡ top_of b.frames → ((r : Task) (v u : Value) (bound : Members) (hs : List Heard) → t ≡ tops.Hearing r v u bound hs → ⊥) → false ≡ own_listens (node_of b)
+listens-not b t s isnt = sym (own_listens-top b t s ∙ by t isnt)
+  where
+    by : (t : Top) → ((r : Task) (v u : Value) (bound : Members) (hs : List Heard) → t ≡ tops.Hearing r v u bound hs → ⊥) → own_listens (forked (top_node t) (nodes_of b.below)) ≡ false
+    by (tops.Fresh r v) isnt = refl
+    by (tops.Done w d) isnt = refl
+    by (tops.Fault p) isnt = refl
+    by (tops.Waiting r v u None m) isnt = refl
+    by (tops.Waiting r v u (Some n) m) isnt = refl
+    by (tops.Hearing r v u bound hs) isnt = absurd (isnt r v u bound hs refl)
+    by (tops.Forked r v u) isnt = refl
+
+-- ---- what an instance ended in
+
+-- whether a task stands around it
+none-around : (n : ℕ) (x : Bool) (f : Frame) (fs : List Frame) → n ≡ length (f ∷ fs) → x ≡ (n == 0) → x ≡ true → ⊥
+none-around n x f fs l e is = let no : x ≡ false = e ∙ ap (λ m. m == 0) l ∙ eqb-suc-zero (length fs) in cc
+
+some-around : (n : ℕ) (x : Bool) → n ≡ 0 → x ≡ (n == 0) → x ≡ false → ⊥
+some-around n x l e isnt = let yes : x ≡ true = e ∙ ap (λ m. m == 0) l in cc
+
+abbrev ended_as : List Frame → Top → Nodes → Node
+ended_as fs t ns = plug fs (forked (top_node t) ns)
+
+ended-at : (b : Branch Layer) (t : Top) → t ≡ top_of b.frames → node_of b ≡ ended_as (frames_of b.frames) t (nodes_of b.below)
+ended-at b t s = ap (λ x. ended_as (frames_of b.frames) x (nodes_of b.below)) (sym s)
+
+pub output-some : (b : Branch Layer) (t : Top) (w : Value) (d : Flow) (n : ℕ) (x : Bool) → t ≡ top_of b.frames → t ≡ tops.Done w d → n ≡ length (frames_of b.frames) → x ≡ (n == 0) → x ≡ true → Some w ≡ output_in (node_of b)
+output-some b t w d n x s e l h is = sym (ap output_in (ended-at b t s ∙ ap (λ y. ended_as (frames_of b.frames) y (nodes_of b.below)) e) ∙ by (frames_of b.frames) l)
+  where
+    by : (fs : List Frame) → n ≡ length fs → output_in (ended_as fs (tops.Done w d) (nodes_of b.below)) ≡ Some w
+    by [] l = refl
+    by (f ∷ fs) l = absurd (none-around n x f fs l h is)
+
+pub output-around : (b : Branch Layer) (n : ℕ) (x : Bool) → n ≡ length (frames_of b.frames) → x ≡ (n == 0) → x ≡ false → None ≡ output_in (node_of b)
+output-around b n x l h isnt = by (frames_of b.frames) l
+  where
+    by : (fs : List Frame) → n ≡ length fs → None ≡ output_in (ended_as fs (top_of b.frames) (nodes_of b.below))
+    by [] l = absurd (some-around n x l h isnt)
+    by (f ∷ fs) l = refl
+
+pub output-none : (b : Branch Layer) (t : Top) → t ≡ top_of b.frames → ((w : Value) (d : Flow) → t ≡ tops.Done w d → ⊥) → None ≡ output_in (node_of b)
+output-none b t s isnt = sym (ap output_in (ended-at b t s) ∙ by (frames_of b.frames) t isnt)
+  where
+    by : (fs : List Frame) (t : Top) → ((w : Value) (d : Flow) → t ≡ tops.Done w d → ⊥) → output_in (ended_as fs t (nodes_of b.below)) ≡ None
+    by (f ∷ fs) t isnt = refl
+    by [] (tops.Fresh r v) isnt = refl
+    by [] (tops.Done w d) isnt = absurd (isnt w d refl)
+    by [] (tops.Fault p) isnt = refl
+    by [] (tops.Waiting r v u n m) isnt = refl
+    by [] (tops.Hearing r v u bound hs) isnt = refl
+    by [] (tops.Forked r v u) isnt = refl
+
+pub problem-some : (b : Branch Layer) (t : Top) (p : Problem) (n : ℕ) (x : Bool) → t ≡ top_of b.frames → t ≡ tops.Fault p → n ≡ length (frames_of b.frames) → x ≡ (n == 0) → x ≡ true → Some p ≡ problem_in (node_of b)
+problem-some b t p n x s e l h is = sym (ap problem_in (ended-at b t s ∙ ap (λ y. ended_as (frames_of b.frames) y (nodes_of b.below)) e) ∙ by (frames_of b.frames) l)
+  where
+    by : (fs : List Frame) → n ≡ length fs → problem_in (ended_as fs (tops.Fault p) (nodes_of b.below)) ≡ Some p
+    by [] l = refl
+    by (f ∷ fs) l = absurd (none-around n x f fs l h is)
+
+pub problem-around : (b : Branch Layer) (n : ℕ) (x : Bool) → n ≡ length (frames_of b.frames) → x ≡ (n == 0) → x ≡ false → None ≡ problem_in (node_of b)
+problem-around b n x l h isnt = by (frames_of b.frames) l
+  where
+    by : (fs : List Frame) → n ≡ length fs → None ≡ problem_in (ended_as fs (top_of b.frames) (nodes_of b.below))
+    by [] l = absurd (some-around n x l h isnt)
+    by (f ∷ fs) l = refl
+
+pub problem-none : (b : Branch Layer) (t : Top) → t ≡ top_of b.frames → ((p : Problem) → t ≡ tops.Fault p → ⊥) → None ≡ problem_in (node_of b)
+problem-none b t s isnt = sym (ap problem_in (ended-at b t s) ∙ by (frames_of b.frames) t isnt)
+  where
+    by : (fs : List Frame) (t : Top) → ((p : Problem) → t ≡ tops.Fault p → ⊥) → problem_in (ended_as fs t (nodes_of b.below)) ≡ None
+    by (f ∷ fs) t isnt = refl
+    by [] (tops.Fresh r v) isnt = refl
+    by [] (tops.Done w d) isnt = refl
+    by [] (tops.Fault p) isnt = absurd (isnt p refl)
+    by [] (tops.Waiting r v u n m) isnt = refl
+    by [] (tops.Hearing r v u bound hs) isnt = refl
+    by [] (tops.Forked r v u) isnt = refl

@@ -1,0 +1,45 @@
+use Rattle.std.proofs.Common.{◌≡◌, ◌∙◌, ap, sym, subst, arith, length}
+use Rattle.std.proofs.Common.{true}
+use Rattle.swf_meaning.specs.Sight.{Sight}
+use Rattle.swf_meaning.specs.Strands.{can_go}
+use Rattle.swf_scene.specs.Layers.{frames_of}
+use Rattle.swf_scene.specs.Stack.{sight_of}
+use Rattle.swf_strands.specs.Strands.{node_of}
+use Rattle.swf_tasks.proofs.StepLemmas.{seen_in-now}
+use Rattle.swf_tasks.proofs.ChangeLemmas.{no-numbers, own-goes, own-told, child-goes, fork-there, branch-told, nowhere-goes, Goes}
+use Rattle.swf_strands.proofs.TreeLemmas.{child-held}
+use Rattle.swf_tasks.proofs.step.+step_of.Goals as goal
+
+pub own_step-requires : goal.own_step-requires
+own_step-requires t c =
+    own-goes c.args.scene.now c.args.forest.now c.args.strand c.args.branches.now c.stack_of.result.around.now c.stack_of.result.top.now c.requires.held (no-numbers c.args.branches.now c.in_default.ensures.cases) c.requires.can c.stack_of.ensures.around c.stack_of.ensures.top
+
+pub returns-in_default : goal.returns-in_default
+returns-in_default t c =
+    own-told (sight_of c.args.scene) c.args.forest.now c.args.strand c.args.branches.now c.stack_of.result.around.now c.stack_of.result.top.now c.own_step.result (no-numbers c.args.branches.now c.in_default.ensures.cases) c.requires.can c.stack_of.ensures.around c.stack_of.ensures.top c.own_step.ensures
+
+pub unreachable-requires : goal.unreachable-requires
+unreachable-requires t c =
+    let b = c.requires.held.1.0 in
+    let f = c.requires.held.1.1.0 in
+    nowhere-goes c.args.scene.now c.in-Some.inner.now c.in-Some.number.now b (c.in_default-child_of.ensures.none b f) (subst (λ bs. can_go c.args.scene.now bs (node_of b) ≡ true) c.in-Some.ensures.cases.0 (c.requires.can b f))
+
+pub step_of-requires : goal.step_of-requires
+step_of-requires t c =
+    let now : c.args.scene.now ≡ c.in_ok-copy.field-0.now = sym (ap (λ (s : Sight). s.now) (c.in_ok-copy.ensures ∙ c.in_ok-scene.ensures) ∙ seen_in-now (sight_of c.args.scene) (frames_of c.stack_of.result.around.now)) in
+    let size = ap length c.in-Some.ensures.cases.0 in (
+      omega (arith, size, c.decreases),
+      (
+        child-held c.args.forest.now c.args.strand c.in-Some.number.now c.in-Some-child_of.child c.requires.held c.in-Some-child_of.ensures.child,
+        subst (λ n. Goes n c.args.forest.now c.in-Some-child_of.child c.in-Some.inner.now) now (child-goes c.args.scene.now c.args.forest.now c.args.strand c.in-Some.number.now c.in-Some-child_of.child c.args.branches.now c.in-Some.inner.now c.requires.held c.in-Some-child_of.ensures.child c.in-Some.ensures.cases.0 c.requires.can),
+      ),
+    )
+
+pub settle-requires-clause-fork : goal.settle-requires-clause-fork
+settle-requires-clause-fork t c =
+    fork-there c.args.forest.now c.args.strand c.in-Some.number.now c.in-Some-child_of.child c.requires.held c.in-Some-child_of.ensures.child
+
+pub returns : goal.returns
+returns t c =
+    branch-told (sight_of c.args.scene) (sight_of c.in_ok-scene.scene) (sight_of c.in_ok-copy.field-0) c.args.forest.now c.args.strand c.in-Some.number.now c.in-Some-child_of.child c.args.branches.now c.in-Some.inner.now c.stack_of.result.around.now c.in_ok-change.change c.settle.result
+    c.requires.held c.in-Some-child_of.ensures.child c.in-Some.ensures.cases.0 c.stack_of.ensures.around c.in_ok-scene.ensures c.in_ok-copy.ensures c.in_ok-change.ensures c.settle.ensures

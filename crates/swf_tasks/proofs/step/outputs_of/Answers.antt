@@ -1,0 +1,76 @@
+use Rattle.std.proofs.Common.{◌≡◌, ◌∙◌, ap, sym, subst, suc, add-one, true, false, ◌++◌, ◌∷◌, [], Some, arith}
+use Rattle.std.specs.Prelude.{option_map}
+use Rattle.swf_frames.specs.Tree.{find}
+use Rattle.swf_frames.specs.Paths.{Found}
+use Rattle.swf_meaning.specs.Fork.{put}
+use Rattle.swf_meaning.specs.Node.{Node}
+use Rattle.swf_scene.specs.Layers.{top_of}
+use Rattle.swf_scene.specs.Stack.{top_node}
+use Rattle.swf_scene.specs.declared.made.Layer.{Layer}
+use Rattle.swf_tasks.specs.Stepped.{output_on}
+use Rattle.swf_strands.specs.Strands.{nodes_of}
+use Rattle.swf_tasks.proofs.OutputLemmas.{AreUpTo, node_output, output-of-branch, one-more, not-all, all-done, none-left, below-beside, few-below}
+use Rattle.swf_strands.proofs.TreeLemmas.{nth_node, yes-no}
+use Rattle.swf_tasks.proofs.step.outputs_of.Goals as goal
+use Rattle.swf_tasks.proofs.step.outputs_of.Goals.{then-next-number, else-next-number}
+
+pub returns-in_default-output : goal.returns-in_default-output
+returns-in_default-output c = λ b f.
+    let number = c.args.number in
+    let next = c.loop-branch.next in
+    let ms = put (nodes_of b.below) number (top_node c.args.ended.now) in
+    let h = c.in-Some.ensures.child b f in
+    let child : Found Layer = record { number = c.in-Some.branch; held = h.0 } in
+    let told : (n : Node) × ((nth_node ms next ≡ Some n) × (node_output n ≡ option_map (λ w. w.now) c.if-next-number.output)) =
+    elim c.if-next-number.branch [
+      | then-next-number w ↦ let o = output-of-branch b number next child c.args.ended.now h.1.0 true (λ _. w.if-next-number.true) (λ e. absurd (yes-no e)) in (o.0, (o.1.0, o.1.1 ∙ sym (ap (option_map (λ w. w.now)) w.output-is ∙ w.output_of-output.ensures)))
+      | else-next-number w ↦ let o = output-of-branch b number next child c.args.ended.now h.1.0 false (λ e. absurd (yes-no (sym e))) (λ _ e. w.if-next-number.false (sym e)) in (
+        o.0,
+        (
+          o.1.0,
+          o.1.1 ∙ ap (λ ls. output_on ls (top_of h.0.frames)) (sym (c.stack_of.ensures.around h.0 h.1.1.0)) ∙ ap (output_on c.stack_of.result.around.now) (sym (c.stack_of.ensures.top h.0 h.1.1.0)) ∙ sym (ap (option_map (λ w. w.now)) w.output-is ∙ w.output_of-output-else-next-number.ensures),
+        ),
+      )
+    ] in
+    not-all ms next c.loop-branch.outputs.items told.0 (c.loop-branch.invariant b f) told.1.0 (told.1.1 ∙ ap (option_map (λ w. w.now)) c.in_default-output.is)
+
+pub overflow_add-next : goal.overflow_add-next
+overflow_add-next c =
+    let b = c.requires.held.1.0 in
+    let h = c.in-Some.ensures.child b c.requires.held.1.1.0 in
+    let few = few-below b c.loop-branch.next (record { number = c.in-Some.branch; held = h.0 }) c.requires.held.1.1.1 h.1.0 in
+    omega (arith, few)
+
+pub loop-branch-smaller : goal.loop-branch-smaller
+loop-branch-smaller c =
+    let b = c.requires.held.1.0 in
+    let h = c.in-Some.ensures.child b c.requires.held.1.1.0 in
+    let less = below-beside (find c.args.forest.now.strands c.args.strand) b c.loop-branch.next (record { number = c.in-Some.branch; held = h.0 }) c.requires.held.1.1.0 h.1.0 in
+    omega (arith, less)
+
+pub loop-branch-preserved : goal.loop-branch-preserved
+loop-branch-preserved c = λ b f.
+    let number = c.args.number in
+    let next = c.loop-branch.next in
+    let ms = put (nodes_of b.below) number (top_node c.args.ended.now) in
+    let h = c.in-Some.ensures.child b f in
+    let child : Found Layer = record { number = c.in-Some.branch; held = h.0 } in
+    let told : (n : Node) × ((nth_node ms next ≡ Some n) × (node_output n ≡ option_map (λ w. w.now) c.if-next-number.output)) =
+    elim c.if-next-number.branch [
+      | then-next-number w ↦ let o = output-of-branch b number next child c.args.ended.now h.1.0 true (λ _. w.if-next-number.true) (λ e. absurd (yes-no e)) in (o.0, (o.1.0, o.1.1 ∙ sym (ap (option_map (λ w. w.now)) w.output-is ∙ w.output_of-output.ensures)))
+      | else-next-number w ↦ let o = output-of-branch b number next child c.args.ended.now h.1.0 false (λ e. absurd (yes-no (sym e))) (λ _ e. w.if-next-number.false (sym e)) in (
+        o.0,
+        (
+          o.1.0,
+          o.1.1 ∙ ap (λ ls. output_on ls (top_of h.0.frames)) (sym (c.stack_of.ensures.around h.0 h.1.1.0)) ∙ ap (output_on c.stack_of.result.around.now) (sym (c.stack_of.ensures.top h.0 h.1.1.0)) ∙ sym (ap (option_map (λ w. w.now)) w.output-is ∙ w.output_of-output-else-next-number.ensures),
+        ),
+      )
+    ] in
+    let w = c.in-Some-output.output.now in
+    let items : c.push.new.self.items ≡ c.loop-branch.outputs.items ++ w ∷ [] = c.in_ok-push.ensures.items ∙ ap (λ v. c.loop-branch.outputs.items ++ v ∷ []) c.in_ok-copy.ensures in
+    let more = one-more ms next c.loop-branch.outputs.items told.0 w (c.loop-branch.invariant b f) told.1.0 (told.1.1 ∙ ap (option_map (λ w. w.now)) c.in-Some-output.is) in
+    subst (λ n. AreUpTo ms n c.push.new.self.items) (sym (add-one next)) (subst (AreUpTo ms (suc next)) (sym items) more)
+
+pub returns : goal.returns
+returns c = λ b f.
+    ap Some c.in_ok-list.ensures ∙ all-done (put (nodes_of b.below) c.args.number (top_node c.args.ended.now)) c.loop-branch.next c.loop-branch.outputs.items (c.loop-branch.invariant b f) (none-left b c.args.number c.loop-branch.next (top_node c.args.ended.now) (c.in_default.ensures.none b f))

@@ -1,0 +1,61 @@
+-- What an offer leaves of the strands of an instance.
+use Rattle.std.specs.Prelude.{◌≡◌, ℕ, zero, suc, Option, Some, None}
+use Rattle.swf_value.specs.Value.{Value, Members}
+use Rattle.swf_cloudevents.specs.declared.event.Event.{Event}
+use Rattle.swf_document.specs.Task.{Task}
+use Rattle.swf_frames.specs.Paths.{edit, AreDistinct}
+use Rattle.swf_frames.specs.Tree.{Tree, Branch, Strands, no_strands, strand}
+use Rattle.swf_meaning.specs.Offer.{offered, takes_in}
+use Rattle.swf_meaning.specs.Parts.{kind_of}
+use Rattle.swf_meaning.specs.declared.heard.Heard.{Heard}
+use Rattle.std.specs.Prelude.{List}
+use Rattle.swf_scene.specs.Layers.{frames_of, top_of, stacked}
+use Rattle.swf_scene.specs.Stack.{top_node}
+use Rattle.swf_scene.specs.declared.made.Layer.{Layer}
+use Rattle.swf_scene.specs.declared.made.Top.{Top}
+use Rattle.swf_scene.specs.declared.made.Top.TheVariants as tops
+use Rattle.swf_strands.specs.Strands.{node_of}
+
+-- what stands innermost after the offer
+abbrev pub heard_by : Task → Value → Value → Members → List Heard → Option (Members × List Heard) → Top
+heard_by t v u bound hs None = tops.Hearing t v u bound hs
+heard_by t v u bound hs (Some p) = tops.Hearing t v u p.0 p.1
+
+abbrev pub offered_top : Event → Top → Top
+offered_top e (tops.Hearing t v u bound hs) = heard_by t v u bound hs (takes_in (kind_of t) bound hs e)
+offered_top e (tops.Fresh t v) = tops.Fresh t v
+offered_top e (tops.Done w f) = tops.Done w f
+offered_top e (tops.Fault p) = tops.Fault p
+offered_top e (tops.Waiting t v u n m) = tops.Waiting t v u n m
+offered_top e (tops.Forked t v u) = tops.Forked t v u
+
+abbrev pub offered_layers : Event → List Layer → List Layer
+offered_layers e ls = stacked (frames_of ls) (offered_top e (top_of ls))
+
+abbrev pub offered_strands : Event → Strands Layer → Strands Layer
+offered_strands e no_strands = no_strands
+offered_strands e (strand m ls below after) = strand m (offered_layers e ls) (offered_strands e below) (offered_strands e after)
+
+-- the first ones only
+abbrev pub offered_first : Event → ℕ → Strands Layer → Strands Layer
+offered_first e zero ss = ss
+offered_first e (suc i) no_strands = no_strands
+offered_first e (suc i) (strand m ls below after) = strand m (offered_layers e ls) (offered_strands e below) (offered_first e i after)
+
+-- a strand alone, and with the first of its branches
+abbrev pub offered_here : Event → Branch Layer → Branch Layer
+offered_here e b = record b { frames = offered_layers e b.frames }
+
+abbrev pub offered_to : Event → ℕ → Branch Layer → Branch Layer
+offered_to e i b = record { frames = offered_layers e b.frames; below = offered_first e i b.below }
+
+abbrev pub offered_held : Event → Branch Layer → Branch Layer
+offered_held e b = record { frames = offered_layers e b.frames; below = offered_strands e b.below }
+
+-- the event was offered to that strand alone
+abbrev pub IsOfferHere : Event → ℕ → Branch Layer → Tree Layer → Tree Layer → ℕ → Type 0
+IsOfferHere e n b old new taken = (new.strands ≡ edit (offered_here e) old.strands n) × ((taken ≡ (offered e (top_node (top_of b.frames))).1) × AreDistinct new.strands)
+
+-- and to those below it as well
+abbrev pub IsOfferIn : Event → ℕ → Branch Layer → Tree Layer → Tree Layer → ℕ → Type 0
+IsOfferIn e n b old new taken = (new.strands ≡ edit (offered_held e) old.strands n) × ((taken ≡ (offered e (node_of b)).1) × AreDistinct new.strands)

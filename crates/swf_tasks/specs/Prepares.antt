@@ -1,0 +1,62 @@
+-- A step that was prepared, and what it makes of the instance.
+use Rattle.std.specs.Prelude.{◌≡◌, ◌||◌, ◌==◌, ◌≤◌, ℕ, List, Bool, true, false, length, take, Option, Some, None, option_map}
+use Rattle.std.specs.List.{list_any}
+use Rattle.swf_meaning.specs.Local.{local}
+use Rattle.swf_meaning.specs.Node.{Node}
+use Rattle.swf_meaning.specs.Wake.{waits}
+use Rattle.swf_meaning.specs.World.{Instance, sight}
+use Rattle.swf_scene.specs.Layers.{top_of}
+use Rattle.swf_scene.specs.declared.made.Layer.{Layer}
+use Rattle.swf_scene.specs.declared.made.Top.{Top}
+use Rattle.swf_scene.specs.declared.made.Top.TheVariants as tops
+use Rattle.swf_strands.specs.Forks.{layers_node}
+use Rattle.swf_strands.specs.Strands.{IsStack, made_layers}
+use Rattle.swf_tasks.specs.Taken.{taken}
+use Rattle.swf_strands.specs.Ways.{has_strand, replaced}
+use Rattle.swf_tasks.specs.declared.machine.Part.{Part}
+use Rattle.swf_tasks.specs.declared.machine.Prepared.{Prepared}
+use Rattle.swf_tasks.specs.declared.machine.Step.{Step}
+use Rattle.swf_tasks.specs.declared.machine.Step.TheVariants as steps
+
+-- the strand that a part puts anew
+abbrev pub changed : Part → List ℕ
+changed p = take p.depth p.strand
+
+abbrev pub applied : Step → Instance → Instance
+applied (steps.Whole m) i = m
+applied (steps.Part p) i = record i { node = replaced (changed p) (layers_node p.layers.items) i.node; context = p.context; number = p.number }
+
+-- the instance is the one that the step was prepared for, or has that strand
+abbrev pub Fits : Step → Instance → Type 0
+Fits (steps.Whole m) i = m.id ≡ i.id
+Fits (steps.Part p) i = (p.depth ≤ length p.strand) × IsStack p.layers.items × (has_strand (changed p) i.node ≡ true)
+
+-- the step puts the strand of a part anew, with all branches of a `fork` that begins there
+pub record Puts (s : Step) (p : Part) (i : Instance) : Type 0 where
+  pub fits : Fits s i
+  pub becomes : applied s i ≡ record i { node = replaced (changed p) (made_layers p.layers.items) i.node; context = p.context; number = p.number }
+
+abbrev pub waits_for : ℕ → Node → Bool
+waits_for m n = list_any (λ k. m == k) (waits n)
+
+abbrev pub is_at : ℕ → Option ℕ → Bool
+is_at m None = false
+is_at m (Some k) = m == k
+
+-- the step is that of the strand, and no other moment is waited for than before and the new one
+pub record IsPrepared (now : ℕ) (bs : List ℕ) (i : Instance) (p : Prepared) : Type 0 where
+  pub fits : Fits p.step i
+  pub step : option_map (taken i) (local (sight now i) bs i.node) ≡ Some (applied p.step i, p.emitted)
+  pub waits : (m : ℕ) → waits_for m (applied p.step i).node ≡ true → (is_at m p.until || waits_for m i.node) ≡ true
+
+-- the moment that a strand waits for that holds these
+abbrev pub until_in_top : Top → Option ℕ
+until_in_top (tops.Fresh t v) = None
+until_in_top (tops.Done w f) = None
+until_in_top (tops.Fault p) = None
+until_in_top (tops.Waiting t v u n m) = Some m
+until_in_top (tops.Hearing t v u bound hs) = None
+until_in_top (tops.Forked t v u) = None
+
+abbrev pub until_in : List Layer → Option ℕ
+until_in ls = until_in_top (top_of ls)

@@ -1,0 +1,76 @@
+// An event is offered to all strands that listen (DSL 1.0.0, "Events").
+ghost use Rattle.std.specs.Prelude.{◌≡◌, IfOk, Some, nat_lt};
+ghost use Rattle.swf_frames.specs.Tree.{Branch, find};
+ghost use Rattle.swf_meaning.specs.Offer.{offered};
+ghost use Rattle.swf_scene.specs.declared.made.Layer.{Layer as TheLayer};
+ghost use Rattle.swf_tasks.specs.Offers.{IsOfferIn, IsOfferHere};
+ghost use Rattle.swf_strands.specs.Strands.{IsHeld, node_of};
+
+use crate::hear::{hears, offered};
+use std::alloc::{AllocError, Global};
+use swf_cloudevents::Event;
+use swf_frames::{Forest, StrandId};
+use swf_scene::Layer;
+use swf_strands::{Standing, child_of, layers_of, stack_of};
+
+/// Whether a strand, or one below it, takes an event.
+pub fn hears_in(
+    alloc: Global,
+    forest: &Forest<Layer>,
+    strand: StrandId,
+    event: &Event,
+) -> Result<bool, AllocError>
+    requires { IsHeld forest.now strand }
+    ensures { IfOk result (λ h. (b : Branch TheLayer) → find forest.now.strands strand ≡ Some b → h ≡ nat_lt 0 (offered event.now (node_of b)).1) }
+{
+    if hears(alloc, stack_of(forest, strand).top, event)? {
+        return Ok(true);
+    }
+    let mut number = 0;
+    while let Some(child) = child_of(forest, strand, number) {
+        if hears_in(alloc, forest, child, event)? {
+            return Ok(true);
+        }
+        number += 1;
+    }
+    Ok(false)
+}
+
+/// Offers an event to a strand and to those below it. Answers how many took it.
+pub fn offer_in(
+    alloc: Global,
+    forest: &mut Forest<Layer>,
+    strand: StrandId,
+    event: &Event,
+) -> Result<u32, AllocError>
+    requires { IsHeld forest.old strand }
+    ensures { IfOk result (λ taken. (b : Branch TheLayer) → find forest.old.strands strand ≡ Some b → IsOfferIn event.now strand b forest.old forest.new taken) }
+{
+    let mut taken = offer_here(alloc, forest, strand, event)?;
+    let mut number = 0;
+    while let Some(child) = child_of(forest, strand, number) {
+        let more = offer_in(alloc, forest, child, event)?;
+        taken = taken.checked_add(more).ok_or(AllocError)?;
+        number += 1;
+    }
+    Ok(taken)
+}
+
+// Offers an event to a strand alone.
+fn offer_here(
+    alloc: Global,
+    forest: &mut Forest<Layer>,
+    strand: StrandId,
+    event: &Event,
+) -> Result<u32, AllocError>
+    requires { IsHeld forest.old strand }
+    ensures { IfOk result (λ taken. (b : Branch TheLayer) → find forest.old.strands strand ≡ Some b → IsOfferHere event.now strand b forest.old forest.new taken) }
+{
+    let Standing { around, top } = stack_of(forest, strand);
+    let Some(top) = offered(alloc, top, event)? else {
+        return Ok(0);
+    };
+    let layers = layers_of(alloc, around, None, top)?;
+    let _ = forest.replace(strand, layers);
+    Ok(1)
+}

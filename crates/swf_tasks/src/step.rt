@@ -1,0 +1,264 @@
+// What a step of a strand leads to, and what becomes of the forks that it ends.
+ghost use Rattle.std.specs.Prelude.{◌≡◌, ◌<◌, ◌+◌, ◌∷◌, [], ℕ, List, IfOk, IfSome, Some, length, option_map, true};
+ghost use Rattle.swf_document.specs.Task.{Task};
+ghost use Rattle.swf_frames.specs.Tree.{Branch, find};
+ghost use Rattle.swf_meaning.specs.Complete.{Stepped};
+ghost use Rattle.swf_meaning.specs.Fork.{outputs, put};
+ghost use Rattle.swf_meaning.specs.Sight.{Sight};
+ghost use Rattle.swf_meaning.specs.Strands.{can_go};
+ghost use Rattle.swf_scene.specs.Halts.{Gives};
+ghost use Rattle.swf_scene.specs.Layers.{frames_of, running, top_of};
+ghost use Rattle.swf_scene.specs.Stack.{plug, seen_in, sight_of, stepped_of, top_node};
+ghost use Rattle.swf_scene.specs.declared.made.Frame.{Frame as TheFrame};
+ghost use Rattle.swf_scene.specs.declared.made.Layer.{Layer as TheLayer};
+ghost use Rattle.swf_tasks.specs.Installed.{AreAround, IsStep};
+ghost use Rattle.swf_tasks.specs.Stepped.{IsChange, IsChangeOf, IsForkOf, ended_of, has_ended, listed, output_on};
+ghost use Rattle.swf_strands.specs.Strands.{IsHeld, node_of, nodes_of};
+
+use crate::enter::enter;
+use crate::hear::listened;
+use std::alloc::{AllocError, Global};
+use swf_cloudevents::Event;
+use swf_frames::{Forest, StrandId};
+use swf_rules::{failed, moved_on, settled, woken};
+use swf_scene::{Halt, Layer, Made, Scene, Top};
+use swf_strands::{Standing, child_of, innermost, layers_of, stack_of};
+use swf_value::Json;
+
+/// What a step changes: what the strand holds then that so many branch numbers lead to, below which no others stand but those of
+/// a `fork` that begins; the context; and the event that goes out, where one does.
+#[derive(Drop)]
+pub struct Change {
+    pub depth: usize,
+    pub layers: Vec<Layer>,
+    pub context: Json,
+    pub emitted: Option<Event>,
+}
+
+/// The step of the strand that these branch numbers lead to from this one.
+pub fn step_of(
+    alloc: Global,
+    forest: &Forest<Layer>,
+    strand: StrandId,
+    branches: &[u16],
+    scene: Scene,
+) -> Result<Change, AllocError>
+    requires held { IsHeld forest.now strand }
+    requires can { (b : Branch TheLayer) → find forest.now.strands strand ≡ Some b → can_go scene.now branches.now (node_of b) ≡ true }
+    ensures { IfOk result (λ c. (b : Branch TheLayer) → find forest.now.strands strand ≡ Some b → IsChange (sight_of scene.entry) branches.now (node_of b) c) }
+{
+    let Standing { around, top } = stack_of(forest, strand);
+    let Some((number, inner)) = branches.split_first() else {
+        return own_step(alloc, scene, around, top);
+    };
+    let number = *number as usize;
+    let Some(child) = child_of(forest, strand, number) else {
+        unreachable!();
+    };
+    let scene = scene.inside(alloc, around)?;
+    let change = step_of(alloc, forest, child, inner, scene.copy(alloc)?)?;
+    settle(alloc, forest, strand, number, scene, change)
+}
+
+// The step of a branch, with what becomes of its `fork`.
+fn settle(
+    alloc: Global,
+    forest: &Forest<Layer>,
+    strand: StrandId,
+    number: usize,
+    scene: Scene,
+    change: Change,
+) -> Result<Change, AllocError>
+    requires held { IsHeld forest.now strand }
+    requires fork { (b : Branch TheLayer) → find forest.now.strands strand ≡ Some b → IsForkOf b number }
+    ensures { IfOk result (λ c. (b : Branch TheLayer) (s : Sight) (inner : List ℕ) → find forest.now.strands strand ≡ Some b → sight_of scene.entry ≡ seen_in s (frames_of b.frames) → IsChangeOf (sight_of scene.entry) inner b number change → IsChange s (number ∷ inner) (node_of b) c) }
+{
+    let Some(ended) = ended(&change) else {
+        return deeper(change);
+    };
+    let Standing { around, top } = stack_of(forest, strand);
+    let Top::Forked { task, raw, input } = top else {
+        unreachable!();
+    };
+    let outputs = outputs_of(alloc, forest, strand, number, ended)?;
+    let scene = scene.with_context(change.context.copy()?);
+    let given = settled(
+        alloc,
+        &scene,
+        task,
+        raw,
+        input,
+        task.competes(),
+        ended,
+        outputs,
+    );
+    let made = match given {
+        Ok(None) => return deeper(change),
+        Ok(Some(made)) => made,
+        Err(halt) => made_of(&scene, Err(halt))?,
+    };
+    Ok(Change {
+        depth: 0,
+        layers: layers_of(alloc, around, made.frame, made.top)?,
+        context: made.context,
+        emitted: change.emitted,
+    })
+}
+
+// The same change, told from the strand above.
+fn deeper(change: Change) -> Result<Change, AllocError>
+    ensures { IfOk result (λ c. c ≡ record change { depth = change.depth + 1 }) }
+{
+    let Change {
+        depth,
+        layers,
+        context,
+        emitted,
+    } = change;
+    Ok(Change {
+        depth: depth.checked_add(1).ok_or(AllocError)?,
+        layers,
+        context,
+        emitted,
+    })
+}
+
+// What the outermost strand ended in, where it did.
+fn ended(change: &Change) -> Option<&Top>
+    ensures { option_map (λ t. t.now) result ≡ ended_of change.now.depth change.now.layers.items }
+{
+    match change.layers.first() {
+        Some(Layer::Top(top)) if change.depth == 0 && has_ended(top) => Some(top),
+        _ => None,
+    }
+}
+
+fn has_ended(top: &Top) -> bool
+    ensures { result ≡ has_ended top.now }
+{
+    matches!(top, Top::Done { .. } | Top::Fault(_))
+}
+
+// The output of what ended on a strand, where nothing stands around it.
+fn output_of<'a>(around: &[Layer], top: &'a Top) -> Option<&'a Json>
+    ensures { option_map (λ w. w.now) result ≡ output_on around.now top.now }
+{
+    match top {
+        Top::Done { output, .. } if around.is_empty() => Some(output),
+        _ => None,
+    }
+}
+
+// The outputs of all branches of a strand, of which that one has just ended, once all are done.
+fn outputs_of(
+    alloc: Global,
+    forest: &Forest<Layer>,
+    strand: StrandId,
+    number: usize,
+    ended: &Top,
+) -> Result<Option<Json>, AllocError>
+    requires held { IsHeld forest.now strand }
+    ensures { IfOk result (λ o. (b : Branch TheLayer) → find forest.now.strands strand ≡ Some b → o ≡ option_map listed (outputs (put (nodes_of b.below) number (top_node ended.now)))) }
+{
+    let mut outputs = Vec::new(alloc);
+    let mut next = 0;
+    while let Some(branch) = child_of(forest, strand, next) {
+        let Standing { around, top } = stack_of(forest, branch);
+        let output = if next == number {
+            output_of(&[], ended)
+        } else {
+            output_of(around, top)
+        };
+        let Some(output) = output else {
+            return Ok(None);
+        };
+        outputs.push(output.copy()?)?;
+        next += 1;
+    }
+    Ok(Some(Json::list(alloc, outputs)?))
+}
+
+// What stands innermost on a strand takes its step.
+fn own_step(alloc: Global, scene: Scene, around: &[Layer], top: &Top) -> Result<Change, AllocError>
+    requires { (fs : List TheFrame) × ((around.now ≡ running fs) × (can_go scene.now [] (plug fs (top_node top.now)) ≡ true)) }
+    ensures { IfOk result (λ c. (fs : List TheFrame) → around.now ≡ running fs → IsChange (sight_of scene.entry) [] (plug fs (top_node top.now)) c) }
+{
+    let made = next_of(alloc, scene, around, top)?;
+    Ok(Change {
+        depth: 0,
+        layers: layers_of(alloc, outer_of(around, top), made.frame, made.top)?,
+        context: made.context,
+        emitted: made.emitted,
+    })
+}
+
+// The tasks that still run around what a step puts anew.
+fn outer_of<'a>(around: &'a [Layer], top: &Top) -> &'a [Layer]
+    ensures { (fs os : List TheFrame) → around.now ≡ running fs → AreAround fs top.now os → result.now ≡ running os }
+{
+    match around.split_last() {
+        Some((_, outer)) if has_ended(top) => outer,
+        _ => around,
+    }
+}
+
+// What the step makes of what stands innermost.
+fn next_of(alloc: Global, scene: Scene, around: &[Layer], top: &Top) -> Result<Made, AllocError>
+    requires { (fs : List TheFrame) × ((around.now ≡ running fs) × (can_go scene.now [] (plug fs (top_node top.now)) ≡ true)) }
+    ensures { IfOk result (λ m. (fs : List TheFrame) → around.now ≡ running fs → IsStep (sight_of scene.entry) fs top.now (stepped_of m)) }
+{
+    match top {
+        Top::Fresh { task, raw } => {
+            let scene = scene.inside(alloc, around)?;
+            made_of(&scene, enter(alloc, &scene, task, raw))
+        }
+        Top::Waiting {
+            task,
+            raw,
+            input,
+            retries,
+            ..
+        } => {
+            let scene = scene.inside(alloc, around)?;
+            made_of(&scene, woken(alloc, &scene, task, raw, input, *retries))
+        }
+        Top::Hearing {
+            task,
+            raw,
+            input,
+            heard,
+            ..
+        } => {
+            let scene = scene.inside(alloc, around)?;
+            let heard = heard.as_slice();
+            made_of(&scene, listened(alloc, &scene, task, raw, input, heard))
+        }
+        Top::Forked { .. } => unreachable!(),
+        Top::Done { output, flow } => {
+            let (frame, outer) = innermost(around);
+            let scene = scene.inside(alloc, outer)?;
+            made_of(&scene, moved_on(alloc, &scene, frame, output, flow))
+        }
+        Top::Fault(problem) => {
+            let (frame, outer) = innermost(around);
+            let scene = scene.inside(alloc, outer)?;
+            made_of(&scene, failed(alloc, &scene, frame, problem))
+        }
+    }
+}
+
+// What a rule gives, an error included.
+fn made_of(scene: &Scene, given: Result<Made, Halt>) -> Result<Made, AllocError>
+    ensures { IfOk result (λ m. (s : Sight) (x : Stepped) → s.context ≡ (sight_of scene.entry.now).context → Gives s x given → stepped_of m ≡ x) }
+{
+    match given {
+        Ok(made) => Ok(made),
+        Err(Halt::Fault(problem)) => Ok(Made {
+            frame: None,
+            top: Top::Fault(problem),
+            context: scene.context.copy()?,
+            emitted: None,
+        }),
+        Err(Halt::OutOfMemory) => Err(AllocError),
+    }
+}
