@@ -2,12 +2,16 @@
 """A second reading of what workflow instances do, told without the program: it reads sessions, a block of commands each, and
 prints the transcript that the program has to give for them.
 
-The rules are those of the Serverless Workflow DSL 1.0.0 reference ("Workflow", "Task", "Do", "Emit", "For", "Listen", "Raise",
-"Set", "Switch", "Try", "Wait", "Data Flow", "Flow Directive", "Error", "Event Consumption Strategy", "Event Filter", "Duration",
-"Runtime Expressions") with the choices that docs/MEANING.md tells. Events are those of CloudEvents 1.0.2 and its JSON format,
-with instants by RFC 3339 and base64 by RFC 4648. An instance is a tree of nodes, and a step rewrites it at one place. It runs
-set, do, switch, raise, for, try, wait, listen and emit; what documents may hold is asked of judge.py. Expressions are evaluated
-by the program `jq`, so a value never comes from here.
+The rules are those of the Serverless Workflow DSL 1.0.0 reference ("Workflow", "Task", "Do", "Emit", "For", "Fork", "Listen",
+"Raise", "Set", "Switch", "Try", "Wait", "Data Flow", "Flow Directive", "Error", "Event Consumption Strategy", "Event Filter",
+"Duration", "Runtime Expressions") with the choices that docs/MEANING.md tells. Events are those of CloudEvents 1.0.2 and its
+JSON format, with instants by RFC 3339 and base64 by RFC 4648. It runs set, do, switch, raise, for, fork, try, wait, listen and
+emit; what documents may hold is asked of judge.py. Expressions are evaluated by the program `jq`, so a value never comes from
+here.
+
+An instance is a tree of nodes, and a step rewrites it at one place. Its strands are the single lines of control in it: one from
+the root and one from each branch, each up to the next fork. A strand is named by the numbers of the branches around it, from
+the outside in. Which of the strands that can go on takes the next step is free by the rules; here `Instance.next_strand` says it.
 
 Where jq and the profile differ (the texts of errors, texts times numbers, an `if` without `else` before jq 1.7), a session is of
 no use here. Errors of jq are told in the profile's words where that can be done. The limit on turns is known of one form alone:
@@ -15,10 +19,13 @@ an expression with a `range` of 499,999 or more is taken to be above it. Where a
 that begins with `! not modelled` ends it. Of the lines that begin with `!` it knows `! reopen` and `! fail say N`.
 
 Usage: bench/meaning.py < sessions.txt, the blocks of crates/swf_cases/data; `bench/meaning.py stops < stops.txt` tells what
-comes of stops: how many calls of the store the session takes, and how many of its stops came to another end. JQ names another
+comes of stops: how many calls of the store the session takes, and how many of its stops came to another end; and
+`bench/meaning.py orders < rows.txt`, the rows of crates/swf_order_cases/data, what every order of the steps of a workflow's strands
+comes to. JQ names another
 program than `jq`.
 """
 import base64
+import copy
 import datetime
 import functools
 import json
@@ -39,6 +46,9 @@ STATUSES = {"expression": 400, "runtime": 500, "validation": 400}
 # A `range` of so many takes more turns than an expression may.
 LONG_RANGE = 499999
 
+# So many branches the live forks of an instance have together.
+MOST_BRANCHES = 256
+
 # Calls of the store by which a journal is opened that is not there yet, and those that add a label.
 OPENING, ADDING = 5, 4
 
@@ -58,7 +68,7 @@ WORDS = [
 # A task of a document: its name, its place, and what stands there.
 Task = namedtuple("Task", "name place body")
 
-# The four kinds of node. `inside` is what a task that runs is at: one of the seven forms below.
+# The four kinds of node. `inside` is what a task that runs is at: one of the eight forms below.
 Fresh = namedtuple("Fresh", "task raw")
 Live = namedtuple("Live", "task raw input inside")
 Done = namedtuple("Done", "output flow")
@@ -74,6 +84,12 @@ Sleep = namedtuple("Sleep", "until")
 
 # The values of names, and the events that a `listen` took, each behind the number of its filter.
 Hear = namedtuple("Hear", "bound heard")
+
+# A node for each branch.
+Fork = namedtuple("Fork", "branches")
+
+# The forms with the next node of the same strand.
+AROUND = (Seq, Each, Try, Catch)
 
 
 class Raised(Exception):
@@ -378,11 +394,53 @@ def matches(wanted, problem):
     return all(problem.get("detail" if name == "details" else name) == it for name, it in wanted.items())
 
 
-def with_inside(node, inside):
-    """A node in which the innermost one is at something else."""
-    if isinstance(node.inside, Hear):
-        return node._replace(inside=inside)
-    return node._replace(inside=node.inside._replace(node=with_inside(node.inside.node, inside)))
+# --- The strands of an instance
+
+
+def innermost(node):
+    """The innermost node of a strand: it has not begun, is done, faulted, waits for something or holds branches."""
+    while isinstance(node, Live) and isinstance(node.inside, AROUND):
+        node = node.inside.node
+    return node
+
+
+def strands(node, name=()):
+    """The strands from this one on, by ascending name and each before those below it: the name and the outermost node."""
+    found, inner = [(list(name), node)], innermost(node)
+    if isinstance(inner, Live) and isinstance(inner.inside, Fork):
+        for number, branch in enumerate(inner.inside.branches):
+            found += strands(branch, [*name, number])
+    return found
+
+
+def is_enabled(node, now):
+    """Whether the strand of this outermost node can take a step."""
+    inner = innermost(node)
+    if isinstance(inner, (Done, Fault)):
+        return inner is not node
+    if isinstance(inner, Fresh):
+        return True
+    if isinstance(inner.inside, Hear):
+        return is_satisfied(inner.task, inner.inside)
+    return not isinstance(inner.inside, Fork) and inner.inside.until <= now
+
+
+def offered(node, event):
+    """A node behind an offer to each `listen` in it, and how many of them take the event."""
+    inside = node.inside if isinstance(node, Live) else None
+    if isinstance(inside, Hear):
+        heard = taken(node.task, inside, event)
+        return (node, 0) if heard is None else (node._replace(inside=heard), 1)
+    if isinstance(inside, Fork):
+        found = [offered(branch, event) for branch in inside.branches]
+        return node._replace(inside=Fork([branch for branch, _ in found])), sum(count for _, count in found)
+    if isinstance(inside, AROUND):
+        deeper, count = offered(inside.node, event)
+        return node._replace(inside=inside._replace(node=deeper)), count
+    return node, 0
+
+
+# --- The rules
 
 
 class Instance:
@@ -392,55 +450,76 @@ class Instance:
         self.document, self.context = document, None
         self.workflow = {"id": name, "input": given, "startedAt": {"epoch": {"milliseconds": now}}}
         self.root = Fresh(Task(None, [], document), given)
-        self.events, self.sent = 0, None
+        self.events, self.sent, self.last = 0, None, []
 
     def waits(self):
-        """The innermost node, where it waits for something."""
-        node = self.root
-        while isinstance(node, Live) and not isinstance(node.inside, (Sleep, Later, Hear)):
-            node = node.inside.node
-        return node if isinstance(node, Live) else None
+        """The strands that wait for something, each with its innermost node."""
+        found = [(name, innermost(node)) for name, node in strands(self.root)]
+        return [(name, it) for name, it in found if isinstance(it, Live) and not isinstance(it.inside, Fork)]
 
-    def until(self):
-        """The moment that it waits for, where it does."""
-        node = self.waits()
-        return node.inside.until if node and not isinstance(node.inside, Hear) else None
+    def timers(self):
+        """The strands that wait for a moment, each with that."""
+        return [(name, node.inside.until) for name, node in self.waits() if not isinstance(node.inside, Hear)]
 
     def listens(self):
-        """Whether it waits for an event."""
-        node = self.waits()
-        return node is not None and isinstance(node.inside, Hear) and not is_satisfied(node.task, node.inside)
+        """The strands that wait for an event."""
+        found = [(name, it.task, it.inside) for name, it in self.waits() if isinstance(it.inside, Hear)]
+        return [name for name, task, inside in found if not is_satisfied(task, inside)]
+
+    def enabled(self, now):
+        """The strands that can take a step."""
+        return [name for name, node in strands(self.root) if is_enabled(node, now)]
 
     def can_go(self, now):
-        if isinstance(self.root, (Done, Fault)) or self.listens():
-            return False
-        return self.until() is None or self.until() <= now
+        return bool(self.enabled(now))
 
-    def step(self, now):
-        """Takes a step, and gives the event that goes out, where one does."""
-        self.sent = None
-        self.root = self.stepped(self.root, {}, now)
+    def next_strand(self, now):
+        """The strand that takes the next step: the first behind the one that took the last step, or else the first of all."""
+        enabled = self.enabled(now)
+        return next((name for name in enabled if name > self.last), enabled[0])
+
+    def step(self, strand, now):
+        """Takes a step of a strand, and gives the event that goes out, where one does."""
+        self.sent, self.last = None, strand
+        self.root = self.stepped(self.root, strand, {}, now)
         return self.sent
 
     def offer(self, event):
-        """Offers an event to the `listen` that it waits in. Says whether that takes it."""
-        node = self.waits()
-        inside = taken(node.task, node.inside, event) if self.listens() else None
-        if inside is None:
-            return False
-        self.root = with_inside(self.root, inside)
-        return True
+        """Offers an event to each `listen` that it waits in, and counts those that take it."""
+        self.root, count = offered(self.root, event)
+        return count
 
-    def stepped(self, node, around, now):
-        """The node after the one step that can be taken in it. A step that raises ends its own task and no other."""
+    def stepped(self, node, strand, around, now):
+        """The node after a step of a strand, which is named from here on. A step that raises ends its own task and no other."""
         inside = None if isinstance(node, Fresh) else node.inside
-        if isinstance(inside, (Seq, Each, Try, Catch)) and isinstance(inside.node, (Fresh, Live)):
-            deeper = self.stepped(inside.node, {**around, **self.names_inside(node)}, now)
+        if isinstance(inside, AROUND) and isinstance(inside.node, (Fresh, Live)):
+            deeper = self.stepped(inside.node, strand, {**around, **self.names_inside(node)}, now)
             return node._replace(inside=inside._replace(node=deeper))
         try:
+            if isinstance(inside, Fork):
+                return self.branched(node, strand, around, now)
             return self.rewritten(node, around, now)
         except Raised as raised:
             return Fault(self.standard(raised.kind, node.task, raised.detail))
+
+    def branched(self, node, strand, around, now):
+        """A fork after a step in one of its branches."""
+        number, *below = strand
+        branches = list(node.inside.branches)
+        branches[number] = self.stepped(branches[number], below, around, now)
+        return self.settled(node._replace(inside=Fork(branches)), branches[number], around)
+
+    def settled(self, node, branch, around):
+        """A fork behind a step of a branch. Where the branch has ended the fork may end too, and then no other branch is left."""
+        if isinstance(branch, Live):
+            return node
+        if isinstance(branch, Fault) or branch.flow == "end":
+            return branch
+        if node.task.body["fork"].get("compete"):
+            return self.completed(node, branch.output, around)
+        if all(isinstance(it, Done) for it in node.inside.branches):
+            return self.completed(node, [it.output for it in node.inside.branches], around)
+        return node
 
     def rewritten(self, node, around, now):
         if isinstance(node, Fresh):
@@ -510,6 +589,11 @@ class Instance:
             if not isinstance(items, list):
                 raise Raised("cannot loop")
             return self.turned(live, items, 0, value, around)
+        if "fork" in body:
+            branches = tasks(task.place + ["fork", "branches"], body["fork"]["branches"])
+            if len(strands(self.root)) - 1 + len(branches) > MOST_BRANCHES:
+                raise Raised("strand limit", "runtime")
+            return live._replace(inside=Fork([Fresh(branch, value) for branch in branches]))
         if "try" in body:
             return live._replace(inside=Try(0, 0, begun(task.place + ["try"], body["try"], value)))
         if "do" in body:
@@ -652,7 +736,7 @@ class World:
             self.takers = self.offer(label["event"])
         else:
             self.turns.remove(label["id"])
-            sent = self.instances[label["id"]].step(self.now)
+            sent = self.instances[label["id"]].step(label["strand"], self.now)
             if self.instances[label["id"]].can_go(self.now):
                 self.turns.append(label["id"])
             if sent is not None:
@@ -666,10 +750,10 @@ class World:
         self.turns.extend(name for name, it in self.instances.items() if name not in self.turns and it.can_go(self.now))
 
     def offer(self, event):
-        """Offers an event to all, and counts those that take it."""
-        takers = [it for it in self.instances.values() if it.offer(event)]
+        """Offers an event to all, and counts each `listen` that takes it."""
+        takers = sum(it.offer(event) for it in self.instances.values())
         self.wake()
-        return len(takers)
+        return takers
 
     def status(self, name):
         it = self.instances[name]
@@ -770,7 +854,8 @@ def settle(world, line):
     for steps in range(most):
         if not world.turns:
             return {"ok": "quiet", "steps": steps}
-        world.add({"label": "step", "id": world.turns[0], "strand": []})
+        name = world.turns[0]
+        world.add({"label": "step", "id": name, "strand": world.instances[name].next_strand(world.now)})
     return {"ok": "budget", "steps": most} if world.turns else {"ok": "quiet", "steps": most}
 
 
@@ -787,9 +872,9 @@ def history(world, line):
 def pending(world, line):
     if line != "pending":
         raise BadLine("command")
-    asleep = [(name, it.until()) for name, it in world.instances.items() if it.until() is not None]
-    timers = [{"instance": name, "strand": [], "until": until} for name, until in asleep]
-    listens = [{"instance": name, "strand": []} for name, it in world.instances.items() if it.listens()]
+    known = world.instances.items()
+    timers = [{"instance": name, "strand": at, "until": until} for name, it in known for at, until in it.timers()]
+    listens = [{"instance": name, "strand": at} for name, it in known for at in it.listens()]
     return {"calls": [], "listens": listens, "timers": timers}
 
 
@@ -864,7 +949,36 @@ def stops(name, *lines):
     print(f"{OPENING + ADDING * len(whole.labels)} calls, {wrong} wrong")
 
 
+def explored(instance, now, outputs):
+    """How many orders the steps of an instance have from here on, with the outputs that they come to, each once."""
+    enabled = instance.enabled(now)
+    if not enabled:
+        output = text_of(instance.root.output) if isinstance(instance.root, Done) else "none"
+        if output not in outputs:
+            outputs.append(output)
+        return 1
+    count = 0
+    for strand in enabled:
+        after = copy.copy(instance)
+        after.step(strand, now)
+        count += explored(after, now, outputs)
+    return count
+
+
+def orders(row):
+    """Takes the steps of a workflow of these tasks in every order."""
+    name, tasks = row.split(" ", 1)
+    document = {"document": {"dsl": "1.0.0", "namespace": "t", "name": "a", "version": "1.0.0"}, "do": json.loads(tasks)}
+    outputs = []
+    count = explored(Instance("i", document, None, 0), 0, outputs)
+    print(f"{name} => {count} orders: {' '.join(outputs)}")
+
+
 def main():
+    if sys.argv[1:] == ["orders"]:
+        for row in sys.stdin.read().splitlines():
+            orders(row)
+        return
     for block in sys.stdin.read().split("\n\n"):
         lines = [line for line in block.split("\n") if line]
         try:

@@ -150,6 +150,7 @@ fn main(rt: HostRuntime) -> io::Result<()> {
         "events.txt",
         "events-read.txt",
         "script.txt",
+        "forks.txt",
     ] {
         let sessions = fs::read_to_string(&rt, name)?;
         add_sessions(alloc, &mut transcript, sessions.as_str())?;

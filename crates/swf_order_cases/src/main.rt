@@ -1,0 +1,164 @@
+//! Reads the lines of a table, each with a name and the tasks of a workflow, and prints for each what every order of the steps of its
+//! strands comes to: how many orders there are, and each output that one of them gives.
+#![tactic(auto)]
+
+use std::alloc::Global;
+use std::fs;
+use std::io::{self, ErrorKind};
+use swf_duration::Moment;
+use swf_tasks::{Machine, Site, Words};
+use swf_text::{Strand, Text};
+use swf_validate::{Accepted, accept};
+use swf_value::{Json, read_json, write_json};
+
+/// How many steps an order may have.
+const MOST_STEPS: u32 = 40;
+
+/// What the orders came to.
+#[derive(Drop)]
+struct Outcome {
+    orders: u64,
+    outputs: Vec<String>,
+}
+
+impl Outcome {
+    // One order more, which came to this output.
+    fn add(&mut self, output: String) -> io::Result<()> {
+        self.orders = self.orders.saturating_add(1);
+        for known in self.outputs.iter() {
+            if known.as_str() == output.as_str() {
+                return Ok(());
+            }
+        }
+        Ok(self.outputs.push(output)?)
+    }
+}
+
+/// A row that has no meaning.
+fn no_row() -> io::Error {
+    ErrorKind::InvalidInput.into()
+}
+
+// The workflow of these tasks.
+fn document_of(alloc: Global, tasks: &str) -> io::Result<Accepted> {
+    let head = "{\"dsl\":\"1.0.0\",\"namespace\":\"t\",\"name\":\"a\",\"version\":\"1.0.0\"}";
+    let text = format!(in alloc; "{{\"document\":{head},\"do\":{tasks}}}")?;
+    let Ok(value) = read_json(alloc, text.as_str().as_bytes()) else {
+        return Err(no_row());
+    };
+    match accept(alloc, &value) {
+        Ok(document) => Ok(document),
+        Err(_) => Err(no_row()),
+    }
+}
+
+// The text of what an instance gave.
+fn output_of(alloc: Global, machine: &Machine) -> io::Result<String> {
+    let Some(output) = machine.output() else {
+        return Ok(format!(in alloc; "none")?);
+    };
+    let mut bytes = Vec::new(alloc);
+    write_json(output, &mut bytes)?;
+    match String::from_utf8(bytes) {
+        Ok(text) => Ok(text),
+        Err(_) => Err(no_row()),
+    }
+}
+
+// What an instance is after the step of a strand.
+fn stepped(alloc: Global, machine: &Machine, strand: &Strand, site: &Site) -> io::Result<Machine> {
+    let mut next = machine.copy(alloc)?;
+    match next.step(alloc, strand, site) {
+        Ok(_) => Ok(next),
+        Err(_) => Err(no_row()),
+    }
+}
+
+// Adds what each step that an instance can take makes of it.
+fn push_steps(
+    alloc: Global,
+    machine: &Machine,
+    site: &Site,
+    next: &mut Vec<Machine>,
+) -> io::Result<()> {
+    let strands = machine.strands(alloc)?;
+    for strand in strands.iter() {
+        if machine.enabled(strand, site.now) {
+            next.push(stepped(alloc, machine, strand, site)?)?;
+        }
+    }
+    Ok(())
+}
+
+// What the next step makes of all these instances. Those that can take none have come to an end.
+fn stepped_all(
+    alloc: Global,
+    machines: &[Machine],
+    site: &Site,
+    outcome: &mut Outcome,
+) -> io::Result<Vec<Machine>> {
+    let mut next = Vec::new(alloc);
+    for machine in machines {
+        if machine.is_enabled(site.now) {
+            push_steps(alloc, machine, site, &mut next)?;
+        } else {
+            outcome.add(output_of(alloc, machine)?)?;
+        }
+    }
+    Ok(next)
+}
+
+// Takes the steps of an instance in every order.
+fn explored(alloc: Global, machine: Machine, site: &Site) -> io::Result<Outcome> {
+    let mut outcome = Outcome {
+        orders: 0,
+        outputs: Vec::new(alloc),
+    };
+    let mut machines = Vec::new(alloc);
+    machines.push(machine)?;
+    for _ in 0..MOST_STEPS {
+        machines = stepped_all(alloc, machines.as_slice(), site, &mut outcome)?;
+    }
+    if machines.is_empty() {
+        Ok(outcome)
+    } else {
+        Err(no_row())
+    }
+}
+
+// An instance of the workflow of these tasks, which has not begun.
+fn begun(alloc: Global, tasks: &str, now: Moment) -> io::Result<Machine> {
+    let id = Text::copy_of(alloc, "i")?;
+    let document = document_of(alloc, tasks)?;
+    Ok(Machine::begin(alloc, id, document, Json::null(), now)?)
+}
+
+// The orders and the outputs in words.
+fn text_of(alloc: Global, outcome: &Outcome) -> io::Result<String> {
+    let mut text = format!(in alloc; "{} orders:", outcome.orders)?;
+    for output in outcome.outputs.iter() {
+        text = format!(in alloc; "{text} {output}")?;
+    }
+    Ok(text)
+}
+
+// What every order of the steps of these tasks comes to.
+fn told(alloc: Global, tasks: &str) -> io::Result<String> {
+    let now = Moment::new(0);
+    let machine = begun(alloc, tasks, now)?;
+    let words = Words::new(alloc)?;
+    let site = Site { now, words: &words };
+    let outcome = explored(alloc, machine, &site)?;
+    text_of(alloc, &outcome)
+}
+
+fn main(rt: HostRuntime) -> io::Result<()> {
+    let alloc = rt.alloc();
+    let rows = fs::read_to_string(&rt, "rows.txt")?;
+    for row in rows.as_str().lines() {
+        let (name, tasks) = row.split_once(' ').ok_or(no_row())?;
+        let told = told(alloc, tasks)?;
+        println!(rt; "{name} => {told}")?;
+    }
+    Ok(())
+}
