@@ -1,5 +1,5 @@
 -- What a forest becomes where the frames of one row change.
-use Rattle.std.proofs.Common.{◌≡◌, ◌≢◌, ◌∙◌, refl, sym, ap, subst, ℕ, zero, suc, ◌<◌, ◌≤◌, ◌==◌, if◌then◌else◌, Bool, true, false, List, [], ◌∷◌, Some, slice_get, set, arith}
+use Rattle.std.proofs.Common.{◌≡◌, ◌≢◌, ◌∙◌, refl, sym, ap, subst, ℕ, zero, suc, ◌==◌, if◌then◌else◌, Bool, true, false, List, [], ◌∷◌, Some, slice_get, set, arith}
 use Rattle.std.proofs.lemmas.Option.{same_Some, get_or_from_slice_get}
 use Rattle.std.proofs.lemmas.Bool.{ne_eqb, eq-eqb, cond-true, cond-false}
 use Rattle.std.proofs.Math.Seq.{map-set_same}
@@ -33,7 +33,7 @@ module _ {F : Type 0} (f : List F → List F) where
   there_step false m n fs x y u w d hx hy = hy
   there_step true m n fs x y u w d hx hy = λ i. strand m (sym (cond-false (m == n) (f fs) fs (ne_eqb m n d)) i) (hx i) (hy i)
 
-  changes : (ss : List (Row F)) (low next : ℕ) → Rises low (links ss) next → (i p : ℕ) (s : Row F) (v : List F) → slice_get ss i ≡ Some s → v ≡ f s.frames → under p (set ss i (record s { frames = v })) ≡ changed f (under p ss) s.number
+  pub changes : (ss : List (Row F)) (low next : ℕ) → Rises low (links ss) next → (i p : ℕ) (s : Row F) (v : List F) → slice_get ss i ≡ Some s → v ≡ f s.frames → under p (set ss i (record s { frames = v })) ≡ changed f (under p ss) s.number
   changes [] low next r i p s v e h = cc
   changes (t ∷ ss) low next r zero p s v e h =
       let P : Row F → Type 0 = λ u. v ≡ f u.frames → under p (record u { frames = v } ∷ ss) ≡ changed f (under p (t ∷ ss)) u.number in

@@ -1,9 +1,9 @@
 -- What is kept makes the tree without what is below a strand.
-use Rattle.std.proofs.Common.{◌≡◌, ◌≢◌, ◌⊎◌, inl, inr, ◌∙◌, refl, sym, ap, subst, ℕ, suc, ◌+◌, ◌<◌, ◌≤◌, ◌==◌, if◌then◌else◌, true, false, not, ◌||◌, List, [], ◌∷◌, ◌++◌, Option, Some, None, option_map, slice_get, arith}
+use Rattle.std.proofs.Common.{◌≡◌, ◌≢◌, ◌⊎◌, inl, inr, ◌∙◌, refl, sym, ap, subst, ℕ, suc, ◌<◌, ◌==◌, true, false, not, ◌||◌, List, [], ◌∷◌, ◌++◌, Option, Some, None, option_map, slice_get, arith}
 use Rattle.std.proofs.lemmas.Bool.{ne_eqb, eq-eqb, eqb-true, cond-true, cond-false, cases_Bool, or_left, or_right, or_from, or_cases, or_parts, not-false, not_from_true, both_ways}
 use Rattle.std.specs.List.{list_any}
 use Rattle.std.specs.Option.{is_some}
-use Rattle.swf_frames.specs.Tree.{Strands, strand, no_strands, Branch, find, with_below}
+use Rattle.swf_frames.specs.Tree.{no_strands, Branch, find, with_below}
 use Rattle.swf_frames.specs.Stacks.{Row, links, Rises, HasParents, IsRooted, IsLinked, is_child_of, under, strands_of, has_number, is_below, kept}
 use Rattle.swf_frames.proofs.FindLemmas.{gone, present, has_at}
 use Rattle.swf_frames.proofs.AboveLemmas.{child_parent}
@@ -34,10 +34,10 @@ module _ {F : Type 0} where
   same_below : (n p : ℕ) (done : List (Row F)) (r : Row F) → r.number ≢ p → is_below n (done ++ r ∷ []) (Some p) ≡ is_below n done (Some p)
   same_below n p done r d = ap (λ b. p == n || not b) (has_more done r p d)
 
-  skip : (n : ℕ) (done : List (Row F)) (r : Row F) (rs : List (Row F)) → is_below n done r.parent ≡ true → kept n done (r ∷ rs) ≡ kept n done rs
+  pub skip : (n : ℕ) (done : List (Row F)) (r : Row F) (rs : List (Row F)) → is_below n done r.parent ≡ true → kept n done (r ∷ rs) ≡ kept n done rs
   skip n done r rs h = cond-true (is_below n done r.parent) _ _ h
 
-  take_in : (n : ℕ) (done : List (Row F)) (r : Row F) (rs : List (Row F)) → is_below n done r.parent ≡ false → kept n done (r ∷ rs) ≡ r ∷ kept n (done ++ r ∷ []) rs
+  pub take_in : (n : ℕ) (done : List (Row F)) (r : Row F) (rs : List (Row F)) → is_below n done r.parent ≡ false → kept n done (r ∷ rs) ≡ r ∷ kept n (done ++ r ∷ []) rs
   take_in n done r rs h = cond-false (is_below n done r.parent) _ _ h
 
   not_child : (n p : ℕ) (done : List (Row F)) (r : Row F) → (is_below n done r.parent ≡ is_below n done (Some p) → ⊥) → is_child_of p r.parent ≡ false
@@ -47,7 +47,7 @@ module _ {F : Type 0} where
   ]
 
   -- of what stands below a strand that is dropped nothing is kept
-  dropped : (n : ℕ) (rs done : List (Row F)) (p low next : ℕ) → Rises low (links rs) next → p < low → is_below n done (Some p) ≡ true → under p (kept n done rs) ≡ no_strands
+  pub dropped : (n : ℕ) (rs done : List (Row F)) (p low next : ℕ) → Rises low (links rs) next → p < low → is_below n done (Some p) ≡ true → under p (kept n done rs) ≡ no_strands
   dropped n [] done p low next r l b = refl
   dropped n (x ∷ xs) done p low next r l b =
       elim (cases_Bool (is_below n done x.parent)) [
@@ -58,13 +58,13 @@ module _ {F : Type 0} where
             ∙ dropped n xs (done ++ x ∷ []) p (suc x.number) next r.1 (omega arith) (same_below n p done x d ∙ b)))
       ]
 
-  below_itself : (n : ℕ) (done : List (Row F)) (m : ℕ) → m ≡ n → is_below n done (Some m) ≡ true
+  pub below_itself : (n : ℕ) (done : List (Row F)) (m : ℕ) → m ≡ n → is_below n done (Some m) ≡ true
   below_itself n done m e = or_left (m == n) (not (has_number done m)) (eq-eqb m n e)
 
-  kept_itself : (n : ℕ) (done : List (Row F)) (x : Row F) → x.number ≢ n → is_below n (done ++ x ∷ []) (Some x.number) ≡ false
+  pub kept_itself : (n : ℕ) (done : List (Row F)) (x : Row F) → x.number ≢ n → is_below n (done ++ x ∷ []) (Some x.number) ≡ false
   kept_itself n done x d = or_from (x.number == n) (not (has_number (done ++ x ∷ []) x.number)) (ne_eqb x.number n d) (not_from_true (has_number (done ++ x ∷ []) x.number) (has_last done x x.number refl))
 
-  closes : (n : ℕ) (rs done : List (Row F)) (p low next : ℕ) → Rises low (links rs) next → p < low → is_below n done (Some p) ≡ false → under p (kept n done rs) ≡ with_below no_strands (under p rs) n
+  pub closes : (n : ℕ) (rs done : List (Row F)) (p low next : ℕ) → Rises low (links rs) next → p < low → is_below n done (Some p) ≡ false → under p (kept n done rs) ≡ with_below no_strands (under p rs) n
   closes n [] done p low next r l b = refl
   closes n (x ∷ xs) done p low next r l b =
       elim (cases_Bool (is_below n done x.parent)) [

@@ -1,16 +1,11 @@
 -- Walks over the rows of a forest.
-use Rattle.std.proofs.Common.{◌≡◌, ◌⊎◌, inl, inr, ◌∙◌, refl, sym, ap, ℕ, zero, suc, ◌+◌, ◌-◌, ◌<◌, ◌==◌, if◌then◌else◌, Bool, true, false, List, [], ◌∷◌, ◌++◌, Option, Some, None, IsSome, length, drop, get_or, slice_get, option_map, option_and_then, arith}
-use Rattle.std.proofs.lemmas.Bool.{cond-true, cond-false, cases_Bool, eq-eqb, ne_eqb}
+use Rattle.std.proofs.Common.{◌≡◌, inl, inr, ◌∙◌, refl, sym, ap, ℕ, zero, suc, ◌+◌, ◌<◌, if◌then◌else◌, true, false, List, [], ◌∷◌, ◌++◌, Some, length, drop, get_or, slice_get, arith}
+use Rattle.std.proofs.lemmas.Bool.{cond-true, cond-false, cases_Bool}
 use Rattle.std.proofs.lemmas.List.{drop_more, length-append, append-nil, append_assoc}
 use Rattle.std.proofs.lemmas.Option.{same_Some}
-use Rattle.swf_frames.specs.Tree.{Strands, strand, no_strands, Branch, find, numbers, has_none, leaves}
-use Rattle.swf_frames.specs.Stacks.{Row, row_of, rows, links, number_at, IsLinked, is_child_of, under, strands_of}
-use Rattle.swf_frames.proofs.FindLemmas.{present}
+use Rattle.swf_frames.specs.Tree.{Strands, strand, no_strands, numbers, has_none, leaves}
+use Rattle.swf_frames.specs.Stacks.{Row, row_of, rows, number_at, is_child_of, under, strands_of}
 use Rattle.swf_frames.specs.declared.stack.Stack.{Stack}
-
-pub past_first : (m : ℕ) (xs : List ℕ) (i : ℕ) → 0 < i → slice_get (m ∷ xs) i ≡ slice_get xs (i - 1)
-past_first m xs zero h = absurd (omega arith)
-past_first m xs (suc i) h = ap (slice_get xs) (omega arith)
 
 none_in : (xs ys : List ℕ) → xs ++ ys ≡ [] → xs ≡ []
 none_in [] ys e = refl
@@ -92,24 +87,3 @@ module _ {F : Type 0} where
   number_row [] i n e = cc
   number_row (r ∷ rs) zero n e = (r, refl, same_Some r.number n e)
   number_row (r ∷ rs) (suc i) n e = number_row rs i n e
-
-  pub rows_drop : (i : ℕ) (ss : List (Stack F)) → rows (drop i ss) ≡ drop i (rows ss)
-  rows_drop zero ss = refl
-  rows_drop (suc i) [] = refl
-  rows_drop (suc i) (s ∷ ss) = rows_drop i ss
-
-  -- what is below the strand at a place stands behind it
-  pub below_found : (ss : List (Stack F)) (next : ℕ) → IsLinked (links (rows ss)) next → (i n : ℕ) → number_at (rows ss) i ≡ Some n → option_map (λ b. b.below) (find (strands_of (rows ss)) n) ≡ Some (under n (rows (drop (i + 1) ss)))
-  below_found ss bound l i n e =
-      let r = number_row (rows ss) i n e in
-      let next_place : suc i ≡ i + 1 = omega arith in
-      let after : drop (suc i) (rows ss) ≡ rows (drop (i + 1) ss) = sym (rows_drop (suc i) ss) ∙ ap (λ k. rows (drop k ss)) next_place in
-      ap (λ m. option_map (λ b. b.below) (find (strands_of (rows ss)) m)) (sym r.2)
-      ∙ (ap (option_map (λ b. b.below)) (present (rows ss) bound l i r.0 r.1) ∙ λ j. Some (under (r.2 j) (after j)))
-
-  of_below : (o : Option (Branch F)) (x : Strands F) (k : ℕ) → option_map (λ b. b.below) o ≡ Some x → option_and_then (λ b. slice_get (numbers b.below) k) o ≡ slice_get (numbers x) k
-  of_below None x k e = cc
-  of_below (Some b) x k e = ap (λ y. slice_get (numbers y) k) (same_Some b.below x e)
-
-  pub child_found : (ss : List (Stack F)) (next : ℕ) → IsLinked (links (rows ss)) next → (i n k : ℕ) → number_at (rows ss) i ≡ Some n → option_and_then (λ b. slice_get (numbers b.below) k) (find (strands_of (rows ss)) n) ≡ slice_get (numbers (under n (rows (drop (i + 1) ss)))) k
-  child_found ss next l i n k e = of_below (find (strands_of (rows ss)) n) (under n (rows (drop (i + 1) ss))) k (below_found ss next l i n e)

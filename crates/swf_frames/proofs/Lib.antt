@@ -8,6 +8,7 @@ pub mod AboveLemmas
 pub mod SplitLemmas
 pub mod CloseLemmas
 pub mod RoomLemmas
+pub mod KinLemmas
 pub mod GrowLemmas
 pub mod DistinctLemmas
 pub mod PathLemmas

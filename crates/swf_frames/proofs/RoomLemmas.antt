@@ -3,7 +3,7 @@ use Rattle.std.proofs.Common.{◌≡◌, ◌∙◌, refl, sym, ap, ℕ, zero, su
 use Rattle.std.specs.Prelude.{vec_capacity}
 use Rattle.std.proofs.lemmas.List.{append-nil, append_assoc, reverse-append, drop_all, map-append}
 use Rattle.swf_frames.specs.Tree.{numbers, fresh}
-use Rattle.swf_frames.specs.Stacks.{Row, row_of, rows, fresh_rows}
+use Rattle.swf_frames.specs.Stacks.{Row, row_of, rows, no_children, fresh_rows}
 use Rattle.swf_frames.specs.Room.{IsSpare}
 use Rattle.swf_frames.specs.declared.stack.Stack.{Stack}
 
@@ -21,9 +21,9 @@ module _ {F : Type 0} where
   spare_with v n e h l = (e, omega arith)
 
   -- a stack of one frame goes behind the others
-  pub rows_pushed : (ss new : List (Stack F)) (s : Stack F) (p n : ℕ) (frame : F) → new ≡ ss ++ s ∷ [] → s.strand ≡ n → s.parent ≡ Some p → s.frames.items ≡ frame ∷ [] → rows new ≡ rows ss ++ record { number = n; parent = Some p; frames = frame ∷ [] } ∷ []
-  rows_pushed ss new s p n frame e a b c =
-      ap rows e ∙ (map-append row_of ss (s ∷ []) ∙ λ i. rows ss ++ record { number = a i; parent = b i; frames = c i } ∷ [])
+  pub rows_pushed : (ss new : List (Stack F)) (s : Stack F) (p n : ℕ) (frame : F) → new ≡ ss ++ s ∷ [] → s.strand ≡ n → s.parent ≡ Some p → s.children ≡ no_children → s.frames.items ≡ frame ∷ [] → rows new ≡ rows ss ++ record { number = n; parent = Some p; children = no_children; frames = frame ∷ [] } ∷ []
+  rows_pushed ss new s p n frame e a b d c =
+      ap rows e ∙ (map-append row_of ss (s ∷ []) ∙ λ i. rows ss ++ record { number = a i; parent = b i; children = d i; frames = c i } ∷ [])
 
   names_more : (fs : List F) (i n : ℕ) → i < length fs → numbers (fresh n (drop i fs)) ≡ n ∷ numbers (fresh (suc n) (drop (suc i) fs))
   names_more [] i n l = absurd (omega arith)
@@ -43,12 +43,12 @@ module _ {F : Type 0} where
   pub names_end : (fs : List F) (n i : ℕ) (names all : List ℕ) → length fs ≤ i → names ++ numbers (fresh n (drop i fs)) ≡ all → names ≡ all
   names_end fs n i names all l h = sym (append-nil names) ∙ (ap (λ (xs : List F). names ++ numbers (fresh n xs)) (sym (drop_all i fs l)) ∙ h)
 
-  pub stack_step : (rs all : List (Row F)) (p n : ℕ) (frame : F) (fs gs : List F) → gs ≡ fs ++ frame ∷ [] → rs ++ fresh_rows p n (reverse gs) ≡ all → (rs ++ record { number = n; parent = Some p; frames = frame ∷ [] } ∷ []) ++ fresh_rows p (n + 1) (reverse fs) ≡ all
+  pub stack_step : (rs all : List (Row F)) (p n : ℕ) (frame : F) (fs gs : List F) → gs ≡ fs ++ frame ∷ [] → rs ++ fresh_rows p n (reverse gs) ≡ all → (rs ++ record { number = n; parent = Some p; children = no_children; frames = frame ∷ [] } ∷ []) ++ fresh_rows p (n + 1) (reverse fs) ≡ all
   stack_step rs all p n frame fs gs e h =
       let back : reverse gs ≡ frame ∷ reverse fs = ap reverse e ∙ reverse-append fs (frame ∷ []) in
       let next : suc n ≡ n + 1 = omega arith in
-      append_assoc rs (record { number = n; parent = Some p; frames = frame ∷ [] } ∷ []) (fresh_rows p (n + 1) (reverse fs))
-      ∙ (ap (λ xs. rs ++ xs) (sym (ap (fresh_rows p n) back ∙ λ j. record { number = n; parent = Some p; frames = frame ∷ [] } ∷ fresh_rows p (next j) (reverse fs))) ∙ h)
+      append_assoc rs (record { number = n; parent = Some p; children = no_children; frames = frame ∷ [] } ∷ []) (fresh_rows p (n + 1) (reverse fs))
+      ∙ (ap (λ xs. rs ++ xs) (sym (ap (fresh_rows p n) back ∙ λ j. record { number = n; parent = Some p; children = no_children; frames = frame ∷ [] } ∷ fresh_rows p (next j) (reverse fs))) ∙ h)
 
   pub stack_end : (rs all : List (Row F)) (p n : ℕ) (fs : List F) → length fs ≡ 0 → rs ++ fresh_rows p n (reverse fs) ≡ all → rs ≡ all
   stack_end rs all p n [] e h = sym (append-nil rs) ∙ h

@@ -1,5 +1,5 @@
 -- New children of a strand are new rows behind all others.
-use Rattle.std.proofs.Common.{◌≡◌, ◌≢◌, ◌⊎◌, inl, inr, ◌∙◌, refl, sym, ap, subst, ℕ, zero, suc, ◌+◌, ◌<◌, ◌≤◌, ◌==◌, if◌then◌else◌, Bool, true, false, List, [], ◌∷◌, ◌++◌, Some, None, length, drop, slice_get, arith}
+use Rattle.std.proofs.Common.{◌≡◌, ◌≢◌, inl, inr, ◌∙◌, refl, sym, ap, subst, ℕ, zero, suc, ◌+◌, ◌<◌, ◌≤◌, ◌==◌, if◌then◌else◌, Bool, true, false, List, [], ◌∷◌, ◌++◌, Some, None, length, drop, slice_get, arith}
 use Rattle.std.proofs.lemmas.Option.{same_Some}
 use Rattle.std.proofs.lemmas.Bool.{ne_eqb, eq-eqb, cond-true, cond-false, cases_eq, or_left, or_right}
 use Rattle.std.specs.List.{list_any}
@@ -8,7 +8,7 @@ use Rattle.swf_frames.specs.Stacks.{Row, links, Rises, HasParents, IsLinked, is_
 use Rattle.swf_frames.proofs.FindLemmas.{at_least, gone, cond_none, none_parts}
 
 module _ {F : Type 0} where
-  fresh_elsewhere : (n p k : ℕ) (fs : List F) → n ≢ p → under p (fresh_rows n k fs) ≡ no_strands
+  pub fresh_elsewhere : (n p k : ℕ) (fs : List F) → n ≢ p → under p (fresh_rows n k fs) ≡ no_strands
   fresh_elsewhere n p k [] d = refl
   fresh_elsewhere n p k (f ∷ fs) d = cond-false (n == p) _ _ (ne_eqb n p d) ∙ fresh_elsewhere n p (suc k) fs d
 
@@ -22,7 +22,7 @@ module _ {F : Type 0} where
   no_child true m fs x y h = cc
   no_child false m fs x y h = (refl, h)
 
-  childless_gets : (n k : ℕ) (fs : List F) (rs : List (Row F)) → n < k → under n rs ≡ no_strands → under n (rs ++ fresh_rows n k fs) ≡ fresh k fs
+  pub childless_gets : (n k : ℕ) (fs : List F) (rs : List (Row F)) → n < k → under n rs ≡ no_strands → under n (rs ++ fresh_rows n k fs) ≡ fresh k fs
   childless_gets n k fs [] l h = fresh_here n k fs l
   childless_gets n k fs (r ∷ rs) l h =
       let parts = no_child (is_child_of n r.parent) r.number r.frames (under r.number rs) (under n rs) h in
@@ -54,7 +54,7 @@ module _ {F : Type 0} where
         | inr d ↦ λ i. strand m gs ((hx d ∙ sym (cond-false (m == n) new (with_below new x n) (ne_eqb m n d))) i) (hw i)
       ]
 
-  splits : (n k : ℕ) (fs : List F) (rs : List (Row F)) (p : ℕ) → p ≢ n → n < k → Childless n rs → under p (rs ++ fresh_rows n k fs) ≡ with_below (fresh k fs) (under p rs) n
+  pub splits : (n k : ℕ) (fs : List F) (rs : List (Row F)) (p : ℕ) → p ≢ n → n < k → Childless n rs → under p (rs ++ fresh_rows n k fs) ≡ with_below (fresh k fs) (under p rs) n
   splits n k fs [] p d l h = fresh_elsewhere n p k fs (λ e. d (sym e))
   splits n k fs (r ∷ rs) p d l h =
       below_step (is_child_of p r.parent) r.number n r.frames (fresh k fs) (under r.number rs) (under p rs) (under r.number (rs ++ fresh_rows n k fs)) (under p (rs ++ fresh_rows n k fs))

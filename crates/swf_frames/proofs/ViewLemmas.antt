@@ -1,15 +1,17 @@
 -- What a forest has, and what it becomes, at a place that was found.
-use Rattle.std.proofs.Common.{◌≡◌, ◌↔◌, ◌++◌, ◌-◌, IsSome, ◌∙◌, refl, sym, ap, subst, ℕ, zero, suc, ◌<◌, ◌+◌, List, [], ◌∷◌, Some, None, Option, Bool, true, false, cond, ◌==◌, map, option_map, if◌then◌else◌, get_or, slice_get, set, length, drop, Vec, Global, arith}
-use Rattle.std.proofs.lemmas.Option.{same_Some, slice_get_within, slice_get-get_or, get_or_from_slice_get}
+use Rattle.std.proofs.Common.{◌≡◌, ◌↔◌, ◌++◌, ◌-◌, IsSome, ◌∙◌, refl, sym, ap, subst, ℕ, zero, suc, ◌<◌, ◌+◌, List, [], ◌∷◌, Some, None, Option, Bool, true, false, cond, ◌==◌, option_map, option_and_then, get_or, slice_get, set, length, drop, Vec, Global, arith}
+use Rattle.std.proofs.lemmas.Option.{same_Some, slice_get-get_or, get_or_from_slice_get}
 use Rattle.std.proofs.lemmas.List.{length_push, get_or_push, map-set, set-get_or}
 use Rattle.std.proofs.lemmas.Bool.{false≢true}
 use Rattle.std.specs.Option.{option_to_list}
-use Rattle.swf_frames.specs.Tree.{Branch, top_frame, find, above, changed, strand, no_strands, Strands}
-use Rattle.swf_frames.specs.Stacks.{Row, row_of, rows, links, strands_of, number_at, IsLinked}
+use Rattle.swf_frames.specs.Tree.{Branch, top_frame, numbers, find, above, changed, strand, no_strands, Strands}
+use Rattle.swf_frames.specs.Stacks.{Row, row_of, rows, strands_of, number_at, IsLinked}
+use Rattle.swf_frames.specs.Kin.{IsForest, numbers_from}
 use Rattle.swf_frames.proofs.FindLemmas.{branch_at, present, none_parts}
 use Rattle.swf_frames.proofs.AboveLemmas.{parent_at}
 use Rattle.swf_frames.proofs.SearchLemmas.{at_rows}
 use Rattle.swf_frames.proofs.ChangeLemmas.{same_links, all_changes}
+use Rattle.swf_frames.proofs.KinLemmas.{from_within, numbers_low, known_at, known_changed, rises_rest}
 use Rattle.swf_frames.specs.declared.stack.Stack.{Stack}
 
 module _ {F : Type 0} where
@@ -20,7 +22,7 @@ module _ {F : Type 0} where
 
 -- a stack of a forest, read at the place of a number
 pub record IsRead {F : Type 0} (ss : List (Stack F)) (next n i : ℕ) (s : Stack F) : Type 0 where
-  pub linked : IsLinked (links (rows ss)) next
+  pub forest : IsForest (rows ss) next
   pub found : number_at (rows ss) i ≡ Some n
   pub is : s ≡ get_or ss i s
 
@@ -32,32 +34,44 @@ module _ {F : Type 0} {ss : List (Stack F)} {next n i : ℕ} {s : Stack F} (h : 
   number_there = same_Some s.strand n (ap (option_map (λ (r : Row F). r.number)) (sym row_there) ∙ h.found)
 
   pub branch_there : find (strands_of (rows ss)) n ≡ Some (branch_at (rows ss) i (row_of s))
-  branch_there = ap (find (strands_of (rows ss))) (sym number_there) ∙ present (rows ss) next h.linked i (row_of s) row_there
+  branch_there = ap (find (strands_of (rows ss))) (sym number_there) ∙ present (rows ss) next h.forest.0 i (row_of s) row_there
 
   pub frames_read : option_map (λ b. b.frames) (find (strands_of (rows ss)) n) ≡ Some s.frames.items
   frames_read = ap (option_map (λ b. b.frames)) branch_there
 
   pub parent_there : above None (strands_of (rows ss)) n ≡ s.parent
-  parent_there = ap (above None (strands_of (rows ss))) (sym number_there) ∙ parent_at (rows ss) next h.linked i (row_of s) row_there
+  parent_there = ap (above None (strands_of (rows ss))) (sym number_there) ∙ parent_at (rows ss) next h.forest.0 i (row_of s) row_there
 
   -- other frames there
   pub changed_there : (f : List F → List F) (v : Vec F Global) → v.items ≡ f s.frames.items → strands_of (rows (set ss i (record s { frames = v }))) ≡ changed f (strands_of (rows ss)) n
   changed_there f v k =
       ap strands_of (map-set row_of ss i (record s { frames = v }))
-      ∙ (all_changes f (rows ss) next h.linked i (row_of s) v.items row_there k ∙ ap (changed f (strands_of (rows ss))) number_there)
+      ∙ (all_changes f (rows ss) next h.forest.0 i (row_of s) v.items row_there k ∙ ap (changed f (strands_of (rows ss))) number_there)
 
   -- the same frames in another place of memory
   pub same_there : (v : Vec F Global) → v.items ≡ s.frames.items → strands_of (rows (set ss i (record s { frames = v }))) ≡ strands_of (rows ss)
   same_there v k =
       ap strands_of
       (map-set row_of ss i (record s { frames = v })
-      ∙ (ap (λ fs. set (rows ss) i (record { number = s.strand; parent = s.parent; frames = fs })) k
+      ∙ (ap (λ fs. set (rows ss) i (record { number = s.strand; parent = s.parent; children = s.children; frames = fs })) k
       ∙ (ap (set (rows ss) i) (sym (get_or_from_slice_get (rows ss) i (row_of s) (row_of s) row_there)) ∙ set-get_or (rows ss) i (row_of s))))
 
-  pub linked_there : (v : Vec F Global) → IsLinked (links (rows (set ss i (record s { frames = v })))) next
-  linked_there v =
-      subst (λ rs. IsLinked (links rs) next) (sym (map-set row_of ss i (record s { frames = v })))
-      (subst (λ ls. IsLinked ls next) (sym (same_links (rows ss) i (row_of s) v.items row_there)) h.linked)
+  pub forest_there : (v : Vec F Global) → IsForest (rows (set ss i (record s { frames = v }))) next
+  forest_there v =
+      subst (λ rs. IsForest rs next) (sym (map-set row_of ss i (record s { frames = v }))) (
+        subst (λ ls. IsLinked ls next) (sym (same_links (rows ss) i (row_of s) v.items row_there)) h.forest.0,
+        known_changed (rows ss) 0 next h.forest.0.0 i (row_of s) v.items row_there h.forest.1,
+      )
+
+  pub child_there : (k : ℕ) → option_and_then (λ b. slice_get (numbers b.below) k) (find (strands_of (rows ss)) n) ≡ slice_get (numbers_from s.children.first s.children.count) k
+  child_there k =
+      ap (option_and_then (λ b. slice_get (numbers b.below) k)) branch_there
+      ∙ ap (λ xs. slice_get xs k) (known_at (rows ss) h.forest.1 i (row_of s) row_there)
+
+  pub child_low : (k : ℕ) → k < s.children.count → s.children.first + k < next
+  child_low k l =
+      numbers_low (drop (suc i) (rows ss)) 0 next (rises_rest (rows ss) 0 next h.forest.0.0 (suc i)) s.strand k (s.children.first + k)
+      (ap (λ xs. slice_get xs k) (known_at (rows ss) h.forest.1 i (row_of s) row_there) ∙ from_within s.children.first s.children.count k l)
 
 module _ {F : Type 0} (f : List F → List F) where
   no_match : (b : Bool) (m : ℕ) (z : Branch F) (o : Option (Branch F)) (x y : List F) → cond b (Some z) o ≡ None → cond b x y ≡ y

@@ -1,7 +1,8 @@
 -- How a forest is kept: its stacks in one list by rising number, each with the number of the strand above it.
-use Rattle.std.specs.Prelude.{◌≡◌, ℕ, suc, ◌≤◌, ◌==◌, ◌||◌, not, ◌++◌, if◌then◌else◌, Bool, true, false, IsTrue, List, [], ◌∷◌, map, Option, Some, None, option_map, slice_get}
+use Rattle.std.specs.Prelude.{◌≡◌, ℕ, suc, ◌≤◌, ◌==◌, ◌||◌, not, ◌++◌, if◌then◌else◌, Bool, false, IsTrue, List, [], ◌∷◌, map, Option, Some, None, option_map, slice_get}
 use Rattle.std.specs.List.{list_any}
 use Rattle.swf_frames.specs.Tree.{Strands, no_strands, strand}
+use Rattle.swf_frames.specs.declared.stack.Children.{Children}
 use Rattle.swf_frames.specs.declared.stack.Stack.{Stack}
 
 -- the number of a strand, and that of the strand above it
@@ -31,15 +32,19 @@ IsRooted (l ∷ ls) = (l.parent ≡ None) × HasParents (l.number ∷ []) ls
 abbrev pub IsLinked : List Link → ℕ → Type 0
 IsLinked ls next = Rises 0 ls next × IsRooted ls
 
+abbrev pub no_children : Children
+no_children = record { first = 0; count = 0 }
+
 -- a stack without where it lies in memory
 pub record Row (F : Type 0) : Type 0 where
   pub number : ℕ
   pub parent : Option ℕ
+  pub children : Children
   pub frames : List F
 
 module _ {F : Type 0} where
   abbrev pub row_of : Stack F → Row F
-  row_of s = record { number = s.strand; parent = s.parent; frames = s.frames.items }
+  row_of s = record { number = s.strand; parent = s.parent; children = s.children; frames = s.frames.items }
 
   abbrev pub rows : List (Stack F) → List (Row F)
   rows ss = map row_of ss
@@ -81,4 +86,4 @@ module _ {F : Type 0} where
   -- new children of a strand, with a frame each
   abbrev pub fresh_rows : ℕ → ℕ → List F → List (Row F)
   fresh_rows parent n [] = []
-  fresh_rows parent n (f ∷ fs) = record { number = n; parent = Some parent; frames = f ∷ [] } ∷ fresh_rows parent (suc n) fs
+  fresh_rows parent n (f ∷ fs) = record { number = n; parent = Some parent; children = no_children; frames = f ∷ [] } ∷ fresh_rows parent (suc n) fs

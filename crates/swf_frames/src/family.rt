@@ -1,26 +1,21 @@
 // Which strands stand below which.
-ghost use Rattle.std.specs.Prelude.{◌≡◌, ◌++◌, ℕ, [], slice_get, OnOk};
-ghost use Rattle.swf_frames.specs.Tree.{numbers, leaves};
+ghost use Rattle.std.specs.Prelude.{◌≡◌, ◌<◌, ◌++◌, ℕ, [], vec_len, vec_capacity, OnOk};
+ghost use Rattle.swf_frames.specs.Tree.{leaves};
+ghost use Rattle.swf_frames.specs.Kin.{with_children};
 ghost use Rattle.swf_frames.specs.Stacks.{rows, links, under, is_below, kept, Rises};
 
-use crate::stack::{Stack, place_of};
+use crate::stack::{Children, Stack, place_of};
 use crate::strand_id::StrandId;
 use std::alloc::AllocError;
 
-// The child of this number of a strand whose children are all among these.
-pub(crate) fn child_of<F>(stacks: &[Stack<F>], parent: StrandId, number: usize) -> Option<StrandId>
-    ensures { result ≡ slice_get (numbers (under parent (rows stacks.now))) number }
+// Sets which children the strand at a place has.
+pub(crate) fn set_children<F>(stacks: &mut Vec<Stack<F>>, place: usize, children: Children)
+    requires { place < vec_len stacks.old }
+    ensures rows { rows stacks.new.items ≡ with_children (rows stacks.old.items) place children }
+    ensures len { vec_len stacks.new ≡ vec_len stacks.old }
+    ensures capacity { vec_capacity stacks.new ≡ vec_capacity stacks.old }
 {
-    let mut left = number;
-    for stack in stacks {
-        if stack.is_child_of(parent) {
-            if left == 0 {
-                return Some(stack.strand);
-            }
-            left -= 1;
-        }
-    }
-    None
+    stacks[place].children = children;
 }
 
 // Lists the leaves below a strand.

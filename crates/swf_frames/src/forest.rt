@@ -6,11 +6,11 @@ ghost use Rattle.swf_frames.specs.Faults.{frame_in, frames_in};
 ghost use Rattle.std.specs.Option.{option_copied_mut};
 ghost use Rattle.std.specs.Borrow.{sem};
 
-use crate::family::{child_of, drop_below, list_leaves};
+use crate::family::{drop_below, list_leaves, set_children};
 use crate::faults::{PushFault, SplitFault};
 use crate::frame::CopyFrame;
 use crate::room::{Room, add_stacks, make_room};
-use crate::stack::{Stack, copy_stacks, place_of};
+use crate::stack::{Children, Stack, copy_stacks, place_of};
 use crate::strand_id::StrandId;
 use std::alloc::{AllocError, Global};
 use std::marker::Model;
@@ -33,11 +33,12 @@ impl<F> Model for Forest<F> {
 
     ghost coded = { tree_code F.code };
 
-    ghost use Rattle.swf_frames.specs.Stacks.{rows, strands_of, links, IsLinked};
+    ghost use Rattle.swf_frames.specs.Stacks.{rows, strands_of};
+    ghost use Rattle.swf_frames.specs.Kin.{IsForest};
 
     ghost view = { λ f. record { next = f.next; strands = strands_of (rows f.stacks.items) } };
 
-    ghost invariant = { λ f. IsLinked (links (rows f.stacks.items)) f.next };
+    ghost invariant = { λ f. IsForest (rows f.stacks.items) f.next };
 }
 
 impl<F: Drop> Forest<F> {
@@ -53,6 +54,7 @@ impl<F: Drop> Forest<F> {
         stacks.push(Stack {
             strand: StrandId::new(0),
             parent: None,
+            children: Children::none(),
             frames,
         })?;
         Ok(Forest { stacks, next: 1 })
@@ -125,7 +127,14 @@ impl<F: Drop> Forest<F> {
         ensures { result ≡ child self.now strand number }
     {
         let place = place_of(&self.stacks, strand)?;
-        child_of(&self.stacks[place + 1..], strand, number)
+        let children = self.stacks[place].children;
+        if number < children.count {
+            // Each number is below the next one, so that the sum fits.
+            prove!(children.first < self.next);
+            Some(StrandId::new(children.first + number as u64))
+        } else {
+            None
+        }
     }
 
     /// How many strands there are.
@@ -174,13 +183,18 @@ impl<F: Drop> Forest<F> {
         let Some(place) = place_of(&self.stacks, strand) else {
             return Err(SplitFault::Stale(frames));
         };
-        if child_of(&self.stacks[place + 1..], strand, 0).is_some() {
+        if self.stacks[place].children.count > 0 {
             return Err(SplitFault::HasChildren(frames));
         }
         let Ok(Room { names, lists }) = make_room(alloc, &mut self.stacks, self.next, &frames)
         else {
             return Err(SplitFault::OutOfMemory(frames));
         };
+        let children = Children {
+            first: self.next,
+            count: frames.len(),
+        };
+        set_children(&mut self.stacks, place, children);
         let next = self.next + frames.len() as u64;
         add_stacks(&mut self.stacks, lists, strand, self.next, frames);
         self.next = next;
@@ -192,9 +206,10 @@ impl<F: Drop> Forest<F> {
         ensures told { result ≡ is_some (frames_of self.old strand) }
         ensures closed { self.new ≡ closed self.old strand }
     {
-        if place_of(&self.stacks, strand).is_none() {
+        let Some(place) = place_of(&self.stacks, strand) else {
             return false;
-        }
+        };
+        set_children(&mut self.stacks, place, Children::none());
         drop_below(&mut self.stacks, strand);
         true
     }

@@ -4,7 +4,7 @@ ghost use Rattle.swf_frames.specs.Tree.{numbers, fresh};
 ghost use Rattle.swf_frames.specs.Stacks.{rows, fresh_rows};
 ghost use Rattle.swf_frames.specs.Room.{IsSpare};
 
-use crate::stack::Stack;
+use crate::stack::{Children, Stack};
 use crate::strand_id::StrandId;
 use std::alloc::{AllocError, Global};
 
@@ -86,6 +86,7 @@ pub(crate) fn add_stacks<F: Drop>(
         stacks.push_reserved(Stack {
             strand: StrandId::new(next),
             parent: Some(parent),
+            children: Children::none(),
             frames: list,
         });
         next += 1;

@@ -3,17 +3,34 @@ ghost use Rattle.std.specs.Prelude.{◌≡◌, ◌<◌, ◌-◌, ℕ, Some, None
 ghost use Rattle.std.specs.Borrow.{Lends, sem};
 ghost use Rattle.std.specs.Vec.{with_item};
 ghost use Rattle.swf_frames.specs.Tree.{find};
-ghost use Rattle.swf_frames.specs.Stacks.{links, number_at, rows, strands_of, has_number, is_child_of, Rises};
+ghost use Rattle.swf_frames.specs.Stacks.{links, number_at, rows, strands_of, has_number, is_child_of, no_children, Rises};
 
 use crate::frame::CopyFrame;
 use crate::strand_id::StrandId;
 use std::alloc::{AllocError, Global};
 
-/// The frames of one strand from the bottom to the top, and the strand that it was split from.
+/// How many children a strand has, and the number of the first of them. Those of the others follow it.
+#[derive(Clone, Copy)]
+pub(crate) struct Children {
+    pub(crate) first: u64,
+    pub(crate) count: usize,
+}
+
+impl Children {
+    pub(crate) fn none() -> Children
+        ensures { result ≡ no_children }
+    {
+        Children { first: 0, count: 0 }
+    }
+}
+
+/// The frames of one strand from the bottom to the top, the strand that it was split from, and those
+/// that it was split into.
 #[derive(Drop)]
 pub(crate) struct Stack<F> {
     pub(crate) strand: StrandId,
     pub(crate) parent: Option<StrandId>,
+    pub(crate) children: Children,
     pub(crate) frames: Vec<F>,
 }
 
@@ -88,6 +105,7 @@ pub(crate) fn copy_stacks<F: CopyFrame>(
         copies.push(Stack {
             strand: stack.strand,
             parent: stack.parent,
+            children: stack.children,
             frames: copy_frames(alloc, &stack.frames)?,
         })?;
     }

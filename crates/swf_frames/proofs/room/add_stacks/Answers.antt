@@ -18,8 +18,8 @@ loop-frame-preserved g c =
     let lists = c.pop-in-Some.new.self in
     let spare = All-pop IsSpare was.lists.items lists.items (Some list) c.in-Some-pop.ensures.items was.invariant.spare in
     let filled : c.push_reserved.new.self.items ≡ frame ∷ [] = c.push_reserved.ensures.items ∙ ap (λ xs. xs ++ frame ∷ []) spare.1.0 in
-    let s : Stack g.row.F.Denot = record { strand = c.new.result; parent = Some parent; frames = c.push_reserved.new.self } in
-    let more = rows_pushed was.stacks.items stacks.items s parent was.next frame c.push_reserved-in-Some.ensures.items c.new.ensures refl filled in
+    let s : Stack g.row.F.Denot = record { strand = c.new.result; parent = Some parent; children = c.none.result; frames = c.push_reserved.new.self } in
+    let more = rows_pushed was.stacks.items stacks.items s parent was.next frame c.push_reserved-in-Some.ensures.items c.new.ensures refl c.none.ensures filled in
     let all = rows c.args.stacks.now.items ++ fresh_rows parent c.args.first c.args.frames.items in
     record {
       room = room_step (vec_len was.stacks) (vec_len was.frames) (vec_len stacks) (vec_len frames) (vec_capacity was.stacks) (vec_capacity stacks) was.invariant.room c.push_reserved-in-Some.ensures.len c.in-Some.ensures.cases c.push_reserved-in-Some.ensures.capacity;

@@ -1,11 +1,12 @@
-use Rattle.std.proofs.Common.{◌≡◌, ◌∙◌, ap, sym, subst, map}
-use Rattle.swf_frames.specs.Stacks.{IsLinked, rows as rows_of, links, strands_of}
+use Rattle.std.proofs.Common.{◌∙◌, ap, sym, subst}
+use Rattle.swf_frames.specs.Stacks.{rows as rows_of, strands_of}
+use Rattle.swf_frames.specs.Kin.{IsForest}
 use Rattle.swf_frames.proofs.forest.Forest.copy.Goals as goal
 
 pub invariant_of-result : goal.invariant_of-result
 invariant_of-result g c =
     let rows = c.in_ok-stacks.ensures ∙ ap rows_of c.deref.ensures.value in
-    subst (λ rs. IsLinked (links rs) c.self.inside.next) (sym rows) c.self.invariant
+    subst (λ rs. IsForest rs c.self.inside.next) (sym rows) c.self.invariant
 
 pub returns : goal.returns
 returns g c =

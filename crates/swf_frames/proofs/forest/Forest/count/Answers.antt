@@ -9,4 +9,4 @@ pub returns : goal.returns
 returns g c =
     let stacks = c.self.inside.stacks in
     let len : vec_len stacks ≡ length stacks.items = search rules in
-    rw (← c.self.view_is) (c.len.ensures ∙ (len ∙ (sym (length-map stacks.items row_of) ∙ sym (counted (rows stacks.items) c.self.inside.next c.self.invariant))))
+    rw (← c.self.view_is) (c.len.ensures ∙ (len ∙ (sym (length-map stacks.items row_of) ∙ sym (counted (rows stacks.items) c.self.inside.next c.self.invariant.0))))

@@ -17,5 +17,5 @@ index-requires g c =
 pub returns : goal.returns
 returns g c =
     let read : IsRead c.self.inside.stacks.items c.self.inside.next c.args.strand c.in_ok-place.place c.index.result.now =
-    record { linked = c.self.invariant; found = rw (← c.deref.ensures.value) c.in_ok-place.ensures.found; is = c.index.ensures } in
+    record { forest = c.self.invariant; found = rw (← c.deref.ensures.value) c.in_ok-place.ensures.found; is = c.index.ensures } in
     rw (← c.self.view_is) (sym (parent_there read))

@@ -2,7 +2,7 @@ use Rattle.std.proofs.Common.{◌≡◌, ◌∙◌, ◌-◌, ap, sym, rules, ari
 use Rattle.std.specs.Vec.{vec_len}
 use Rattle.swf_frames.specs.Tree.{find, top_frame}
 use Rattle.swf_frames.specs.Stacks.{rows, strands_of}
-use Rattle.swf_frames.proofs.ViewLemmas.{IsRead, number_within, frames_read, changed_there, linked_there, stays, top_popped}
+use Rattle.swf_frames.proofs.ViewLemmas.{IsRead, number_within, frames_read, changed_there, forest_there, stays, top_popped}
 use Rattle.swf_frames.proofs.forest.Forest.pop.Goals as goal
 
 pub returns-in_err-place-clause-left : goal.returns-in_err-place-clause-left
@@ -17,13 +17,13 @@ index_mut-requires g c =
 pub invariant_of-self : goal.invariant_of-self
 invariant_of-self g c =
     let read : IsRead c.self.inside.stacks.items c.self.inside.next c.args.strand c.in_ok-place.place c.index_mut.result.now =
-    record { linked = c.self.invariant; found = rw (← c.deref.ensures.value) c.in_ok-place.ensures.found; is = c.index_mut.ensures.value } in
-    linked_there read c.pop.new.self
+    record { forest = c.self.invariant; found = rw (← c.deref.ensures.value) c.in_ok-place.ensures.found; is = c.index_mut.ensures.value } in
+    forest_there read c.pop.new.self
 
 pub returns-clause-top : goal.returns-clause-top
 returns-clause-top g c =
     let read : IsRead c.self.inside.stacks.items c.self.inside.next c.args.strand c.in_ok-place.place c.index_mut.result.now =
-    record { linked = c.self.invariant; found = rw (← c.deref.ensures.value) c.in_ok-place.ensures.found; is = c.index_mut.ensures.value } in
+    record { forest = c.self.invariant; found = rw (← c.deref.ensures.value) c.in_ok-place.ensures.found; is = c.index_mut.ensures.value } in
     let fs = c.index_mut.result.now.frames in
     let len : vec_len fs ≡ length fs.items = search rules in
     rw (← c.self.view_is) (top_popped fs.items c.pop.new.self.items c.pop.result c.pop.ensures.items (rw len at c.pop.ensures.variant) ∙ sym (ap (option_and_then top_frame) (frames_read read)))
@@ -31,7 +31,7 @@ returns-clause-top g c =
 pub returns-clause-left : goal.returns-clause-left
 returns-clause-left g c =
     let read : IsRead c.self.inside.stacks.items c.self.inside.next c.args.strand c.in_ok-place.place c.index_mut.result.now =
-    record { linked = c.self.invariant; found = rw (← c.deref.ensures.value) c.in_ok-place.ensures.found; is = c.index_mut.ensures.value } in
+    record { forest = c.self.invariant; found = rw (← c.deref.ensures.value) c.in_ok-place.ensures.found; is = c.index_mut.ensures.value } in
     let fs = c.index_mut.result.now.frames in
     let len : vec_len fs ≡ length fs.items = search rules in
     rw (← c.self.view_is) (ap (λ x. record { next = c.self.inside.next; strands = x }) (changed_there read (λ fs. take (length fs - 1) fs) c.pop.new.self (rw len at c.pop.ensures.rest)))

@@ -1,22 +1,22 @@
-use Rattle.std.proofs.Common.{◌≡◌, ◌∙◌, ◌-◌, ap, sym, rules, arith, refl, inl, inr, length, set, option_and_then}
+use Rattle.std.proofs.Common.{◌≡◌, ◌∙◌, ◌-◌, ap, sym, rules, inl, inr, length, set, option_and_then}
 use Rattle.std.specs.Vec.{vec_len, with_item}
 use Rattle.swf_frames.specs.Tree.{top_frame, changed, with_top}
 use Rattle.std.proofs.lemmas.Bool.{eqb-true}
 use Rattle.swf_frames.specs.Stacks.{rows, strands_of}
-use Rattle.swf_frames.proofs.ViewLemmas.{IsRead, frames_read, changed_there, linked_there, top_empty}
+use Rattle.swf_frames.proofs.ViewLemmas.{IsRead, frames_read, changed_there, forest_there, top_empty}
 use Rattle.swf_frames.proofs.forest.Forest.top_mut.Goals as goal
 
 pub invariant_of-self-lent : goal.invariant_of-self-lent
 invariant_of-self-lent g c = λ w.
     let read : IsRead c.self.inside.stacks.items c.self.inside.next c.args.strand c.in_ok-place.place c.index_mut.result.now =
-    record { linked = c.self.invariant; found = rw (← c.deref.ensures.value) c.in_ok-place.ensures.found; is = c.index_mut.ensures.value } in
+    record { forest = c.self.invariant; found = rw (← c.deref.ensures.value) c.in_ok-place.ensures.found; is = c.index_mut.ensures.value } in
     let fs = c.index_mut.result.now.frames in
-    linked_there read (with_item fs (vec_len fs - 1) w)
+    forest_there read (with_item fs (vec_len fs - 1) w)
 
 pub returns-then-is_empty : goal.returns-then-is_empty
 returns-then-is_empty g c =
     let read : IsRead c.self.inside.stacks.items c.self.inside.next c.args.strand c.in_ok-place.place c.index.result.now =
-    record { linked = c.self.invariant; found = rw (← c.deref.ensures.value) c.in_ok-place.ensures.found; is = c.index.ensures } in
+    record { forest = c.self.invariant; found = rw (← c.deref.ensures.value) c.in_ok-place.ensures.found; is = c.index.ensures } in
     let fs = c.index.result.now.frames in
     let len : vec_len fs ≡ length fs.items = search rules in
     let empty : length fs.items ≡ 0 = sym len ∙ eqb-true (vec_len fs) 0 (sym c.is_empty.ensures ∙ c.if-is_empty.true) in (
@@ -30,7 +30,7 @@ returns-then-is_empty g c =
 pub returns-else-is_empty : goal.returns-else-is_empty
 returns-else-is_empty g c =
     let read : IsRead c.self.inside.stacks.items c.self.inside.next c.args.strand c.in_ok-place.place c.index_mut.result.now =
-    record { linked = c.self.invariant; found = rw (← c.deref.ensures.value) c.in_ok-place.ensures.found; is = c.index_mut.ensures.value } in
+    record { forest = c.self.invariant; found = rw (← c.deref.ensures.value) c.in_ok-place.ensures.found; is = c.index_mut.ensures.value } in
     let fs = c.index_mut.result.now.frames in
     let ss = c.self.inside.stacks.items in
     let len : vec_len fs ≡ length fs.items = search rules in
