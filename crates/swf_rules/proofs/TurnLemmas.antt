@@ -17,7 +17,7 @@ use Rattle.swf_meaning.specs.Node.{Node, Live, At, Round}
 use Rattle.swf_meaning.specs.Sight.{Sight, within}
 use Rattle.swf_scene.proofs.HaltLemmas.{Gives-got, Gives-passed}
 use Rattle.swf_scene.specs.Halts.{Gives, IsGot}
-use Rattle.swf_scene.specs.Stack.{plug, made_node, stepped_of}
+use Rattle.swf_scene.specs.Stack.{plug, made_node, round_of, stepped_of}
 use Rattle.swf_scene.specs.declared.made.Frame.{Frame}
 use Rattle.swf_scene.specs.declared.halt.Halt.{Halt}
 use Rattle.swf_scene.specs.declared.made.Made.{Made}
@@ -32,6 +32,10 @@ turn-begun s t v u w c r f x h k e =
   where
     the_step : Node → Value → Stepped
     the_step n d = record { node = n; context = d; emitted = None }
+
+-- the round of the task in its round
+pub round-begun : (t : Task) (v u : Value) (r : Round) (f : Frame) (n : Node) → plug (f ∷ []) n ≡ Live t v u (At r 0 n) → round_of f.round ≡ r
+round-begun t v u r f n h = cc
 
 -- a `while` that is asked
 abbrev asks : Sight → Task → Value → Value → Round → Value → Got Value → Stepped

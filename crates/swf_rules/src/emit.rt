@@ -1,15 +1,16 @@
 // An `emit` (DSL 1.0.0, reference, "Emit").
 ghost use Rattle.std.specs.Prelude.{◌≡◌, IfOk, decimal};
-ghost use Rattle.swf_meaning.specs.Complete.{complete};
+ghost use Rattle.swf_meaning.specs.Complete.{becomes, complete};
 ghost use Rattle.swf_meaning.specs.Emit.{next_id, with_own, sending, emits, emitting};
 ghost use Rattle.swf_cloudevents.specs.Event.{event_of};
 ghost use Rattle.swf_scene.specs.Halts.{Gives};
-ghost use Rattle.swf_scene.specs.Stack.{sight_of};
+ghost use Rattle.swf_scene.specs.Stack.{sight_of, stepped_of};
+ghost use Rattle.swf_meaning.specs.Node.{Fault};
 
 use crate::completion::complete;
 use std::alloc::{AllocError, Global};
 use swf_cloudevents::{Event, EventFault, read_event};
-use swf_document::{ErrorKind, Template};
+use swf_document::{ErrorKind, Problem, Template};
 use swf_scene::{Halt, Made, Scene, TaskRef, Top, fails, value_of, within};
 use swf_text::{Text, TextBuilder, word};
 use swf_transform::fill;
@@ -60,20 +61,48 @@ fn sending(
 ) -> Result<Made, Halt>
     ensures { Gives (sight_of scene.entry.now) (sending event (complete (sight_of scene.entry.now) task.now raw.now input.now input.now)) result }
 {
+    let made = completed(alloc, scene, task, raw, input)?;
+    Ok(with_event(made, event))
+}
+
+// The task is complete, or has ended in an error.
+fn completed(
+    alloc: Global,
+    scene: &Scene,
+    task: &TaskRef,
+    raw: &Json,
+    input: &Json,
+) -> Result<Made, AllocError>
+    ensures { IfOk result (λ m. stepped_of m ≡ complete (sight_of scene.entry.now) task.now raw.now input.now input.now) }
+{
     match complete(alloc, scene, task, raw, input, input.copy()?) {
-        Ok(made) => Ok(Made {
-            frame: made.frame,
-            top: made.top,
-            context: made.context,
-            emitted: Some(event),
-        }),
-        Err(Halt::Fault(problem)) => Ok(Made {
-            frame: None,
-            top: Top::Fault(problem),
-            context: scene.context.copy()?,
-            emitted: Some(event),
-        }),
-        Err(Halt::OutOfMemory) => Err(Halt::OutOfMemory),
+        Ok(made) => Ok(made),
+        Err(Halt::Fault(problem)) => faulted(scene, problem),
+        Err(Halt::OutOfMemory) => Err(AllocError),
+    }
+}
+
+// A task that has ended in an error.
+fn faulted(scene: &Scene, problem: Problem) -> Result<Made, AllocError>
+    ensures { IfOk result (λ m. stepped_of m ≡ becomes (sight_of scene.entry.now) (Fault problem)) }
+{
+    Ok(Made {
+        context: scene.context.copy()?,
+        frame: None,
+        top: Top::Fault(problem),
+        emitted: None,
+    })
+}
+
+// With the event that goes out.
+fn with_event(made: Made, event: Event) -> Made
+    ensures { stepped_of result ≡ sending event (stepped_of made) }
+{
+    Made {
+        frame: made.frame,
+        top: made.top,
+        context: made.context,
+        emitted: Some(event),
     }
 }
 

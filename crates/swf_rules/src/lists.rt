@@ -1,5 +1,5 @@
 // How a list of tasks runs (DSL 1.0.0, "Do" and "Flow directives"; reference, "For").
-ghost use Rattle.std.specs.Prelude.{◌≡◌, ◌∷◌, [], IfOk, if◌then◌else◌};
+ghost use Rattle.std.specs.Prelude.{◌≡◌, ◌∷◌, [], IfOk, Some, None, if◌then◌else◌};
 ghost use Rattle.swf_meaning.specs.Lists.{comes_to, list_ended, turn, turn_guarded, turn_begins, begins_with, guard_in, list_of};
 ghost use Rattle.swf_meaning.specs.Next.{task_at};
 ghost use Rattle.swf_meaning.specs.Node.{Node, Live, At};
@@ -156,14 +156,22 @@ fn turn_begins(
 ) -> Result<Made, Halt>
     ensures { Gives (sight_of scene.entry.now) (turn_begins (sight_of scene.entry.now) task.now raw.now input.now (round_of round) value) result }
 {
-    let top = begins_with(task, &round, value)?;
+    let context = scene.context.copy()?;
     let frame = in_round(task, raw, input, round)?;
-    Ok(Made {
+    let top = begins_with(task, &frame.round, value)?;
+    Ok(running(frame, top, context))
+}
+
+// A task that runs, with what stands in it.
+fn running(frame: Frame, top: Top, context: Json) -> Made
+    ensures { result ≡ record { frame = Some frame; top = top; context = context; emitted = None } }
+{
+    Made {
         frame: Some(frame),
         top,
-        context: scene.context.copy()?,
+        context,
         emitted: None,
-    })
+    }
 }
 
 // The task as it runs in a round, at the first place of its list.
