@@ -127,10 +127,10 @@ fn explored(alloc: Global, machine: Machine, site: &Site) -> io::Result<Outcome>
 }
 
 // An instance of the workflow of these tasks, which has not begun.
-fn begun(alloc: Global, tasks: &str, now: Moment) -> io::Result<Machine> {
+fn begun(alloc: Global, tasks: &str, site: &Site) -> io::Result<Machine> {
     let id = Text::copy_of(alloc, "i")?;
     let document = document_of(alloc, tasks)?;
-    Ok(Machine::begin(alloc, id, document, Json::null(), now)?)
+    Ok(Machine::begin(alloc, id, document, Json::null(), site)?)
 }
 
 // The orders and the outputs in words.
@@ -144,10 +144,12 @@ fn text_of(alloc: Global, outcome: &Outcome) -> io::Result<String> {
 
 // What every order of the steps of these tasks comes to.
 fn told(alloc: Global, tasks: &str) -> io::Result<String> {
-    let now = Moment::new(0);
-    let machine = begun(alloc, tasks, now)?;
     let words = Words::new(alloc)?;
-    let site = Site { now, words: &words };
+    let site = Site {
+        now: Moment::new(0),
+        words: &words,
+    };
+    let machine = begun(alloc, tasks, &site)?;
     let outcome = explored(alloc, machine, &site)?;
     text_of(alloc, &outcome)
 }

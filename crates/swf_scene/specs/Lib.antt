@@ -1,5 +1,6 @@
 pub mod Words
 pub mod Source
+pub mod Told
 pub mod TaskRef
 pub mod Stack
 pub mod Halts

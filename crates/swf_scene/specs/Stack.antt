@@ -13,7 +13,7 @@ use Rattle.swf_scene.specs.declared.made.Round.TheVariants as rounds
 use Rattle.swf_scene.specs.declared.made.Top.{Top}
 use Rattle.swf_scene.specs.declared.made.Top.TheVariants as tops
 use Rattle.swf_scene.specs.declared.scene.Scene.{Scene}
-use Rattle.swf_scene.specs.declared.scene.Setting.{Setting}
+use Rattle.swf_scene.specs.declared.setting.Setting.{Setting}
 
 abbrev pub round_of : DeclaredRound → Round
 round_of rounds.Seq = Seq

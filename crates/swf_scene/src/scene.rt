@@ -6,33 +6,15 @@ ghost use Rattle.swf_scene.specs.Layers.{frames_of};
 ghost use Rattle.swf_scene.specs.Stack.{sight_of, setting_sight, seen_in, round_of, alone};
 
 use crate::made::{Layer, Round};
-use crate::shared::SharedDocument;
+use crate::setting::Setting;
 use crate::sight::{copy_variables, push_seen};
+use crate::site::Site;
 use crate::task::TaskRef;
 use crate::words::Words;
 use std::alloc::{AllocError, Global};
 use swf_duration::Moment;
 use swf_jq_eval::Variable;
-use swf_text::Text;
 use swf_value::Json;
-
-/// An instance's document, its id, when it started, the raw input of its workflow, its context, and the number of its next event.
-#[derive(Drop)]
-pub struct Setting {
-    pub document: SharedDocument,
-    pub id: Text,
-    pub started: Moment,
-    pub input: Json,
-    pub context: Json,
-    pub number: u64,
-}
-
-/// What a step goes by besides the instance: the moment; and the names that variables need.
-#[derive(Clone, Copy)]
-pub struct Site<'a> {
-    pub now: Moment,
-    pub words: &'a Words,
-}
 
 /// What a step goes by: the instance's setting, its context, how many branches it has, the moment, the variables around the task
 /// that takes it, and the names that variables need.
@@ -44,22 +26,6 @@ pub struct Scene<'a> {
     pub words: &'a Words,
     pub now: Moment,
     pub around: Vec<Variable>,
-}
-
-impl Setting {
-    /// The same once more. It copies no values.
-    pub fn copy(&self) -> Result<Setting, AllocError>
-        ensures { IfOk result (λ s. s ≡ self.now) }
-    {
-        Ok(Setting {
-            document: self.document.copy()?,
-            id: self.id.copy()?,
-            started: self.started,
-            input: self.input.copy()?,
-            context: self.context.copy()?,
-            number: self.number,
-        })
-    }
 }
 
 impl<'a> Scene<'a> {

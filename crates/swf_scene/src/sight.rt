@@ -2,7 +2,7 @@
 ghost use Rattle.std.specs.Prelude.{◌≡◌, ◌++◌, ◌<◌, ◌^◌, pos, IfOk, IsTrue, if◌then◌else◌};
 ghost use Rattle.swf_text.specs.Same.{is_ascii};
 ghost use Rattle.swf_value.specs.Value.{int};
-ghost use Rattle.swf_meaning.specs.Sight.{variable, epoch, workflow_value, last_part, task_value, of_workflow, with_context, of_task, before, within, behind, is_workflow};
+ghost use Rattle.swf_meaning.specs.Sight.{variable, last_part, task_value, of_workflow, with_context, of_task, before, within, behind, is_workflow};
 ghost use Rattle.swf_meaning.specs.Around.{round_variables};
 ghost use Rattle.swf_meaning.specs.Parts.{kind_of};
 ghost use Rattle.swf_meaning.specs.Try.{catching, retrying};
@@ -11,14 +11,14 @@ ghost use Rattle.swf_scene.specs.TaskRef.{loop_variables};
 
 use crate::made::{Round, Turn};
 use crate::scene::Scene;
+use crate::setting::named;
 use crate::task::{TaskRef, Work};
 use crate::words::Words;
 use std::alloc::{AllocError, Global};
 use swf_document::{ForSpec, Problem, problem_value};
-use swf_duration::Moment;
 use swf_jq_eval::{Variable, Vars};
 use swf_text::{Place, Text, pointer_text, word};
-use swf_value::{Json, Member};
+use swf_value::Json;
 
 /// Room for as many variables as most expressions see.
 const MOST_OFTEN: usize = 8;
@@ -109,40 +109,6 @@ pub fn push_seen(
     }
 }
 
-// A member whose name is shared.
-fn named(name: &Text, value: Json) -> Result<Member, AllocError>
-    ensures { IfOk result (λ m. m ≡ record { name = name.now; value = value }) }
-{
-    let name = name.copy()?;
-    Ok(Member { name, value })
-}
-
-// A moment as an object.
-fn epoch(alloc: Global, words: &Words, moment: Moment) -> Result<Json, AllocError>
-    ensures { IfOk result (λ v. v ≡ epoch moment) }
-{
-    let mut inner = Vec::new(alloc);
-    let number = Json::int(moment.milliseconds() as i64);
-    inner.push(named(words.milliseconds(), number)?)?;
-    let inner = Json::object(alloc, inner)?;
-    let mut members = Vec::new(alloc);
-    members.push(named(words.epoch(), inner)?)?;
-    Json::object(alloc, members)
-}
-
-// `$workflow`.
-fn workflow_value(alloc: Global, scene: &Scene) -> Result<Json, AllocError>
-    ensures { IfOk result (λ v. v ≡ workflow_value (sight_of scene.entry.now)) }
-{
-    let words = scene.words;
-    let setting = scene.setting;
-    let mut members = Vec::new(alloc);
-    members.push(named(words.id(), Json::text(setting.id.copy()?))?)?;
-    members.push(named(words.input(), setting.input.copy()?)?)?;
-    members.push(named(words.started_at(), epoch(alloc, words, setting.started)?)?)?;
-    Json::object(alloc, members)
-}
-
 // The name of a task, which is the last part of its place.
 #[tactic(auto, using(crate::proofs::SightLemmas::last_part_is))]
 fn name_at(alloc: Global, place: &Place) -> Result<Text, AllocError>
@@ -158,11 +124,12 @@ fn name_at(alloc: Global, place: &Place) -> Result<Text, AllocError>
 fn task_value(alloc: Global, words: &Words, task: &TaskRef, raw: &Json) -> Result<Json, AllocError>
     ensures { IfOk result (λ v. v ≡ task_value task.now raw.now) }
 {
-    let place = task.place(alloc)?;
-    let mut members = Vec::new(alloc);
+    let root = Place::root(alloc);
+    let place = task.place_or(&root);
+    let mut members = Vec::with_capacity(alloc, 3)?;
     members.push(named(words.input(), raw.copy()?)?)?;
-    members.push(named(words.name(), Json::text(name_at(alloc, &place)?))?)?;
-    members.push(named(words.reference(), Json::text(pointer_text(alloc, &place)?))?)?;
+    members.push(named(words.name(), Json::text(name_at(alloc, place)?))?)?;
+    members.push(named(words.reference(), Json::text(pointer_text(alloc, place)?))?)?;
     Json::object(alloc, members)
 }
 
@@ -170,7 +137,7 @@ fn of_workflow(alloc: Global, scene: &Scene) -> Result<Vec<Variable>, AllocError
     ensures { IfOk result (λ xs. xs.items ≡ of_workflow (sight_of scene.entry.now)) }
 {
     let mut variables = Vec::with_capacity(alloc, MOST_OFTEN)?;
-    variables.push(variable(scene.words.workflow(), workflow_value(alloc, scene)?)?)?;
+    variables.push(variable(scene.words.workflow(), scene.setting.workflow.copy()?)?)?;
     Ok(variables)
 }
 

@@ -1,5 +1,5 @@
 // A task that an instance runs: one of a list, or the workflow itself.
-ghost use Rattle.std.specs.Prelude.{◌≡◌, IfOk, IsSome, Some, ◌<◌, ◌-◌, ◌^◌, length, option_map};
+ghost use Rattle.std.specs.Prelude.{◌≡◌, [], IfOk, IsSome, Some, ◌<◌, ◌-◌, ◌^◌, length, option_map};
 ghost use Rattle.swf_document.specs.TaskNode.{task_of, tasks_of};
 ghost use Rattle.swf_meaning.specs.Parts.{common_of, kind_of, place_of, workflow};
 ghost use Rattle.swf_meaning.specs.Sight.{is_workflow};
@@ -162,6 +162,17 @@ impl TaskRef {
         match self.parts() {
             Parts::Workflow(_) => Ok(Place::root(alloc)),
             Parts::Listed(task) => task.common.place.copy(alloc),
+        }
+    }
+
+    // Where it stands in its document, which is at the root for a workflow.
+    pub(crate) fn place_or<'a>(&'a self, root: &'a Place) -> &'a Place
+        requires { root.now ≡ [] }
+        ensures { result.now ≡ place_of self.now }
+    {
+        match self.parts() {
+            Parts::Workflow(_) => root,
+            Parts::Listed(task) => &task.common.place,
         }
     }
 

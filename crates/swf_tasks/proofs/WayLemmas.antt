@@ -20,7 +20,7 @@ use Rattle.swf_scene.specs.declared.made.Frame.{Frame}
 use Rattle.swf_scene.specs.declared.made.Layer.{Layer}
 use Rattle.swf_scene.specs.declared.made.Top.{Top}
 use Rattle.swf_scene.specs.declared.made.Top.TheVariants as tops
-use Rattle.swf_scene.specs.declared.scene.Setting.{Setting}
+use Rattle.swf_scene.specs.declared.setting.Setting.{Setting}
 use Rattle.swf_tasks.specs.Installed.{output_in, problem_in}
 use Rattle.swf_strands.specs.Strands.{nodes_of, node_of, root_node, IsGrown, IsHeld}
 use Rattle.swf_strands.specs.Ways.{at, at_inside, at_among, own_until, own_until_inside, own_listens}

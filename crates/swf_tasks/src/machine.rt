@@ -124,22 +124,15 @@ impl Machine {
         id: Text,
         document: Accepted,
         input: Json,
-        started: Moment,
+        site: &Site,
     ) -> Result<Machine, AllocError>
-        ensures { IfOk result (λ m. m ≡ new_instance id input started document) }
+        ensures { IfOk result (λ m. m ≡ new_instance id input site.entry.now.now document) }
     {
         let document = SharedDocument::new(document.shared()?);
         let task = TaskRef::workflow(document.copy()?);
         let raw = input.copy()?;
         Ok(Machine {
-            setting: Setting {
-                document,
-                id,
-                started,
-                input,
-                context: Json::null(),
-                number: 0,
-            },
+            setting: Setting::new(alloc, document, id, input, site)?,
             forest: Forest::new(alloc, Layer::Top(Top::Fresh { task, raw }))?,
             turn: Strand::root(alloc),
         })
@@ -231,6 +224,7 @@ impl Machine {
             input,
             context,
             number,
+            ..
         } = &self.setting;
         let node = Node::of(self.forest.copy(alloc)?);
         Ok(InstanceView {

@@ -1,5 +1,5 @@
 -- The strands that can take a step.
-use Rattle.std.specs.Prelude.{◌≡◌, ℕ, List, [], Some, filter, flat_map, map}
+use Rattle.std.specs.Prelude.{◌≡◌, ℕ, List, Some, filter, flat_map, map}
 use Rattle.swf_meaning.specs.declared.label.Label.{Label}
 use Rattle.swf_meaning.specs.declared.label.Label.TheVariants.{Step}
 use Rattle.swf_meaning.specs.Strands.{can_go, strands}

@@ -8,11 +8,10 @@ ghost use Rattle.swf_world.specs.Prepares.{untold, load_of, start_of, IsTelling,
 
 use crate::change::{Change, ChangeKind};
 use crate::offer::{Offered, offer};
-use crate::world::Loaded;
+use crate::world::{Loaded, World};
 use indexmap::IndexMap;
 use std::alloc::{AllocError, Global};
 use swf_cloudevents::Event;
-use swf_duration::Moment;
 use swf_meaning::Key;
 use swf_tasks::{Machine, Site, Step};
 use swf_text::{Strand, Text};
@@ -40,23 +39,26 @@ pub fn load_change(value: &Json, document: Accepted) -> Result<Change, AllocErro
     }))
 }
 
-/// The change that adds an instance which has not begun.
-pub fn start_change(
-    alloc: Global,
-    id: &Text,
-    document: &Accepted,
-    input: &Json,
-    now: Moment,
-) -> Result<Change, AllocError>
-    ensures { IfOk result (λ c. c ≡ start_of id.now document.now input.now now) }
-{
-    let used = Key::Instance(id.copy()?);
-    let instance = Machine::begin(alloc, id.copy()?, document.copy()?, input.copy()?, now)?;
-    Ok(untold(ChangeKind::Start {
-        id: id.copy()?,
-        used,
-        instance,
-    }))
+impl World {
+    /// The change that adds an instance which has not begun.
+    pub(crate) fn start_change(
+        &self,
+        id: &Text,
+        document: &Accepted,
+        input: &Json,
+    ) -> Result<Change, AllocError>
+        ensures { IfOk result (λ c. c ≡ start_of id.now document.now input.now self.now.world.now) }
+    {
+        let (alloc, now) = (self.alloc, self.moment);
+        let words = self.words.as_ref().ok_or(AllocError)?;
+        let site = Site { now, words };
+        let instance = Machine::begin(alloc, id.copy()?, document.copy()?, input.copy()?, &site)?;
+        Ok(untold(ChangeKind::Start {
+            id: id.copy()?,
+            used: Key::Instance(id.copy()?),
+            instance,
+        }))
+    }
 }
 
 /// The change that tells an event to all instances.

@@ -16,7 +16,7 @@ ghost use Rattle.swf_world.specs.Prepares.{Prepares, StepsFirst, IsStepping, or_
 use crate::built::not_built;
 use crate::change::{Change, ChangeKind};
 use crate::key::{Sought, used_place};
-use crate::make::{event_change, load_change, start_change, step_change};
+use crate::make::{event_change, load_change, step_change};
 use crate::refusal::{PrepareFault, Refusal};
 use crate::world::{Loaded, World};
 use std::alloc::{AllocError, Global};
@@ -129,7 +129,7 @@ impl World {
     {
         match self.startable(id, key) {
             Err(refusal) => Err(PrepareFault::Refused(refusal)),
-            Ok(loaded) => ready(start_change(self.alloc, id, &loaded.document, input, self.moment)),
+            Ok(loaded) => ready(self.start_change(id, &loaded.document, input)),
         }
     }
 
@@ -147,10 +147,8 @@ impl World {
         ensures { IfOk result (IsStepping self.now.world.now number strand.now self.now.world.instances) }
     {
         let words = self.words.as_ref().ok_or(AllocError)?;
-        let site = Site {
-            now: self.moment,
-            words,
-        };
+        let now = self.moment;
+        let site = Site { now, words };
         step_change(self.alloc, number, &self.instances, strand, &site)
     }
 

@@ -1,0 +1,110 @@
+// What stays of an instance while its tasks run.
+ghost use Rattle.std.specs.Prelude.{◌≡◌, IfOk};
+ghost use Rattle.std.specs.Coded.{Coded-set};
+ghost use Rattle.swf_value.specs.ValueCode.{value_code};
+ghost use Rattle.swf_meaning.specs.Sight.{epoch};
+ghost use Rattle.swf_scene.specs.Told.{workflow_of};
+
+use crate::shared::SharedDocument;
+use crate::site::Site;
+use crate::words::Words;
+use std::alloc::{AllocError, Global};
+use swf_duration::Moment;
+use swf_text::Text;
+use swf_value::{Json, Member};
+
+/// An instance's document, its id, when it started, the raw input of its workflow, `$workflow`, which tells these three, its
+/// context, and the number of its next event.
+#[derive(Drop)]
+pub struct Setting {
+    pub document: SharedDocument,
+    pub id: Text,
+    pub started: Moment,
+    pub input: Json,
+    pub workflow: Json,
+    pub context: Json,
+    pub number: u64,
+    ghost told: { workflow ≡ workflow_of id started input } by { Coded-set value_code workflow (workflow_of id started input) },
+}
+
+impl Setting {
+    ghost use Rattle.swf_value.specs.Value.{null};
+    ghost use Rattle.swf_meaning.specs.Node.{Node};
+    ghost use Rattle.swf_scene.specs.Stack.{instance_of};
+
+    /// That of an instance that has just begun.
+    pub fn new(
+        alloc: Global,
+        document: SharedDocument,
+        id: Text,
+        input: Json,
+        site: &Site,
+    ) -> Result<Setting, AllocError>
+        ensures { IfOk result (λ s. (n : Node) → instance_of s n ≡ record { id = id; document = document; input = input; started = site.entry.now.now; context = null; node = n; number = 0 }) }
+    {
+        let started = site.now;
+        let workflow = workflow_value(alloc, site.words, &id, started, &input)?;
+        Ok(Setting {
+            document,
+            id,
+            started,
+            input,
+            workflow,
+            context: Json::null(),
+            number: 0,
+        })
+    }
+
+    /// The same once more. It copies no values.
+    pub fn copy(&self) -> Result<Setting, AllocError>
+        ensures { IfOk result (λ s. s ≡ self.now) }
+    {
+        Ok(Setting {
+            document: self.document.copy()?,
+            id: self.id.copy()?,
+            started: self.started,
+            input: self.input.copy()?,
+            workflow: self.workflow.copy()?,
+            context: self.context.copy()?,
+            number: self.number,
+        })
+    }
+}
+
+// A member whose name is shared.
+pub(crate) fn named(name: &Text, value: Json) -> Result<Member, AllocError>
+    ensures { IfOk result (λ m. m ≡ record { name = name.now; value = value }) }
+{
+    let name = name.copy()?;
+    Ok(Member { name, value })
+}
+
+// A moment as an object.
+fn epoch(alloc: Global, words: &Words, moment: Moment) -> Result<Json, AllocError>
+    ensures { IfOk result (λ v. v ≡ epoch moment) }
+{
+    let mut inner = Vec::with_capacity(alloc, 1)?;
+    let number = Json::int(moment.milliseconds() as i64);
+    inner.push(named(words.milliseconds(), number)?)?;
+    let inner = Json::object(alloc, inner)?;
+    let mut members = Vec::with_capacity(alloc, 1)?;
+    members.push(named(words.epoch(), inner)?)?;
+    Json::object(alloc, members)
+}
+
+// `$workflow`.
+fn workflow_value(
+    alloc: Global,
+    words: &Words,
+    id: &Text,
+    started: Moment,
+    input: &Json,
+) -> Result<Json, AllocError>
+    ensures { IfOk result (λ v. v ≡ workflow_of id.now started input.now) }
+{
+    let mut members = Vec::with_capacity(alloc, 3)?;
+    members.push(named(words.id(), Json::text(id.copy()?))?)?;
+    members.push(named(words.input(), input.copy()?)?)?;
+    members.push(named(words.started_at(), epoch(alloc, words, started)?)?)?;
+    Json::object(alloc, members)
+}
