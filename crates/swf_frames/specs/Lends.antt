@@ -1,6 +1,6 @@
 -- What a stack and a forest end as, where a `&mut` to a frame is returned.
 use Rattle.std.specs.Prelude.{ℕ, Option}
-use Rattle.std.specs.Borrow.{Lends, LendsIf, Fml, RattleType, MutBor}
+use Rattle.std.specs.Borrow.{LendsIf, Fml, RattleType, MutBor}
 use Rattle.swf_frames.specs.Tree.{Tree, with_top}
 use Rattle.swf_frames.specs.contracts.forest.Forest.{the_row}
 

@@ -1,5 +1,5 @@
 -- A code for trees, by which a ghost name tells them apart.
-use Rattle.std.specs.Prelude.{◌≡◌, ℕ, List, refl}
+use Rattle.std.specs.Prelude.{◌≡◌, ℕ, refl}
 use Rattle.std.specs.Coded.{Coded, code_by, coded×, coded_ℕ, coded_list}
 use base.Stored.{Gv, gnil, gnum, gcons}
 use mathlib.Core.Path.{ap, sym, subst}

@@ -48,9 +48,9 @@ impl<F: Drop> Forest<F> {
     pub fn new(alloc: Global, root: F) -> Result<Forest<F>, AllocError>
         ensures { IfOk result (λ forest. forest ≡ planted root) }
     {
-        let mut frames = Vec::new(alloc);
+        let mut frames = Vec::with_capacity(alloc, 1)?;
         frames.push(root)?;
-        let mut stacks = Vec::new(alloc);
+        let mut stacks = Vec::with_capacity(alloc, 1)?;
         stacks.push(Stack {
             strand: StrandId::new(0),
             parent: None,

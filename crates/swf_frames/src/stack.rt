@@ -58,8 +58,35 @@ impl<F> Stack<F> {
     }
 }
 
+// Where the stack of a strand may stand: there, where the numbers from the second stack on follow each other, as those of the
+// branches of one `fork` do.
+fn guess<F>(stacks: &[Stack<F>], strand: StrandId) -> usize {
+    if stacks.len() < 2 {
+        return 0;
+    }
+    let second = stacks[1].strand.number();
+    if strand.number() < second {
+        return 0;
+    }
+    ((strand.number() - second) as usize).saturating_add(1)
+}
+
 // Where the stack of a strand stands, if there is one.
 pub(crate) fn place_of<F>(stacks: &[Stack<F>], strand: StrandId) -> Option<usize>
+    requires { (next : ℕ) × Rises 0 (links (rows stacks.now)) next }
+    ensures found { IfSome result (λ place. number_at (rows stacks.now) place ≡ Some strand) }
+    ensures told { is_some result ≡ has_number (rows stacks.now) strand }
+    ensures none { IfNone result (find (strands_of (rows stacks.now)) strand ≡ None) }
+{
+    let place = guess(stacks, strand);
+    if place < stacks.len() && stacks[place].strand.number() == strand.number() {
+        return Some(place);
+    }
+    searched(stacks, strand)
+}
+
+// The same, by halves.
+fn searched<F>(stacks: &[Stack<F>], strand: StrandId) -> Option<usize>
     requires { (next : ℕ) × Rises 0 (links (rows stacks.now)) next }
     ensures found { IfSome result (λ place. number_at (rows stacks.now) place ≡ Some strand) }
     ensures told { is_some result ≡ has_number (rows stacks.now) strand }
@@ -86,7 +113,7 @@ pub(crate) fn place_of<F>(stacks: &[Stack<F>], strand: StrandId) -> Option<usize
 fn copy_frames<F: CopyFrame>(alloc: Global, frames: &[F]) -> Result<Vec<F>, AllocError>
     ensures { IfOk result (λ copies. copies.items ≡ frames.now) }
 {
-    let mut copies = Vec::new(alloc);
+    let mut copies = Vec::with_capacity(alloc, frames.len())?;
     for frame in frames {
         copies.push(frame.copy(alloc)?)?;
     }
@@ -100,7 +127,7 @@ pub(crate) fn copy_stacks<F: CopyFrame>(
 ) -> Result<Vec<Stack<F>>, AllocError>
     ensures { IfOk result (λ copies. rows copies.items ≡ rows stacks.now) }
 {
-    let mut copies = Vec::new(alloc);
+    let mut copies = Vec::with_capacity(alloc, stacks.len())?;
     for stack in stacks {
         copies.push(Stack {
             strand: stack.strand,

@@ -106,21 +106,11 @@ fn settle(
 }
 
 // The same change, told from the strand above.
-fn deeper(change: Change) -> Result<Change, AllocError>
+fn deeper(mut change: Change) -> Result<Change, AllocError>
     ensures { IfOk result (λ c. c ≡ record change { depth = change.depth + 1 }) }
 {
-    let Change {
-        depth,
-        layers,
-        context,
-        emitted,
-    } = change;
-    Ok(Change {
-        depth: depth.checked_add(1).ok_or(AllocError)?,
-        layers,
-        context,
-        emitted,
-    })
+    change.depth = change.depth.checked_add(1).ok_or(AllocError)?;
+    Ok(change)
 }
 
 // What the outermost strand ended in, where it did.

@@ -1,6 +1,4 @@
 use Rattle.std.proofs.Common.{◌≡◌, ◌∙◌, ◌+◌, false, true, take, drop, sym, ap, subst, Vec, Global}
-use Rattle.std.proofs.lemmas.Bool.{not-true, not-false}
-use Rattle.std.specs.List.{swap}
 use Rattle.swf_frames.specs.Stacks.{rows, is_below}
 use Rattle.swf_frames.specs.declared.stack.Stack.{Stack}
 use Rattle.swf_frames.proofs.SiftLemmas.{IsSifted, rises_front, sift_keeps, sift_drops}

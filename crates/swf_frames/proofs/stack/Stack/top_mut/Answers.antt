@@ -1,7 +1,6 @@
-use Rattle.std.proofs.Common.{◌∙◌, ◌-◌, ap, refl, sym, arith, rules}
-use Rattle.std.specs.Vec.{with_item, vec_len}
+use Rattle.std.proofs.Common.{◌-◌, refl, arith, rules}
+use Rattle.std.specs.Vec.{vec_len}
 use Rattle.std.proofs.lemmas.Option.{slice_get_read}
-use Rattle.swf_frames.specs.declared.stack.Stack.{Stack}
 use Rattle.swf_frames.proofs.stack.Stack.top_mut.Goals as goal
 
 pub returns : goal.returns

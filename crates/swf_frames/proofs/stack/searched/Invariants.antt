@@ -1,6 +1,6 @@
 use Rattle.std.proofs.Common.{◌-◌}
 use Rattle.swf_frames.proofs.SearchLemmas.{IsSearched}
-use Rattle.swf_frames.proofs.stack.place_of.Given as goal
+use Rattle.swf_frames.proofs.stack.searched.Given as goal
 
 abbrev pub invariant-loop-low : goal.invariant-loop-low
 invariant-loop-low g l = IsSearched l.stacks l.strand l.low l.high
