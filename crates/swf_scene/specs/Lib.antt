@@ -4,4 +4,5 @@ pub mod Told
 pub mod TaskRef
 pub mod Stack
 pub mod Halts
+pub mod FrameCode
 pub mod Layers

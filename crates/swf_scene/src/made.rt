@@ -1,6 +1,7 @@
 // What an instance is made of, as a stack of the tasks that run inside each other.
 ghost use Rattle.std.specs.Prelude.{◌≡◌, ◌<◌, ◌-◌, ◌^◌, IfOk};
 
+use crate::shared_frame::SharedFrame;
 use crate::task::TaskRef;
 use std::alloc::{AllocError, Global};
 use swf_cloudevents::{Event, NamedValues};
@@ -79,7 +80,7 @@ pub enum Top {
 /// What a strand holds: the tasks that run, the outermost first, and at the top what stands innermost.
 #[derive(Drop)]
 pub enum Layer {
-    Running(Frame),
+    Running(SharedFrame),
     Top(Top),
 }
 
@@ -107,21 +108,6 @@ impl Round {
             Round::Try { retries } => Ok(Round::Try { retries: *retries }),
             Round::Catch(problem) => Ok(Round::Catch(problem.copy()?)),
         }
-    }
-}
-
-impl Frame {
-    /// The same once more. It copies no values.
-    pub fn copy(&self) -> Result<Frame, AllocError>
-        ensures { IfOk result (λ f. f ≡ self.now) }
-    {
-        Ok(Frame {
-            task: self.task.copy()?,
-            raw: self.raw.copy()?,
-            input: self.input.copy()?,
-            round: self.round.copy()?,
-            place: self.place,
-        })
     }
 }
 

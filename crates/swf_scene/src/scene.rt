@@ -75,7 +75,8 @@ impl<'a> Scene<'a> {
         ensures { IfOk result (λ s. sight_of s ≡ seen_in (sight_of self.entry) (frames_of layers.now)) }
     {
         for layer in layers {
-            if let Layer::Running(frame) = layer {
+            if let Layer::Running(shared) = layer {
+                let frame = shared.frame();
                 push_seen(alloc, &mut self.around, &frame.task, &frame.round)?;
             }
         }

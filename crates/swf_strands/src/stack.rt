@@ -9,7 +9,7 @@ ghost use Rattle.swf_strands.specs.Strands.{IsHeld, IsGrownAt};
 
 use std::alloc::{AllocError, Global};
 use swf_frames::{CopyFrame, Forest, StrandId};
-use swf_scene::{Frame, Layer, Top};
+use swf_scene::{Frame, Layer, SharedFrame, Top};
 
 /// The tasks that run on a strand, and what stands innermost.
 #[derive(Drop)]
@@ -62,7 +62,7 @@ pub fn innermost(around: &[Layer]) -> (&Frame, &[Layer])
     ensures { (os : List TheFrame) × ((result.1.now ≡ running os) × (around.now ≡ running (os ++ result.0.now ∷ []))) }
 {
     match around.split_last() {
-        Some((Layer::Running(frame), outer)) => (frame, outer),
+        Some((Layer::Running(frame), outer)) => (frame.frame(), outer),
         Some((Layer::Top(_), _)) => unreachable!(),
         None => unreachable!(),
     }
@@ -79,7 +79,7 @@ pub fn layers_of(
 {
     let mut layers = copy_layers(alloc, around)?;
     if let Some(frame) = frame {
-        layers.push(Layer::Running(frame))?;
+        layers.push(Layer::Running(SharedFrame::new(alloc, frame)?))?;
     }
     layers.push(Layer::Top(top))?;
     Ok(layers)

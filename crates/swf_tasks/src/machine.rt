@@ -171,12 +171,12 @@ impl Machine {
     pub fn next_strand(&self, alloc: Global, now: Moment) -> Result<Option<Strand>, AllocError>
         ensures { IfOk result (IsNext now self.now.node) }
     {
-        if !self.is_enabled(now) {
-            return Ok(None);
-        }
         let root = self.forest.root();
         let mut path = Vec::new(alloc);
         if !lead_on(&self.forest, root, self.turn.as_slice(), now, &mut path)? {
+            if !self.is_enabled(now) {
+                return Ok(None);
+            }
             lead_in(&self.forest, root, now, &mut path)?;
         }
         Ok(Some(Strand::of(path)))
@@ -511,7 +511,7 @@ fn is_error_shared(around: &[Layer]) -> bool
     ensures { (fs : List TheFrame) (p : Problem) → around.now ≡ running fs → result ≡ is_shared [] (plug fs (Fault p)) }
 {
     match around.split_last() {
-        Some((Layer::Running(frame), _)) => may_try_again(frame),
+        Some((Layer::Running(frame), _)) => may_try_again(frame.frame()),
         Some((Layer::Top(_), _)) => false,
         None => false,
     }

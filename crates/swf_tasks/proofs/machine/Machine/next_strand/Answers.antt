@@ -6,7 +6,7 @@ use Rattle.swf_strands.proofs.OrderLemmas.{led-first, led_on-yes, led_on-no}
 use Rattle.swf_strands.proofs.TreeLemmas.{root-held}
 use Rattle.swf_tasks.proofs.WayLemmas.{of-root}
 use Rattle.swf_tasks.proofs.machine.Machine.next_strand.Goals as goal
-use Rattle.swf_tasks.proofs.machine.Machine.next_strand.Goals.{then-not-branch+in_ok-lead_in, else-not-branch}
+use Rattle.swf_tasks.proofs.machine.Machine.next_strand.Goals.{then-not-branch+else-not-is_enabled+in_ok-lead_in, else-not-branch}
 
 pub lead_on-requires : goal.lead_on-requires
 lead_on-requires c = record { held = root-held c.self.inside.forest c.root-root.result c.root-root.ensures.root c.root-root.ensures.distinct c.self.invariant }
@@ -21,7 +21,7 @@ returns c =
     let held = root-held c.self.inside.forest c.root-root.result c.root-root.ensures.root c.root-root.ensures.distinct c.self.invariant in
     let way = c.lead_on.new.path.items in
     of-root (λ n. can_go c.args.now c.of.result n ≡ true) c.self.inside.setting c.self.inside.forest c.root-root.result c.args.self.now c.self.view_is c.root-root.ensures.root c.self.invariant (λ b f. elim c.if-not-branch.branch [
-      | then-not-branch+in_ok-lead_in w ↦
+      | then-not-branch+else-not-is_enabled+in_ok-lead_in w ↦
           led-first c.args.now (node_of b) way w.lead_in.new.path.items c.of.result
           (led_on-no c.args.now t r c.new-path.result.items way c.in_ok-lead_on.field-0 w.if-not-branch.true held c.in_ok-lead_on.ensures ∙ c.new-path.ensures.items)
           (c.of.ensures ∙ ap (λ (v : Vec ℕ Global). v.items) w.path-is) (w.in_ok-lead_in.ensures b f)
