@@ -37,7 +37,7 @@ impl FrameBytes {
 fn write_tail(alloc: Global, body: &[u8]) -> Result<Vec<u8>, AllocError>
     ensures { IfOk result (λ bytes. bytes.items ≡ frame_tail body.now) }
 {
-    let mut bytes = Vec::new(alloc);
+    let mut bytes = Vec::with_capacity(alloc, body.len().saturating_add(9))?;
     bytes.extend_from_slice(&(body.len() as u64).to_be_bytes())?;
     bytes.extend_from_slice(body)?;
     bytes.push(0)?;

@@ -12,6 +12,9 @@ use swf_meaning::Label;
 use swf_text::{Strand, Text};
 use swf_value::{Json, write_json};
 
+/// Room for as many bytes as the labels of most frames have.
+const MOST_OFTEN: usize = 64;
+
 /// The bytes of these labels. A text, or the text of a value, of 2^32 bytes or more, and a strand of
 /// 2^16 numbers or more, has no bytes, which counts as want of memory.
 pub fn encode_labels(alloc: Global, labels: &[Label]) -> Result<Vec<u8>, AllocError>
@@ -20,7 +23,7 @@ pub fn encode_labels(alloc: Global, labels: &[Label]) -> Result<Vec<u8>, AllocEr
     requires nest { AllByRecursion Nests labels.now }
     ensures { IfOk result (λ bytes. Encodes labels.now bytes.items) }
 {
-    let mut out = Vec::new(alloc);
+    let mut out = Vec::with_capacity(alloc, MOST_OFTEN)?;
     write_four_bytes(labels.len() as u32, &mut out)?;
     for label in labels {
         write_label(alloc, label, &mut out)?;
