@@ -30,6 +30,14 @@ impl TextBuilder {
         }
     }
 
+    /// An empty text with room for so many bytes.
+    pub fn with_capacity(alloc: Global, bytes: usize) -> Result<TextBuilder, AllocError>
+        ensures { IfOk result (λ b. b ≡ []) }
+    {
+        let text = String::with_capacity(alloc, bytes)?;
+        Ok(TextBuilder { text })
+    }
+
     /// One more character.
     pub fn push(&mut self, character: char) -> Result<(), AllocError>
         ensures { OnOk result (self.new ≡ self.old ++ character ∷ []) }
