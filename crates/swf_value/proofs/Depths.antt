@@ -1,5 +1,5 @@
 -- A value that is read nests no deeper than is allowed.
-use Rattle.std.proofs.Common.{◌≡◌, refl, sym, ap, ℕ, ◌≤◌, List, Bool, true, false, ltb, lt-ltb, Option, Some, None, option_map, option_and_then, Ok, Err, cond, inl, inr, arith}
+use Rattle.std.proofs.Common.{◌≡◌, refl, sym, ap, ℕ, ◌≤◌, List, Bool, true, false, ltb, lt-ltb, Option, Some, None, option_map, option_and_then, Result, Ok, Err, IfOk, cond, inl, inr, arith}
 use Rattle.std.proofs.lemmas.Bool.{cases_lt}
 use Rattle.std.specs.Str.{is_utf8}
 use Rattle.serde_json.specs.Data as json
@@ -63,7 +63,7 @@ unfaulted (Some x) v e = let is : x ≡ v = cc in ap Some is
 within : (most : ℕ) (d : json.Data) (b : Bool) (v : Value) → ltb most (json.depth d) ≡ b → cond b (Err ValueFault.TooDeep) (whole_or_fault (whole d)) ≡ Ok v → depth v ≤ most
 within most d true v t e = cc
 within most d false v t e = elim (cases_lt most (json.depth d)) [
-  | inl deep ↦ let yes : ltb most (json.depth d) ≡ true = lt-ltb _ _ deep in absurd (cc)
+  | inl deep ↦ let past : ltb most (json.depth d) ≡ true = lt-ltb _ _ deep in absurd (cc)
   | inr enough ↦ omega (arith, depth-whole d v (unfaulted (whole d) v e))
 ]
 
@@ -78,6 +78,6 @@ of_text most bytes false v e = cc
 pub depth-read : (most : ℕ) (bytes : List ℕ) (v : Value) → read_within most bytes ≡ Ok v → depth v ≤ most
 depth-read most bytes v e = of_text most bytes (is_utf8 bytes) v e
 
--- the same of data whose nesting was asked
-pub within_most : (d : json.Data) (v : Value) (most : ℕ) → Some v ≡ whole d → json.depth d ≤ most → depth v ≤ most
-within_most d v most e h = omega (arith, h, depth-whole d v (sym e))
+pub read_shallow : (most : ℕ) (bytes : List ℕ) (r : Result Value ValueFault) → r ≡ read_within most bytes → IfOk r (λ v. depth v ≤ most)
+read_shallow most bytes (Ok v) e = depth-read most bytes v (sym e)
+read_shallow most bytes (Err f) e = tt

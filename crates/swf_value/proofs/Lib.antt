@@ -7,6 +7,8 @@ pub mod Writing
 pub mod PlainRuns
 pub mod Escapes
 pub mod Wholes
+pub mod Deepest
+pub mod Finds
 pub mod Depths
 pub mod Readings
 pub mod Data

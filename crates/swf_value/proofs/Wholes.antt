@@ -1,18 +1,17 @@
--- A list or an object of `serde_json` as a value, one item or member after another.
-use Rattle.std.proofs.Common.{◌≡◌, ◌∙◌, ap, ap₂, sym, refl, ℕ, true, List, [], ◌∷◌, ◌++◌, Option, Some, None, option_map, map, chars, string_bytes, Less, nat_cmp, string_cmp}
+-- A list or an object as a value, from what is found of its items or members, one after another.
+use Rattle.std.proofs.Common.{◌≡◌, ◌∙◌, ap, sym, refl, ℕ, true, List, [], ◌∷◌, ◌++◌, Option, Some, None, option_map, map, chars, Ordering, nat_cmp, Bor}
 use Rattle.std.proofs.lemmas.List.{map-append}
-use Rattle.std.proofs.lemmas.Str.{IsUtf8-string_bytes, encodes-chars}
 use Rattle.std.specs.List.Sorted.{IsStrictlySortedBy}
 use Rattle.std.specs.Map.{keys_of}
-use Rattle.std.specs.Str.{all_scalars}
+use Rattle.std.specs.Str.{all_scalars, encode_utf8_all}
 use Rattle.std.specs.Cmp.Lexicographic.{slice_cmp}
-use Rattle.serde_json.specs.View.{view, items_view, members_view}
-use Rattle.serde_json.proofs.Views.{Entry}
-use Rattle.serde_json.specs.declared.value.Value.{Value as Tree}
-use Rattle.swf_value.specs.Value.{Value, list, object, Items, no_items, item, Members, no_members, member, IsBefore, Ascending, IsValue, AreItems, AreMembers}
+use Rattle.serde_json.specs.Data as json
+use Rattle.swf_value.specs.Value.{Value, list, object, Items, no_items, item, Members, no_members, member, Ascending, IsValue, AreItems, AreMembers}
 use Rattle.swf_value.specs.Node.{items_of, members_of}
 use Rattle.swf_value.specs.Read.{whole, whole_items, whole_members}
+use Rattle.swf_value.specs.Found.{AreFound, MembersFound}
 use Rattle.swf_value.specs.declared.value.Member.{Member}
+use Rattle.swf_value.specs.declared.whole.Found.{Found}
 use Rattle.swf_text.proofs.Utf8Order.{order-encode_utf8_all}
 
 -- ---- items
@@ -22,7 +21,7 @@ abbrev pub items_then : List Value → Items → Items
 items_then [] rest = rest
 items_then (d ∷ ds) rest = item d (items_then ds rest)
 
-pub items_then-no_items : (ds : List Value) → items_then ds no_items ≡ items_of ds
+items_then-no_items : (ds : List Value) → items_then ds no_items ≡ items_of ds
 items_then-no_items [] = refl
 items_then-no_items (d ∷ ds) = ap (item d) (items_then-no_items ds)
 
@@ -30,31 +29,47 @@ items_then_push : (ds : List Value) (d : Value) (rest : Items) → items_then (d
 items_then_push [] d rest = refl
 items_then_push (x ∷ ds) d rest = ap (item x) (items_then_push ds d rest)
 
--- the list of these values and of the trees that are left
-abbrev pub list_with : List Value → List Tree → Option Value
-list_with ds ts = option_map (λ rest. list (items_then ds rest)) (whole_items (items_view ts))
+-- the list of these values and of the data that are left
+abbrev pub list_with : List Value → json.Items → Option Value
+list_with ds rest = option_map (λ is. list (items_then ds is)) (whole_items rest)
 
 list_with_at : (ds : List Value) (d : Value) (rest : Option Items) → option_map (λ r. list (items_then ds r)) (option_map (item d) rest) ≡ option_map (λ r. list (items_then (ds ++ d ∷ []) r)) rest
 list_with_at ds d None = refl
 list_with_at ds d (Some r) = ap (λ is. Some (list is)) (sym (items_then_push ds d r))
 
-pub list_with_more : (ds : List Value) (d : Value) (t : Tree) (ts : List Tree) → whole (view t) ≡ Some d → list_with ds (t ∷ ts) ≡ list_with (ds ++ d ∷ []) ts
-list_with_more ds d t ts e = rw e (list_with_at ds d (whole_items (items_view ts)))
-
-pub list_with_none : (ds : List Value) (t : Tree) (ts : List Tree) → whole (view t) ≡ None → list_with ds (t ∷ ts) ≡ None
-list_with_none ds t ts e = rw e refl
-
-pub AreItems-push : (ds : List Value) (d : Value) → AreItems (items_of ds) → IsValue d → AreItems (items_of (ds ++ d ∷ []))
+AreItems-push : (ds : List Value) (d : Value) → AreItems (items_of ds) → IsValue d → AreItems (items_of (ds ++ d ∷ []))
 AreItems-push [] d h v = (v, tt)
 AreItems-push (x ∷ ds) d h v = (h.0, AreItems-push ds d h.1 v)
 
+-- of all items, `done` are values, and `left` are found of the rest
+abbrev pub ListLeft : json.Items → List Value → List Found → Type 0
+ListLeft all done left = (rest : json.Items) × AreFound rest left × (option_map list (whole_items all) ≡ list_with done rest) × AreItems (items_of done)
+
+pub list_turn : (all : json.Items) (done : List Value) (f : Found) (left : List Found) (v : Value) → f.value ≡ Some v → ListLeft all done (f ∷ left) → ListLeft all (done ++ v ∷ []) left
+list_turn all done f left v is (json.no_items, h, e, a) = absurd h
+list_turn all done f left v is (json.item d ds, h, e, a) =
+    let w : whole d ≡ Some v = sym h.0.value_is ∙ is in
+    let valid : IsValue v = rw is at h.0.valid in
+    (ds, h.1, e ∙ rw w (list_with_at done v (whole_items ds)), AreItems-push done v a valid)
+
+pub list_stop : (all : json.Items) (done : List Value) (f : Found) (left : List Found) → f.value ≡ None → ListLeft all done (f ∷ left) → option_map list (whole_items all) ≡ None
+list_stop all done f left is (json.no_items, h, e, a) = absurd h
+list_stop all done f left is (json.item d ds, h, e, a) = let w : whole d ≡ None = sym h.0.value_is ∙ is in e ∙ rw w refl
+
+pub list_end : (all : json.Items) (done : List Value) → ListLeft all done [] → (option_map list (whole_items all) ≡ Some (list (items_of done))) × IsValue (list (items_of done))
+list_end all done (json.no_items, h, e, a) = (e ∙ ap (λ is. Some (list is)) (items_then-no_items done), a)
+list_end all done (json.item d ds, h, e, a) = absurd h
+
 -- ---- members
+
+abbrev pub Entry : Type 0
+Entry = Bor (List ℕ) × Found
 
 abbrev pub members_then : List Member → Members → Members
 members_then [] rest = rest
 members_then (m ∷ ms) rest = member m.name m.value (members_then ms rest)
 
-pub members_then-no_members : (ms : List Member) → members_then ms no_members ≡ members_of ms
+members_then-no_members : (ms : List Member) → members_then ms no_members ≡ members_of ms
 members_then-no_members [] = refl
 members_then-no_members (m ∷ ms) = ap (member m.name m.value) (members_then-no_members ms)
 
@@ -62,49 +77,62 @@ members_then_push : (ms : List Member) (m : Member) (rest : Members) → members
 members_then_push [] m rest = refl
 members_then_push (x ∷ ms) m rest = ap (member x.name x.value) (members_then_push ms m rest)
 
--- the object of these members and of the entries that are left
-abbrev pub object_with : List Member → List Entry → Option Value
-object_with ms es = option_map (λ rest. object (members_then ms rest)) (whole_members (members_view es))
+-- the object of these members and of the data that are left
+abbrev pub object_with : List Member → json.Members → Option Value
+object_with ms rest = option_map (λ is. object (members_then ms is)) (whole_members rest)
 
 object_with_at : (ms : List Member) (m : Member) (rest : Option Members)
     → option_map (λ r. object (members_then ms r)) (option_map (member m.name m.value) rest) ≡ option_map (λ r. object (members_then (ms ++ m ∷ []) r)) rest
 object_with_at ms m None = refl
 object_with_at ms m (Some r) = ap (λ is. Some (object is)) (sym (members_then_push ms m r))
 
-pub object_with_more : (ms : List Member) (m : Member) (e : Entry) (es : List Entry) → m.name ≡ chars (string_bytes e.0) → whole (view e.1) ≡ Some m.value → object_with ms (e ∷ es) ≡ object_with (ms ++ m ∷ []) es
-object_with_more ms m e es named w = rw (w, ← named) (object_with_at ms m (whole_members (members_view es)))
-
-pub object_with_none : (ms : List Member) (e : Entry) (es : List Entry) → whole (view e.1) ≡ None → object_with ms (e ∷ es) ≡ None
-object_with_none ms e es w = rw w refl
-
-pub AreMembers-push : (ms : List Member) (m : Member) → AreMembers (members_of ms) → all_scalars m.name ≡ true → IsValue m.value → AreMembers (members_of (ms ++ m ∷ []))
+AreMembers-push : (ms : List Member) (m : Member) → AreMembers (members_of ms) → all_scalars m.name ≡ true → IsValue m.value → AreMembers (members_of (ms ++ m ∷ []))
 AreMembers-push [] m h named v = (named, v, tt)
 AreMembers-push (x ∷ ms) m h named v = (h.0, h.1, AreMembers-push ms m h.2 named v)
 
+-- of all members, `done` are values, and `left` are found of the rest
+abbrev pub ObjectLeft : json.Members → List Member → List Entry → Type 0
+ObjectLeft all done left = (rest : json.Members) × MembersFound rest left × (option_map object (whole_members all) ≡ object_with done rest) × AreMembers (members_of done)
+
+pub object_turn : (all : json.Members) (done : List Member) (e : Entry) (left : List Entry) (m : Member) → m.name ≡ chars e.0.now → all_scalars m.name ≡ true → e.1.value ≡ Some m.value
+    → ObjectLeft all done (e ∷ left) → ObjectLeft all (done ++ m ∷ []) left
+object_turn all done e left m named text is (json.no_members, h, q, a) = absurd h
+object_turn all done e left m named text is (json.member k d ms, h, q, a) =
+    let w : whole d ≡ Some m.value = sym h.1.value_is ∙ is in
+    let name : chars k ≡ m.name = ap (λ n. chars n) (sym h.0) ∙ sym named in
+    let valid : IsValue m.value = rw is at h.1.valid in
+    (ms, h.2, q ∙ rw (w, name) (object_with_at done m (whole_members ms)), AreMembers-push done m a text valid)
+
+pub object_stop : (all : json.Members) (done : List Member) (e : Entry) (left : List Entry) → e.1.value ≡ None → ObjectLeft all done (e ∷ left) → option_map object (whole_members all) ≡ None
+object_stop all done e left is (json.no_members, h, q, a) = absurd h
+object_stop all done e left is (json.member k d ms, h, q, a) = let w : whole d ≡ None = sym h.1.value_is ∙ is in q ∙ rw w refl
+
+pub object_end : (all : json.Members) (done : List Member) → ObjectLeft all done [] → (option_map object (whole_members all) ≡ Some (object (members_of done))) × AreMembers (members_of done)
+object_end all done (json.no_members, h, q, a) = (q ∙ ap (λ ms. Some (object ms)) (members_then-no_members done), a)
+object_end all done (json.member k d ms, h, q, a) = absurd h
+
 -- ---- the order of a map is that of its names' characters
 
-abbrev pub name_of : Entry → List ℕ
-name_of e = chars (string_bytes e.0)
-
 abbrev pub names_of : List Member → List (List ℕ)
-names_of = map (λ m. m.name)
+names_of = map (λ m. encode_utf8_all m.name)
 
-pub names_push : (ms : List Member) (m : Member) (es : List Entry) (e : Entry) → names_of ms ≡ map name_of es → m.name ≡ name_of e → names_of (ms ++ m ∷ []) ≡ map name_of (es ++ e ∷ [])
-names_push ms m es e same named = map-append (λ n. n.name) ms (m ∷ []) ∙ ap₂ (λ (xs : List (List ℕ)) (x : List ℕ). xs ++ x ∷ []) same named ∙ sym (map-append name_of es (e ∷ []))
+abbrev pub keys_as_bytes : List Entry → List (List ℕ)
+keys_as_bytes = map (λ e. e.0.now)
 
-before : (a b : Entry) → string_cmp a.0 b.0 ≡ Less → IsBefore (name_of a) (name_of b)
-before a b h =
-    sym (order-encode_utf8_all (name_of a) (name_of b))
-    ∙ ap₂ (λ (x y : List ℕ). slice_cmp nat_cmp x y) (encodes-chars (string_bytes a.0) (IsUtf8-string_bytes a.0)) (encodes-chars (string_bytes b.0) (IsUtf8-string_bytes b.0)) ∙ h
+pub names_push : (ms : List Member) (m : Member) (es : List Entry) (e : Entry) → names_of ms ≡ keys_as_bytes es → encode_utf8_all m.name ≡ e.0.now → names_of (ms ++ m ∷ []) ≡ keys_as_bytes (es ++ e ∷ [])
+names_push ms m es e same named = map-append (λ n. encode_utf8_all n.name) ms (m ∷ []) ∙ ap (λ (xs : List (List ℕ)). xs ++ encode_utf8_all m.name ∷ []) same ∙ ap (λ (x : List ℕ). keys_as_bytes es ++ x ∷ []) named ∙ sym (map-append (λ x. x.0.now) es (e ∷ []))
 
-pub ascending : (ms : List Member) (es : List Entry) → names_of ms ≡ map name_of es → IsStrictlySortedBy string_cmp (keys_of es) → Ascending (members_of ms)
+abbrev pub key_cmp : Bor (List ℕ) → Bor (List ℕ) → Ordering
+key_cmp x y = slice_cmp nat_cmp x.now y.now
+
+pub ascending : (ms : List Member) (es : List Entry) → names_of ms ≡ keys_as_bytes es → IsStrictlySortedBy key_cmp (keys_of es) → Ascending (members_of ms)
 unfolding IsStrictlySortedBy
 ascending [] es same h = tt
 ascending (m ∷ ms) [] same h = absurd (cc)
 ascending (m ∷ []) (e ∷ es) same h = (tt, tt)
 ascending (m ∷ n ∷ ms) (e ∷ []) same h = absurd (cc)
 ascending (m ∷ n ∷ ms) (e ∷ f ∷ es) same h =
-    let first : m.name ≡ name_of e = cc in
-    let second : n.name ≡ name_of f = cc in
-    let rest : names_of (n ∷ ms) ≡ map name_of (f ∷ es) = cc in
-    (rw (first, second) (before e f h.0.0), ascending (n ∷ ms) (f ∷ es) rest h.1)
+    let first : encode_utf8_all m.name ≡ e.0.now = cc in
+    let second : encode_utf8_all n.name ≡ f.0.now = cc in
+    let rest : names_of (n ∷ ms) ≡ keys_as_bytes (f ∷ es) = cc in
+    (sym (order-encode_utf8_all m.name n.name) ∙ rw (first, second) h.0.0, ascending (n ∷ ms) (f ∷ es) rest h.1)

@@ -8,5 +8,6 @@ pub mod Grow
 pub mod Place
 pub mod Written
 pub mod Read
+pub mod Found
 pub mod Order
 pub mod Size

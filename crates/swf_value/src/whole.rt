@@ -1,115 +1,115 @@
-// The value that a tree of `serde_json` is.
-ghost use Rattle.std.specs.Prelude.{◌≡◌, ◌≤◌, ◌↔◌, IfOk, IfSome, IsTrue, option_map};
-ghost use Rattle.serde_json.specs.Data.{depth, items_depth, members_depth};
-ghost use Rattle.serde_json.specs.View.{view, number_view, items_view, members_view};
+// What is found of JSON that is read: the value that it is, where it is one, and how deep it nests.
+ghost use Rattle.std.specs.Prelude.{◌≡◌, IfOk, IfSome, option_map, chars, IsUtf8};
+ghost use Rattle.serde_json.specs.Data as json_data;
 ghost use Rattle.swf_value.specs.Value.{IsValue, list, object};
-ghost use Rattle.swf_value.specs.Read.{whole, whole_items, whole_members, whole_number};
+ghost use Rattle.swf_value.specs.Read.{whole_items, whole_members};
+ghost use Rattle.swf_value.specs.Found.{IsFound, AreFound, MembersFound, deepest_item, deepest_member};
 
 use crate::value::{Json, Member};
-use serde_json::{Map, Number, Value as Tree};
 use std::alloc::{AllocError, Global};
+use std::collections::BTreeMap;
 use swf_text::Text;
 
-/// The greatest whole number of a value.
-const GREATEST: i64 = 9007199254740991;
-
-/// Whether lists and objects nest at most `most` deep.
-#[cycle(nests)]
-pub(crate) fn nests_within(tree: &Tree, most: u32) -> bool
-    ensures { IsTrue result ↔ (depth (view tree.now) ≤ most) }
-{
-    match tree {
-        Tree::Array(items) => most > 0 && items_nest_within(items, most - 1),
-        Tree::Object(members) => most > 0 && members_nest_within(members, most - 1),
-        _ => true,
-    }
+/// What is found of one piece of JSON.
+#[derive(Drop)]
+pub(crate) struct Found {
+    /// The value, unless a number in it is a float or out of range.
+    pub(crate) value: Option<Json>,
+    /// How deep lists and objects nest in it; the greatest number where that is greater still.
+    pub(crate) depth: u32,
 }
 
-/// Whether all items nest at most `most` deep.
-#[cycle(nests)]
-fn items_nest_within(items: &[Tree], most: u32) -> bool
-    ensures { IsTrue result ↔ (items_depth (items_view items.now) ≤ most) }
+/// What is found of an array, from what is found of its items.
+pub(crate) fn found_list(alloc: Global, items: Vec<Found>) -> Result<Found, AllocError>
+    ensures { IfOk result (λ f. (ds : json_data.Items) → AreFound ds items.items
+        → IsFound (json_data.array ds) f) }
 {
+    let depth = depth_of_items(&items).saturating_add(1);
+    let value = whole_list(alloc, items)?;
+    Ok(Found { value, depth })
+}
+
+/// What is found of an object, from what is found of its members.
+pub(crate) fn found_object(
+    alloc: Global,
+    members: BTreeMap<&str, Found>,
+) -> Result<Found, AllocError>
+    ensures { IfOk result (λ f. (ms : json_data.Members) → MembersFound ms members.entry.entries
+        → IsFound (json_data.object ms) f) }
+{
+    let depth = depth_of_members(&members).saturating_add(1);
+    let value = whole_object(alloc, members)?;
+    Ok(Found { value, depth })
+}
+
+/// What is found of a text.
+pub(crate) fn found_text(alloc: Global, text: &str) -> Result<Found, AllocError>
+    ensures { IfOk result (IsFound (json_data.string text.now)) }
+{
+    let text = Text::copy_of(alloc, text)?;
+    Ok(Found {
+        value: Some(Json::text(text)),
+        depth: 0,
+    })
+}
+
+/// The depth of the deepest item.
+fn depth_of_items(items: &[Found]) -> u32
+    ensures { result ≡ deepest_item items.now }
+{
+    let mut most = 0;
     for item in items {
-        if !nests_within(item, most) {
-            return false;
-        }
+        most = item.depth.max(most);
     }
-    true
+    most
 }
 
-/// Whether all members nest at most `most` deep.
-#[cycle(nests)]
-fn members_nest_within(members: &Map<String, Tree>, most: u32) -> bool
-    ensures { IsTrue result ↔ (members_depth (members_view members.now.entries) ≤ most) }
+/// The depth of the deepest member.
+fn depth_of_members(members: &BTreeMap<&str, Found>) -> u32
+    ensures { result ≡ deepest_member members.now.entries }
 {
+    let mut most = 0;
     for (_, member) in members {
-        if !nests_within(member, most) {
-            return false;
-        }
+        most = member.depth.max(most);
     }
-    true
+    most
 }
 
-/// The value that a tree is, unless a number in it is a float or out of range.
-#[cycle(whole)]
-pub(crate) fn whole_value(alloc: Global, tree: Tree) -> Result<Option<Json>, AllocError>
-    ensures is { IfOk result (λ o. o ≡ whole (view tree)) }
-    ensures value { IfOk result (λ o. IfSome o IsValue) }
+/// The list of these items, if each is a value.
+fn whole_list(alloc: Global, items: Vec<Found>) -> Result<Option<Json>, AllocError>
+    ensures { IfOk result (λ o. (ds : json_data.Items) → AreFound ds items.items
+        → (o ≡ option_map list (whole_items ds)) × IfSome o IsValue) }
 {
-    match tree {
-        Tree::Null => Ok(Some(Json::null())),
-        Tree::Bool(value) => Ok(Some(Json::boolean(value))),
-        Tree::Number(number) => Ok(whole_int(&number)),
-        Tree::String(text) => Ok(Some(Json::text(Text::from_string(alloc, text)?))),
-        Tree::Array(items) => whole_list(alloc, items),
-        Tree::Object(members) => whole_object(alloc, members),
-    }
-}
-
-/// The list that these items are.
-#[cycle(whole)]
-fn whole_list(alloc: Global, items: Vec<Tree>) -> Result<Option<Json>, AllocError>
-    ensures is { IfOk result (λ o. o ≡ option_map list (whole_items (items_view items.items))) }
-    ensures value { IfOk result (λ o. IfSome o IsValue) }
-{
-    let mut found = Vec::with_capacity(alloc, items.len())?;
+    let mut values = Vec::with_capacity(alloc, items.len())?;
     for item in items {
-        let Some(value) = whole_value(alloc, item)? else {
+        let Some(value) = item.value else {
             return Ok(None);
         };
-        found.push(value)?;
+        values.push(value)?;
     }
-    Ok(Some(Json::list(alloc, found)?))
+    Ok(Some(Json::list(alloc, values)?))
 }
 
-/// The object that these members are.
-#[cycle(whole)]
-fn whole_object(alloc: Global, members: Map<String, Tree>) -> Result<Option<Json>, AllocError>
-    ensures is { IfOk result
-        (λ o. o ≡ option_map object (whole_members (members_view members.entries))) }
-    ensures value { IfOk result (λ o. IfSome o IsValue) }
+/// The object of these members, if each is a value.
+fn whole_object(alloc: Global, members: BTreeMap<&str, Found>) -> Result<Option<Json>, AllocError>
+    ensures { IfOk result (λ o. (ms : json_data.Members) → MembersFound ms members.entry.entries
+        → (o ≡ option_map object (whole_members ms)) × IfSome o IsValue) }
 {
     let mut found = Vec::with_capacity(alloc, members.len())?;
     for (name, member) in members {
-        let Some(value) = whole_value(alloc, member)? else {
+        let Some(value) = member.value else {
             return Ok(None);
         };
-        let name = Text::from_string(alloc, name)?;
+        let name = name_of(alloc, name)?;
         found.push(Member { name, value })?;
     }
     Ok(Some(Json::object(alloc, found)?))
 }
 
-/// The whole number that a number is, where it is one in range.
-fn whole_int(number: &Number) -> Option<Json>
-    ensures is { result ≡ whole_number (number_view number.now) }
-    ensures value { IfSome result IsValue }
+/// A member's name as a text.
+fn name_of(alloc: Global, name: &str) -> Result<Text, AllocError>
+    ensures is { IfOk result (λ t. t ≡ chars name.now) }
+    ensures utf8 { IsUtf8 name.now }
 {
-    let value = number.as_i64()?;
-    if -GREATEST <= value && value <= GREATEST {
-        Some(Json::int(value))
-    } else {
-        None
-    }
+    Text::copy_of(alloc, name)
 }

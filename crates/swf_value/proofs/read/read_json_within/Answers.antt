@@ -1,37 +1,23 @@
-use Rattle.std.proofs.Common.{◌∙◌, ap, sym, inl, inr, ◌<◌, true≢false}
-use Rattle.std.proofs.lemmas.Bool.{cases_lt}
-use Rattle.serde_json.specs.Data.{depth}
-use Rattle.serde_json.specs.View.{view}
-use Rattle.swf_value.specs.Read.{whole_or_fault}
-use Rattle.swf_value.proofs.Depths.{within_most}
-use Rattle.swf_value.proofs.Readings.{not_json, too_deep, shallow}
+use Rattle.std.proofs.Common.{◌≡◌, ◌∙◌, sym, inl, inr, Some}
+use Rattle.json.specs.Value.{value_view}
+use Rattle.swf_value.specs.Found.{tree}
+use Rattle.swf_value.specs.Read.{read_within}
+use Rattle.swf_value.proofs.Depths.{read_shallow}
+use Rattle.swf_value.proofs.Readings.{not_json, read_found}
 use Rattle.swf_value.proofs.read.read_json_within.Goals as goal
 
-pub returns-in-Err-2-clause-read : goal.returns-in-Err-2-clause-read
-returns-in-Err-2-clause-read c =
-    let other = λ (m : _). true≢false (sym (c.is_memory.ensures.1 m) ∙ c.if-is_memory.false) in
-    inr (sym (not_json c.args.depth c.args.bytes.now (c.in-Err.ensures.err other)))
+pub returns-in_default-clause-read : goal.returns-in_default-clause-read
+returns-in_default-clause-read c = inr (sym (not_json c.args.depth c.args.bytes.now (λ utf8. absurd (c.in_default.ensures.cases.0 utf8))))
 
-pub returns-then-not-nests_within-clause-read : goal.returns-then-not-nests_within-clause-read
-returns-then-not-nests_within-clause-read c =
-    let d = view c.in-Ok.tree in
-    let deep : c.args.depth < depth d = elim (cases_lt c.args.depth (depth d)) [
-      | inl deeper ↦ deeper
-      | inr within ↦ absurd (true≢false (sym (c.nests_within.ensures.1 within) ∙ c.if-not-nests_within.true))
-    ] in
-    inr (sym (too_deep c.args.depth c.args.bytes.now d c.in-Ok.ensures.ok deep))
+as_read : (c : goal.After-drop-scratch-in-Ok-Some-2) → c.value_within.result ≡ read_within c.args.depth c.args.bytes.now
+as_read c =
+    let parsed : tree c.in-Ok.text.now ≡ Some (value_view c.in-Ok-read_tree.tree) = elim c.in-Ok-read_tree.ensures [ inl none ↦ absurd (cc) | inr is ↦ is ] in
+    let found = rw c.in-Ok-Some.field-0-is at c.in-Ok-Some.ensures in
+    (c.value_within.ensures found.0 found.2).0
+    ∙ sym (read_found c.args.depth c.args.bytes.now c.in-Ok.text.now (value_view c.in-Ok-read_tree.tree) found.0 c.in-Ok.ensures.cases parsed found.1)
 
 pub returns-in-Ok-Some-clause-read : goal.returns-in-Ok-Some-clause-read
-returns-in-Ok-Some-clause-read c =
-    let within = c.nests_within.ensures.0 c.if-not-nests_within.false in
-    inr (sym (shallow c.args.depth c.args.bytes.now (view c.in-Ok.tree) c.in-Ok-Some.field-0 c.in-Ok.ensures.ok within c.in-Ok-Some.ensures.is ∙ ap whole_or_fault c.in-Ok-Some.field-0-is))
-
-pub returns-in-Ok-None-clause-read : goal.returns-in-Ok-None-clause-read
-returns-in-Ok-None-clause-read c =
-    let within = c.nests_within.ensures.0 c.if-not-nests_within.false in
-    inr (sym (shallow c.args.depth c.args.bytes.now (view c.in-Ok.tree) c.in-Ok-None.field-0 c.in-Ok.ensures.ok within c.in-Ok-None.ensures.is ∙ ap whole_or_fault c.in-Ok-None.field-0-is))
+returns-in-Ok-Some-clause-read c = inr (as_read c)
 
 pub returns-in-Ok-Some-clause-shallow : goal.returns-in-Ok-Some-clause-shallow
-returns-in-Ok-Some-clause-shallow c =
-    let within = c.nests_within.ensures.0 c.if-not-nests_within.false in
-    within_most (view c.in-Ok.tree) c.in-Ok-Some.value c.args.depth (sym c.in-Ok-Some.field-0-is ∙ c.in-Ok-Some.ensures.is) within
+returns-in-Ok-Some-clause-shallow c = read_shallow c.args.depth c.args.bytes.now c.value_within.result (as_read c)

@@ -1,0 +1,48 @@
+-- What is found of data that are read, beside the data.
+use Rattle.std.specs.Prelude.{◌≡◌, ◌-◌, ◌^◌, ℕ, max, min, List, [], ◌∷◌, Option, Some, None, option_and_then, IfSome}
+use Rattle.std.specs.Borrow.{Bor}
+use Rattle.json.specs.Lex.{tokens}
+use Rattle.json.specs.Json.{Json, value, if_last}
+use Rattle.serde_json.specs.Data.{Data, Items, no_items, item, Members, no_members, member, depth}
+use Rattle.serde_json.specs.Read.{max_depth}
+use Rattle.swf_value.specs.Value.{IsValue}
+use Rattle.swf_value.specs.Read.{whole}
+use Rattle.swf_value.specs.declared.whole.Found.{Found}
+
+-- the JSON that a text is
+abbrev pub tree : List ℕ → Option Json
+tree text = option_and_then (λ p. if_last p.0 p.1) (value max_depth (tokens text))
+
+-- b stands for what there is, and nothing for nothing
+abbrev pub Finds : {A B : Type 0} → (A → B → Type 0) → Option A → Option B → Type 0
+Finds R o None = o ≡ None
+Finds {A} R o (Some b) = (a : A) × (o ≡ Some a) × R a b
+
+-- the value that the data are, and their depth as a `u32`
+pub record IsFound (d : Data) (f : Found) : Type 0 where
+  pub value_is : f.value ≡ whole d
+  pub depth_is : f.depth ≡ min (depth d) (2 ^ 32 - 1)
+  pub valid : IfSome f.value IsValue
+
+-- each item is found, in order
+abbrev pub AreFound : Items → List Found → Type 0
+AreFound no_items [] = Unit {0}
+AreFound no_items (f ∷ fs) = ⊥
+AreFound (item d ds) [] = ⊥
+AreFound (item d ds) (f ∷ fs) = IsFound d f × AreFound ds fs
+
+-- each member is found, in order and by its name
+abbrev pub MembersFound : Members → List (Bor (List ℕ) × Found) → Type 0
+MembersFound no_members [] = Unit {0}
+MembersFound no_members (e ∷ es) = ⊥
+MembersFound (member k d ms) [] = ⊥
+MembersFound (member k d ms) (e ∷ es) = (e.0.now ≡ k) × IsFound d e.1 × MembersFound ms es
+
+-- the greatest depth
+abbrev pub deepest_item : List Found → ℕ
+deepest_item [] = 0
+deepest_item (f ∷ fs) = max f.depth (deepest_item fs)
+
+abbrev pub deepest_member : List (Bor (List ℕ) × Found) → ℕ
+deepest_member [] = 0
+deepest_member (e ∷ es) = max e.1.depth (deepest_member es)
