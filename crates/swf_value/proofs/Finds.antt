@@ -1,32 +1,35 @@
 -- What is found of items and members, one after another.
-use Rattle.std.proofs.Common.{◌≡◌, sym, refl, subst, ℕ, List, [], ◌∷◌, ◌++◌, Some, None, Ordering, Less, Equal, Greater, nat_cmp, Bor, append_assoc, append-nil}
+use Rattle.std.proofs.Common.{◌≡◌, ◌∙◌, ap, sym, refl, subst, ℕ, option_map, List, [], ◌∷◌, ◌++◌, Option, Some, None, Ordering, Less, Equal, Greater, nat_cmp, Bor, append_assoc, append-nil}
 use Rattle.std.specs.BTreeMap.{insert_entry}
 use Rattle.std.specs.Cmp.Lexicographic.{slice_cmp}
 use Rattle.std.specs.Ordering.{match_ordering}
-use Rattle.json.specs.Json as text
+use Rattle.json.specs.Json.{parse_map}
+use Rattle.json.specs.Token.{Token}
 use Rattle.serde_json.specs.Data.{Data, Items, no_items, item, Members, no_members, member, put}
-use Rattle.serde_json.specs.Read.{of_json, of_items, of_members}
-use Rattle.swf_value.specs.Found.{IsFound, AreFound, MembersFound}
+use Rattle.swf_value.specs.Found.{Finds, FindsNext, IsFound, AreFound, MembersFound}
 use Rattle.swf_value.specs.declared.whole.Found.{Found}
 use Rattle.swf_value.proofs.Wholes.{Entry, key_cmp}
 
 -- ---- items
 
 -- `done` is found of the items before `rest`, and what is found of `rest` goes behind it
-pub record ItemsLeft (all rest : text.Items) (done : List Found) : Type 0 where
-  pub found : (ds : Items) (fs : List Found) → of_items rest ≡ Some ds → AreFound ds fs → (es : Items) × (of_items all ≡ Some es) × AreFound es (done ++ fs)
-  pub refused : of_items rest ≡ None → of_items all ≡ None
+pub record ItemsLeft (all rest : Option (Items × List Token)) (done : List Found) : Type 0 where
+  pub found : (ds : Items) (r : List Token) (fs : List Found) → rest ≡ Some (ds, r) → AreFound ds fs → (es : Items) × (all ≡ Some (es, r)) × AreFound es (done ++ fs)
+  pub refused : rest ≡ None → all ≡ None
 
-pub items_turn : (all : text.Items) (j : text.Json) (js : text.Items) (done : List Found) (d : Data) (f : Found) → of_json j ≡ Some d → IsFound d f → ItemsLeft all (text.item j js) done → ItemsLeft all js (done ++ f ∷ [])
-items_turn all j js done d f is h left = record {
-  found = λ ds fs e hs.
-      let next : of_items (text.item j js) ≡ Some (item d ds) = rw (is, e) refl in
-      subst (λ gs. (es : Items) × (of_items all ≡ Some es) × AreFound es gs) (sym (append_assoc done (f ∷ []) fs)) (left.found (item d ds) (f ∷ fs) next (h, hs));
-  refused = λ e. left.refused (rw (is, e) refl);
+pub items_start : (all : Option (Items × List Token)) (done : List Found) → done ≡ [] → ItemsLeft all all done
+items_start all done none = record { found = λ ds r fs e h. (ds, e, rw none h); refused = λ e. e }
+
+pub items_turn : (all rest left : Option (Items × List Token)) (done : List Found) (d : Data) (f : Found) → rest ≡ parse_map (item d) left → IsFound d f → ItemsLeft all rest done → ItemsLeft all left (done ++ f ∷ [])
+items_turn all rest left done d f is h so_far = record {
+  found = λ ds r fs e hs.
+      let next : rest ≡ Some (item d ds, r) = is ∙ ap (parse_map (item d)) e in
+      subst (λ gs. (es : Items) × (all ≡ Some (es, r)) × AreFound es gs) (sym (append_assoc done (f ∷ []) fs)) (so_far.found (item d ds) r (f ∷ fs) next (h, hs));
+  refused = λ e. so_far.refused (is ∙ ap (parse_map (item d)) e);
 }
 
-pub items_end : (all : text.Items) (done : List Found) → ItemsLeft all text.no_items done → (es : Items) × (of_items all ≡ Some es) × AreFound es done
-items_end all done left = subst (λ gs. (es : Items) × (of_items all ≡ Some es) × AreFound es gs) (append-nil done) (left.found no_items [] refl tt)
+pub items_end : (all rest : Option (Items × List Token)) (r : List Token) (done : List Found) → rest ≡ Some (no_items, r) → ItemsLeft all rest done → (es : Items) × (all ≡ Some (es, r)) × AreFound es done
+items_end all rest r done is so_far = subst (λ gs. (es : Items) × (all ≡ Some (es, r)) × AreFound es gs) (append-nil done) (so_far.found no_items r [] is tt)
 
 -- ---- members
 
@@ -45,5 +48,8 @@ found_insert k f d (member l c ms) (e ∷ es) is h =
     subst (λ n. MembersFound (match_ordering (slice_cmp nat_cmp k.now n) (member k.now d (member l c ms)) (member l d ms) (member l c (put k.now d ms))) (insert_entry key_cmp (e ∷ es) k f)) h.0
     (insert_at (key_cmp k e.0) k f d l c ms e es is h (found_insert k f d ms es is h.2))
 
-pub members_turn : (k : List ℕ) (j : text.Json) (js : text.Members) (d : Data) (ms : Members) → of_json j ≡ Some d → of_members (text.member k j js) ms ≡ of_members js (put k d ms)
-members_turn k j js d ms is = rw is refl
+-- ---- what stands next
+
+pub finds_next : {A B : Type 0} (R : A → B → Type 0) (o : Option A) (rest : List Token) (r : Option B) → Finds R o r → FindsNext R (option_map (λ a. (a, rest)) o) rest r
+finds_next R o rest None h = ap (option_map (λ a. (a, rest))) h
+finds_next R o rest (Some b) h = (h.0, ap (option_map (λ a. (a, rest))) h.1, h.2)

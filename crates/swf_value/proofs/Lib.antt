@@ -9,6 +9,7 @@ pub mod Escapes
 pub mod Wholes
 pub mod Deepest
 pub mod Finds
+pub mod Turns
 pub mod Depths
 pub mod Readings
 pub mod Data

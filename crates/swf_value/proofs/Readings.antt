@@ -1,13 +1,11 @@
 -- What reading answers, in each case.
-use Rattle.std.proofs.Common.{◌≡◌, ◌∙◌, ap, sym, refl, ℕ, ◌≤◌, List, Bool, true, false, Some, None, Option, option_and_then, Err, IsUtf8, le-ltb}
+use Rattle.std.proofs.Common.{◌≡◌, ◌∙◌, refl, ℕ, ◌≤◌, List, Bool, true, false, Some, None, Option, Err, IsUtf8, le-ltb}
 use Rattle.std.proofs.lemmas.Str.{IsUtf8-from_is_utf8, is_utf8-from_IsUtf8}
 use Rattle.std.specs.Str.{is_utf8}
 use Rattle.serde_json.specs.Data.{Data, depth}
-use Rattle.json.specs.Json.{Json}
-use Rattle.serde_json.specs.Read.{of_json, read}
+use Rattle.serde_json.specs.Read.{read}
 use Rattle.swf_value.specs.Value.{Value}
 use Rattle.swf_value.specs.Read.{whole, whole_or_fault, value_or_fault, read_within}
-use Rattle.swf_value.specs.Found.{tree}
 use Rattle.swf_value.specs.declared.fault.ValueFault.TheVariants.{NotJson}
 
 not_json_by : (most : ℕ) (bytes : List ℕ) (b : Bool) → is_utf8 bytes ≡ b → (IsUtf8 bytes → read bytes ≡ None) → read_within most bytes ≡ Err NotJson
@@ -17,12 +15,8 @@ not_json_by most bytes false e refused = rw e refl
 pub not_json : (most : ℕ) (bytes : List ℕ) → (IsUtf8 bytes → read bytes ≡ None) → read_within most bytes ≡ Err NotJson
 not_json most bytes refused = not_json_by most bytes _ refl refused
 
-read_is : (most : ℕ) (bytes : List ℕ) (d : Data) → IsUtf8 bytes × (read bytes ≡ Some d) → read_within most bytes ≡ value_or_fault most (Some d)
+pub read_is : (most : ℕ) (bytes : List ℕ) (d : Data) → IsUtf8 bytes × (read bytes ≡ Some d) → read_within most bytes ≡ value_or_fault most (Some d)
 read_is most bytes d h = rw (is_utf8-from_IsUtf8 bytes h.0, h.1) refl
 
 pub shallow : (most : ℕ) (bytes : List ℕ) (d : Data) (o : Option Value) → IsUtf8 bytes × (read bytes ≡ Some d) → depth d ≤ most → o ≡ whole d → read_within most bytes ≡ whole_or_fault o
 shallow most bytes d o h within e = read_is most bytes d h ∙ rw (le-ltb most (depth d) within, e) refl
-
--- the same over the tree that was read
-pub read_found : (most : ℕ) (bytes text : List ℕ) (j : Json) (d : Data) → (text ≡ bytes) × IsUtf8 bytes → tree text ≡ Some j → of_json j ≡ Some d → read_within most bytes ≡ value_or_fault most (Some d)
-read_found most bytes text j d h is e = read_is most bytes d (h.1, ap (λ t. option_and_then of_json (tree t)) (sym h.0) ∙ ap (option_and_then of_json) is ∙ e)

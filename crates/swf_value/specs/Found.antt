@@ -1,22 +1,21 @@
 -- What is found of data that are read, beside the data.
-use Rattle.std.specs.Prelude.{◌≡◌, ◌-◌, ◌^◌, ℕ, max, min, List, [], ◌∷◌, Option, Some, None, option_and_then, IfSome}
+use Rattle.std.specs.Prelude.{◌≡◌, ◌-◌, ◌^◌, ℕ, max, min, List, [], ◌∷◌, Option, Some, None, IfSome}
 use Rattle.std.specs.Borrow.{Bor}
-use Rattle.json.specs.Lex.{tokens}
-use Rattle.json.specs.Json.{Json, value, if_last}
+use Rattle.json.specs.Token.{Token}
 use Rattle.serde_json.specs.Data.{Data, Items, no_items, item, Members, no_members, member, depth}
-use Rattle.serde_json.specs.Read.{max_depth}
 use Rattle.swf_value.specs.Value.{IsValue}
 use Rattle.swf_value.specs.Read.{whole}
 use Rattle.swf_value.specs.declared.whole.Found.{Found}
-
--- the JSON that a text is
-abbrev pub tree : List ℕ → Option Json
-tree text = option_and_then (λ p. if_last p.0 p.1) (value max_depth (tokens text))
 
 -- b stands for what there is, and nothing for nothing
 abbrev pub Finds : {A B : Type 0} → (A → B → Type 0) → Option A → Option B → Type 0
 Finds R o None = o ≡ None
 Finds {A} R o (Some b) = (a : A) × (o ≡ Some a) × R a b
+
+-- the same, where `rest` is what is left to read
+abbrev pub FindsNext : {A B : Type 0} → (A → B → Type 0) → Option (A × List Token) → List Token → Option B → Type 0
+FindsNext R o rest None = o ≡ None
+FindsNext {A} R o rest (Some b) = (a : A) × (o ≡ Some (a, rest)) × R a b
 
 -- the value that the data are, and their depth as a `u32`
 pub record IsFound (d : Data) (f : Found) : Type 0 where

@@ -2,13 +2,13 @@
 #![tactic(auto)]
 
 mod fault;
+mod find;
 mod list;
 mod map;
 mod measure;
 mod number;
 mod order;
 mod read;
-mod tree;
 mod value;
 mod whole;
 mod words;
