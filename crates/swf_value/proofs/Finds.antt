@@ -1,12 +1,12 @@
 -- What is found of items and members, one after another.
-use Rattle.std.proofs.Common.{◌≡◌, ◌∙◌, ap, sym, refl, subst, ℕ, option_map, List, [], ◌∷◌, ◌++◌, Option, Some, None, Ordering, Less, Equal, Greater, nat_cmp, Bor, append_assoc, append-nil}
+use Rattle.std.proofs.Common.{◌≡◌, ◌∙◌, ap, sym, refl, subst, ℕ, List, [], ◌∷◌, ◌++◌, Option, Some, None, Ordering, Less, Equal, Greater, nat_cmp, Bor, append_assoc, append-nil}
 use Rattle.std.specs.BTreeMap.{insert_entry}
 use Rattle.std.specs.Cmp.Lexicographic.{slice_cmp}
 use Rattle.std.specs.Ordering.{match_ordering}
 use Rattle.json.specs.Json.{parse_map}
 use Rattle.json.specs.Token.{Token}
 use Rattle.serde_json.specs.Data.{Data, Items, no_items, item, Members, no_members, member, put}
-use Rattle.swf_value.specs.Found.{Finds, FindsNext, IsFound, AreFound, MembersFound}
+use Rattle.swf_value.specs.Found.{IsFound, AreFound, MembersFound}
 use Rattle.swf_value.specs.declared.whole.Found.{Found}
 use Rattle.swf_value.proofs.Wholes.{Entry, key_cmp}
 
@@ -47,9 +47,3 @@ found_insert k f d (member l c ms) [] is h = absurd h
 found_insert k f d (member l c ms) (e ∷ es) is h =
     subst (λ n. MembersFound (match_ordering (slice_cmp nat_cmp k.now n) (member k.now d (member l c ms)) (member l d ms) (member l c (put k.now d ms))) (insert_entry key_cmp (e ∷ es) k f)) h.0
     (insert_at (key_cmp k e.0) k f d l c ms e es is h (found_insert k f d ms es is h.2))
-
--- ---- what stands next
-
-pub finds_next : {A B : Type 0} (R : A → B → Type 0) (o : Option A) (rest : List Token) (r : Option B) → Finds R o r → FindsNext R (option_map (λ a. (a, rest)) o) rest r
-finds_next R o rest None h = ap (option_map (λ a. (a, rest))) h
-finds_next R o rest (Some b) h = (h.0, ap (option_map (λ a. (a, rest))) h.1, h.2)

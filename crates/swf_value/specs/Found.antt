@@ -1,10 +1,10 @@
 -- What is found of data that are read, beside the data.
-use Rattle.std.specs.Prelude.{◌≡◌, ◌-◌, ◌^◌, ℕ, max, min, List, [], ◌∷◌, Option, Some, None, IfSome}
+use Rattle.std.specs.Prelude.{◌≡◌, ◌-◌, ◌^◌, ℕ, ℤ, max, min, option_map, List, [], ◌∷◌, Option, Some, None, IfSome}
 use Rattle.std.specs.Borrow.{Bor}
 use Rattle.json.specs.Token.{Token}
-use Rattle.serde_json.specs.Data.{Data, Items, no_items, item, Members, no_members, member, depth}
-use Rattle.swf_value.specs.Value.{IsValue}
-use Rattle.swf_value.specs.Read.{whole}
+use Rattle.serde_json.specs.Data.{Num, Data, Items, no_items, item, Members, no_members, member, depth}
+use Rattle.swf_value.specs.Value.{int, InRange, IsValue}
+use Rattle.swf_value.specs.Read.{whole, whole_number}
 use Rattle.swf_value.specs.declared.whole.Found.{Found}
 
 -- b stands for what there is, and nothing for nothing
@@ -16,6 +16,10 @@ Finds {A} R o (Some b) = (a : A) × (o ≡ Some a) × R a b
 abbrev pub FindsNext : {A B : Type 0} → (A → B → Type 0) → Option (A × List Token) → List Token → Option B → Type 0
 FindsNext R o rest None = o ≡ None
 FindsNext {A} R o rest (Some b) = (a : A) × (o ≡ Some (a, rest)) × R a b
+
+-- the whole number in range that n is, where it is one
+abbrev pub IsInt : Num → Option ℤ → Type 0
+IsInt n o = (option_map int o ≡ whole_number n) × IfSome o InRange
 
 -- the value that the data are, and their depth as a `u32`
 pub record IsFound (d : Data) (f : Found) : Type 0 where

@@ -5,9 +5,9 @@ ghost use Rattle.json.specs.Token.{begin_array, begin_object};
 ghost use Rattle.serde_json.specs.Read.{of_json, converted, read as read_text};
 ghost use Rattle.swf_value.specs.Found.{Finds, FindsNext, IsFound};
 
-use crate::number::found_number;
+use crate::number::number;
 use crate::value::Json;
-use crate::whole::{Found, found_list, found_object, found_text};
+use crate::whole::{Found, found_list, found_number, found_object, found_text};
 use json::{Reader, Scratch, Token};
 use std::alloc::{AllocError, Global};
 use std::collections::BTreeMap;
@@ -54,7 +54,10 @@ fn find_next(
             value: Some(Json::boolean(value)),
             depth: 0,
         })),
-        Token::Number(text) => Ok(found_number(text)),
+        Token::Number(text) => match number(text) {
+            Some(value) => Ok(Some(found_number(value))),
+            None => Ok(None),
+        },
         Token::String(text) => Ok(Some(found_text(alloc, text)?)),
         Token::BeginArray => find_list(alloc, reader, depth),
         Token::BeginObject => find_object(alloc, reader, depth),

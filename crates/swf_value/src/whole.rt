@@ -1,9 +1,9 @@
 // What is found of JSON that is read: the value that it is, where it is one, and how deep it nests.
 ghost use Rattle.std.specs.Prelude.{◌≡◌, IfOk, IfSome, option_map, chars, IsUtf8};
 ghost use Rattle.serde_json.specs.Data as json_data;
-ghost use Rattle.swf_value.specs.Value.{IsValue, list, object};
+ghost use Rattle.swf_value.specs.Value.{InRange, IsValue, list, object};
 ghost use Rattle.swf_value.specs.Read.{whole_items, whole_members};
-ghost use Rattle.swf_value.specs.Found.{IsFound, AreFound, MembersFound, deepest_item, deepest_member};
+ghost use Rattle.swf_value.specs.Found.{IsInt, IsFound, AreFound, MembersFound, deepest_item, deepest_member};
 
 use crate::value::{Json, Member};
 use std::alloc::{AllocError, Global};
@@ -40,6 +40,23 @@ pub(crate) fn found_object(
     let depth = depth_of_members(&members).saturating_add(1);
     let value = whole_object(alloc, members)?;
     Ok(Found { value, depth })
+}
+
+/// What is found of a number, from the whole number in range that it is, where it is one.
+pub(crate) fn found_number(value: Option<i64>) -> Found
+    requires { IfSome value InRange }
+    ensures { (n : json_data.Num) → IsInt n value → IsFound (json_data.number n) result }
+{
+    match value {
+        Some(value) => Found {
+            value: Some(Json::int(value)),
+            depth: 0,
+        },
+        None => Found {
+            value: None,
+            depth: 0,
+        },
+    }
 }
 
 /// What is found of a text.

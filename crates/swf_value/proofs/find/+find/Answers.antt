@@ -4,9 +4,9 @@ use Rattle.json.specs.Json.{parse_map, after_end_array, read_key, items, value}
 use Rattle.json.specs.Reads.{token_of}
 use Rattle.json.proofs.Grammar.{value_is, read_key-shorter}
 use Rattle.serde_json.specs.Data.{null, boolean, number, string, array, object, no_members, put}
-use Rattle.serde_json.specs.Read.{number_of, of_json, of_items, converted}
-use Rattle.swf_value.specs.Found.{FindsNext, IsFound, MembersFound}
-use Rattle.swf_value.proofs.Finds.{ItemsLeft, items_turn, items_end, found_insert, finds_next}
+use Rattle.serde_json.specs.Read.{of_json, of_items, converted}
+use Rattle.swf_value.specs.Found.{MembersFound}
+use Rattle.swf_value.proofs.Finds.{ItemsLeft, items_turn, items_end, found_insert}
 use Rattle.swf_value.proofs.Turns.{array_read, object_read, item_read, item_refused, items_over, member_read, member_refused, key_refused, members_over}
 use Rattle.swf_value.proofs.find.+find.Goals as goal
 
@@ -35,13 +35,23 @@ find_next-returns-in-Bool-clause-found t c =
       record { value_is = ap Some c.boolean.ensures; depth_is = refl; valid = search rules },
     )
 
-pub find_next-returns-in-Number-clause-found : goal.find_next-returns-in-Number-clause-found
-find_next-returns-in-Number-clause-found t c =
+pub find_next-returns-in-Some-number-clause-found : goal.find_next-returns-in-Some-number-clause-found
+find_next-returns-in-Some-number-clause-found t c =
     let rest = c.next.new.self in
     let s = c.in-Number.text.now in
     let is : c.args.reader.now ≡ Token.number s ∷ rest = c.in-Some.ensures.value ∙ ap (λ k. token_of k ∷ rest) c.in-Number.is in
-    let read : converted of_json (value c.args.depth c.args.reader.now) ≡ option_map (λ d. (d, rest)) (option_map number (number_of s)) = ap (converted of_json) (ap (value c.args.depth) is ∙ value_is c.args.depth _) in
-    subst (λ o. FindsNext IsFound o rest c.found_number.result) (sym read) (finds_next IsFound (option_map number (number_of s)) rest c.found_number.result c.found_number.ensures)
+    let found = c.in-Some-number.ensures in (
+      number found.0,
+      ap (converted of_json) (ap (value c.args.depth) is ∙ value_is c.args.depth _) ∙ ap (λ o. option_map (λ d. (d, rest)) (option_map number o)) found.1,
+      c.found_number.ensures found.0 found.2,
+    )
+
+pub find_next-returns-in-None-clause-found : goal.find_next-returns-in-None-clause-found
+find_next-returns-in-None-clause-found t c =
+    let rest = c.next.new.self in
+    let s = c.in-Number.text.now in
+    let is : c.args.reader.now ≡ Token.number s ∷ rest = c.in-Some.ensures.value ∙ ap (λ k. token_of k ∷ rest) c.in-Number.is in
+    ap (converted of_json) (ap (value c.args.depth) is ∙ value_is c.args.depth _) ∙ ap (λ o. option_map (λ d. (d, rest)) (option_map number o)) c.in-None.ensures
 
 pub find_next-returns-in_ok-found_text-in-String-clause-found : goal.find_next-returns-in_ok-found_text-in-String-clause-found
 find_next-returns-in_ok-found_text-in-String-clause-found t c =

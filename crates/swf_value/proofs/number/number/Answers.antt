@@ -1,9 +1,8 @@
-use Rattle.std.proofs.Common.{◌≡◌, ◌∙◌, drop, get_or, true, false, ◌==◌, option_map, sym, ap, subst, arith, take_all, length-drop}
+use Rattle.std.proofs.Common.{◌≡◌, ◌∙◌, drop, get_or, true, false, ◌==◌, sym, ap, subst, arith, take_all, length-drop}
 use Rattle.fast_float.specs.Text.{scan}
-use Rattle.serde_json.specs.Data.{number}
 use Rattle.serde_json.specs.Read.{number_of, number_from}
-use Rattle.swf_value.specs.Found.{Finds, IsFound}
-use Rattle.swf_value.proofs.number.found_number.Goals as goal
+use Rattle.swf_value.specs.Found.{Finds, IsInt}
+use Rattle.swf_value.proofs.number.number.Goals as goal
 
 pub returns-then-has_minus : goal.returns-then-has_minus
 unfolding number_of
@@ -13,7 +12,7 @@ returns-then-has_minus c =
     let parts : c.scan.result ≡ scan (drop 1 s) = c.scan.ensures.parts ∙ ap scan (take_all _ (drop 1 s) (omega (arith, length-drop 1 s))) in
     let read : number_from true (scan (drop 1 s)) ≡ number_of s = rw signed in
     let same : number_from true c.scan.result ≡ number_of c.args.text.now = ap (number_from true) parts ∙ read ∙ ap number_of c.as_bytes-bytes.ensures.value in
-    subst (λ n. Finds IsFound (option_map number n) c.found_negative.result) same c.found_negative.ensures
+    subst (λ n. Finds IsInt n c.negative.result) same c.negative.ensures
 
 pub returns-else-has_minus : goal.returns-else-has_minus
 unfolding number_of
@@ -22,4 +21,4 @@ returns-else-has_minus c =
     let unsigned : (get_or s 0 0 == 45) ≡ false = sym c.if-has_minus.ensures.value in
     let read : number_from false (scan s) ≡ number_of s = rw unsigned in
     let same : number_from false c.scan-else-has_minus.result ≡ number_of c.args.text.now = ap (number_from false) c.scan-else-has_minus.ensures.parts ∙ read ∙ ap number_of c.as_bytes-bytes.ensures.value in
-    subst (λ n. Finds IsFound (option_map number n) c.found_positive.result) same c.found_positive.ensures
+    subst (λ n. Finds IsInt n c.positive.result) same c.positive.ensures
