@@ -35,9 +35,9 @@ is_workflow t = is_nowhere (place_of t)
 abbrev pub epoch : ℕ → Value
 epoch n = object (member (codes "epoch") (object (member (codes "milliseconds") (int (pos n)) no_members)) no_members)
 
--- `$workflow`
-abbrev pub workflow_value : Sight → Value
-workflow_value s = object (member (codes "id") (text s.id) (member (codes "input") s.input (member (codes "startedAt") (epoch s.started) no_members)))
+-- `$workflow`, of an instance of that id, which started then on that input
+abbrev pub workflow_value : List ℕ → ℕ → Value → Value
+workflow_value id started input = object (member (codes "id") (text id) (member (codes "input") input (member (codes "startedAt") (epoch started) no_members)))
 
 -- the name of a task is the last part of its place
 abbrev pub last_part : List (List ℕ) → List ℕ
@@ -50,7 +50,7 @@ abbrev pub task_value : Task → Value → Value
 task_value t v = object (member (codes "input") v (member (codes "name") (text (last_part (place_of t))) (member (codes "reference") (text (pointer (place_of t))) no_members)))
 
 abbrev pub of_workflow : Sight → List Variable
-of_workflow s = variable (codes "workflow") (workflow_value s) ∷ []
+of_workflow s = variable (codes "workflow") (workflow_value s.id s.started s.input) ∷ []
 
 abbrev pub with_context : Sight → List Variable
 with_context s = of_workflow s ++ variable (codes "context") s.context ∷ []

@@ -1,6 +1,5 @@
 pub mod Words
 pub mod Source
-pub mod Told
 pub mod TaskRef
 pub mod Stack
 pub mod Halts

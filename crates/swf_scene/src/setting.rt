@@ -2,8 +2,7 @@
 ghost use Rattle.std.specs.Prelude.{◌≡◌, IfOk};
 ghost use Rattle.std.specs.Coded.{Coded-set};
 ghost use Rattle.swf_value.specs.ValueCode.{value_code};
-ghost use Rattle.swf_meaning.specs.Sight.{epoch};
-ghost use Rattle.swf_scene.specs.Told.{workflow_of};
+ghost use Rattle.swf_meaning.specs.Sight.{epoch, workflow_value};
 
 use crate::shared::SharedDocument;
 use crate::site::Site;
@@ -24,7 +23,7 @@ pub struct Setting {
     pub workflow: Json,
     pub context: Json,
     pub number: u64,
-    ghost told: { workflow ≡ workflow_of id started input } by { Coded-set value_code workflow (workflow_of id started input) },
+    ghost told: { workflow ≡ workflow_value id started input } by { Coded-set value_code workflow (workflow_value id started input) },
 }
 
 impl Setting {
@@ -100,7 +99,7 @@ fn workflow_value(
     started: Moment,
     input: &Json,
 ) -> Result<Json, AllocError>
-    ensures { IfOk result (λ v. v ≡ workflow_of id.now started input.now) }
+    ensures { IfOk result (λ v. v ≡ workflow_value id.now started input.now) }
 {
     let mut members = Vec::with_capacity(alloc, 3)?;
     members.push(named(words.id(), Json::text(id.copy()?))?)?;
