@@ -33,10 +33,6 @@ turn-begun s t v u w c r f x h k e =
     the_step : Node → Value → Stepped
     the_step n d = record { node = n; context = d; emitted = None }
 
--- the round of the task in its round
-pub round-begun : (t : Task) (v u : Value) (r : Round) (f : Frame) (n : Node) → plug (f ∷ []) n ≡ Live t v u (At r 0 n) → round_of f.round ≡ r
-round-begun t v u r f n h = cc
-
 -- a `while` that is asked
 abbrev asks : Sight → Task → Value → Value → Round → Value → Got Value → Stepped
 asks s t v u r w g = with_got s t g (λ b. if is_true b then turn_begins s t v u r w else complete s t v u w)

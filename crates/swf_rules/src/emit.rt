@@ -9,9 +9,9 @@ ghost use Rattle.swf_meaning.specs.Node.{Fault};
 
 use crate::completion::complete;
 use std::alloc::{AllocError, Global};
-use swf_cloudevents::{Event, EventFault, read_event};
+use swf_cloudevents::{EventFault, read_event};
 use swf_document::{ErrorKind, Problem, Template};
-use swf_scene::{Halt, Made, Scene, TaskRef, Top, fails, value_of, within};
+use swf_scene::{Halt, Made, Scene, SentEvent, TaskRef, Top, fails, value_of, within};
 use swf_text::{Text, TextBuilder, word};
 use swf_transform::fill;
 use swf_value::{Json, JsonNode};
@@ -57,7 +57,7 @@ fn sending(
     task: &TaskRef,
     raw: &Json,
     input: &Json,
-    event: Event,
+    event: SentEvent,
 ) -> Result<Made, Halt>
     ensures { Gives (sight_of scene.entry.now) (sending event (complete (sight_of scene.entry.now) task.now raw.now input.now input.now)) result }
 {
@@ -95,7 +95,7 @@ fn faulted(scene: &Scene, problem: Problem) -> Result<Made, AllocError>
 }
 
 // With the event that goes out.
-fn with_event(made: Made, event: Event) -> Made
+fn with_event(made: Made, event: SentEvent) -> Made
     ensures { stepped_of result ≡ sending event (stepped_of made) }
 {
     Made {
@@ -118,7 +118,14 @@ fn emits(
     ensures { Gives (sight_of scene.entry.now) (emits (sight_of scene.entry.now) task.now raw.now input.now (event_of value.now)) result }
 {
     match read_event(alloc, value) {
-        Ok(event) => sending(alloc, scene, task, raw, input, event),
+        Ok(event) => sending(
+            alloc,
+            scene,
+            task,
+            raw,
+            input,
+            SentEvent::new(alloc, event)?,
+        ),
         Err(EventFault::Bad { .. }) => Err(fails(alloc, task, ErrorKind::Validation, "bad event")),
         Err(EventFault::OutOfMemory) => Err(Halt::OutOfMemory),
     }

@@ -12,7 +12,9 @@ use crate::completion::complete;
 use std::alloc::{AllocError, Global};
 use swf_document::Flow;
 use swf_jq_builtins::is_true;
-use swf_scene::{Frame, Halt, Made, Round, Scene, TaskRef, Top, Turn, value_of, within};
+use swf_scene::{
+    Frame, Halt, Made, Round, Scene, SharedFrame, TaskRef, Top, Turn, value_of, within,
+};
 use swf_transform::first;
 use swf_value::{Json, JsonList};
 
@@ -42,6 +44,7 @@ pub fn comes_to(
         round,
         place,
     };
+    let frame = SharedFrame::new(alloc, frame)?;
     Ok(Made {
         frame: Some(frame),
         top: Top::Fresh {
@@ -109,7 +112,7 @@ fn turn_guarded(
     ensures { Gives (sight_of scene.entry.now) (turn_guarded (sight_of scene.entry.now) task.now raw.now input.now (round_of round) value (guard_in (kind_of task.now))) result }
 {
     let Some(condition) = task.guard() else {
-        return turn_begins(scene, task, raw, input, round, value);
+        return turn_begins(alloc, scene, task, raw, input, round, value);
     };
     let vars = within(alloc, &scene.seen(alloc, task, &round)?, task, raw, input)?;
     let goes_on = value_of(alloc, task, first(alloc, condition, &vars, &value)?)?;
@@ -139,7 +142,7 @@ fn turn_decided(
     ensures { Gives (sight_of scene.entry.now) (if goes_on then turn_begins (sight_of scene.entry.now) task.now raw.now input.now (round_of round) value else complete (sight_of scene.entry.now) task.now raw.now input.now value) result }
 {
     if goes_on {
-        turn_begins(scene, task, raw, input, round, value)
+        turn_begins(alloc, scene, task, raw, input, round, value)
     } else {
         complete(alloc, scene, task, raw, input, value)
     }
@@ -147,6 +150,7 @@ fn turn_decided(
 
 // A turn begins with the first task of the list.
 fn turn_begins(
+    alloc: Global,
     scene: &Scene,
     task: &TaskRef,
     raw: &Json,
@@ -157,13 +161,13 @@ fn turn_begins(
     ensures { Gives (sight_of scene.entry.now) (turn_begins (sight_of scene.entry.now) task.now raw.now input.now (round_of round) value) result }
 {
     let context = scene.context.copy()?;
-    let frame = in_round(task, raw, input, round)?;
-    let top = begins_with(task, &frame.round, value)?;
+    let top = begins_with(task, &round, value)?;
+    let frame = in_round(alloc, task, raw, input, round)?;
     Ok(running(frame, top, context))
 }
 
 // A task that runs, with what stands in it.
-fn running(frame: Frame, top: Top, context: Json) -> Made
+fn running(frame: SharedFrame, top: Top, context: Json) -> Made
     ensures { result ≡ record { frame = Some frame; top = top; context = context; emitted = None } }
 {
     Made {
@@ -175,16 +179,23 @@ fn running(frame: Frame, top: Top, context: Json) -> Made
 }
 
 // The task as it runs in a round, at the first place of its list.
-fn in_round(task: &TaskRef, raw: &Json, input: &Json, round: Round) -> Result<Frame, AllocError>
+fn in_round(
+    alloc: Global,
+    task: &TaskRef,
+    raw: &Json,
+    input: &Json,
+    round: Round,
+) -> Result<SharedFrame, AllocError>
     ensures { IfOk result (λ f. (n : Node) → plug (f ∷ []) n ≡ Live task.now raw.now input.now (At (round_of round) 0 n)) }
 {
-    Ok(Frame {
+    let frame = Frame {
         task: task.copy()?,
         raw: raw.copy()?,
         input: input.copy()?,
         round,
         place: 0,
-    })
+    };
+    SharedFrame::new(alloc, frame)
 }
 
 // The first task of the list begins with a value; a list without tasks gives that value.

@@ -1,10 +1,11 @@
 // What an instance is made of, as a stack of the tasks that run inside each other.
 ghost use Rattle.std.specs.Prelude.{◌≡◌, ◌<◌, ◌-◌, ◌^◌, IfOk};
 
+use crate::sent::SentEvent;
 use crate::shared_frame::SharedFrame;
 use crate::task::TaskRef;
 use std::alloc::{AllocError, Global};
-use swf_cloudevents::{Event, NamedValues};
+use swf_cloudevents::NamedValues;
 use swf_document::{Flow, Listing, Problem};
 use swf_frames::CopyFrame;
 use swf_meaning::Heard;
@@ -88,10 +89,10 @@ pub enum Layer {
 /// that goes out, where one does.
 #[derive(Drop)]
 pub struct Made {
-    pub frame: Option<Frame>,
+    pub frame: Option<SharedFrame>,
     pub top: Top,
     pub context: Json,
-    pub emitted: Option<Event>,
+    pub emitted: Option<SentEvent>,
 }
 
 impl Round {

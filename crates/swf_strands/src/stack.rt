@@ -72,14 +72,14 @@ pub fn innermost(around: &[Layer]) -> (&Frame, &[Layer])
 pub fn layers_of(
     alloc: Global,
     around: &[Layer],
-    frame: Option<Frame>,
+    frame: Option<SharedFrame>,
     top: Top,
 ) -> Result<Vec<Layer>, AllocError>
     ensures { IfOk result (λ layers. (os : List TheFrame) → around.now ≡ running os → layers.items ≡ stacked (os ++ option_to_list frame) top) }
 {
     let mut layers = copy_layers(alloc, around)?;
     if let Some(frame) = frame {
-        layers.push(Layer::Running(SharedFrame::new(alloc, frame)?))?;
+        layers.push(Layer::Running(frame))?;
     }
     layers.push(Layer::Top(top))?;
     Ok(layers)

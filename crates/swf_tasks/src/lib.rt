@@ -1,6 +1,7 @@
 //! One instance at work: its strands, which take one step after another.
 #![tactic(auto)]
 
+mod boxed;
 mod enter;
 mod hear;
 mod machine;
@@ -8,6 +9,7 @@ mod offer;
 mod step;
 mod view;
 
+pub use boxed::BoxedMachine;
 pub use machine::{Machine, Part, Prepared, Step, StepFault, StepResult};
-pub use swf_scene::{Site, Words};
+pub use swf_scene::{SentEvent, Site, Words};
 pub use view::{InstanceView, Node};

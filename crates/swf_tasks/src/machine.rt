@@ -21,6 +21,7 @@ ghost use Rattle.swf_tasks.specs.Taken.{taken, emitted_of};
 ghost use Rattle.swf_tasks.specs.Views.{IsViewOf};
 ghost use Rattle.swf_strands.specs.Ways.{until_at, listens_at};
 
+use crate::boxed::BoxedMachine;
 use crate::offer::{hears_in, offer_in};
 use crate::step::{Change, step_of};
 use crate::view::{InstanceView, Node};
@@ -31,7 +32,8 @@ use swf_document::Problem;
 use swf_duration::Moment;
 use swf_frames::Forest;
 use swf_scene::{
-    Frame, Layer, Round, Scene, Setting, SharedDocument, Site, TaskRef, Top, Work, is_heard,
+    Frame, Layer, Round, Scene, SentEvent, Setting, SharedDocument, Site, TaskRef, Top, Work,
+    is_heard,
 };
 use swf_strands::{
     Question, Standing, branches_of, forked, holds_here, holds_in, lead_in, lead_on, list_strands,
@@ -57,7 +59,7 @@ pub struct Machine {
 #[derive(Drop)]
 pub enum Step {
     /// It is this one.
-    Whole(Machine),
+    Whole(BoxedMachine),
     /// This part of it is put anew.
     Part(Part),
 }
@@ -79,7 +81,7 @@ pub struct Part {
 pub struct Prepared {
     pub step: Step,
     /// The event that goes out, where one does.
-    pub emitted: Option<Event>,
+    pub emitted: Option<SentEvent>,
     /// The moment, in milliseconds, that it begins to wait for, where it does.
     pub until: Option<u64>,
 }
@@ -263,7 +265,7 @@ impl Machine {
         ensures { self.new ≡ applied step self.old }
     {
         match step {
-            Step::Whole(machine) => *self = machine,
+            Step::Whole(machine) => *self = machine.into_machine(),
             Step::Part(part) => self.take_part(part),
         }
     }
@@ -333,7 +335,8 @@ impl Machine {
         } = part;
         let changed = &strand.as_slice()[..depth];
         let forest = forked(alloc, &self.forest, changed, layers, branches)?;
-        Ok(Step::Whole(self.with(forest, strand, context, number)?))
+        let machine = self.with(forest, strand, context, number)?;
+        Ok(Step::Whole(BoxedMachine::new(alloc, machine)?))
     }
 
     // The instance with other strands, after that one took a step.
@@ -372,7 +375,7 @@ impl Machine {
         self.take(step);
         match emitted {
             None => Ok(StepResult::Quiet),
-            Some(event) => Ok(StepResult::Emitted(event)),
+            Some(event) => Ok(StepResult::Emitted(event.into_event())),
         }
     }
 
@@ -487,7 +490,7 @@ impl Machine {
 }
 
 // The number of the next event, where this one goes out. There is none behind the greatest.
-fn number_after(number: u64, emitted: &Option<Event>) -> Result<u64, AllocError>
+fn number_after(number: u64, emitted: &Option<SentEvent>) -> Result<u64, AllocError>
     ensures { IfOk result (λ n. n ≡ number_after number emitted.now) }
 {
     match emitted {

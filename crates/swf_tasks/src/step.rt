@@ -18,10 +18,9 @@ ghost use Rattle.swf_strands.specs.Strands.{IsHeld, node_of, nodes_of};
 use crate::enter::enter;
 use crate::hear::listened;
 use std::alloc::{AllocError, Global};
-use swf_cloudevents::Event;
 use swf_frames::{Forest, StrandId};
 use swf_rules::{failed, moved_on, settled, woken};
-use swf_scene::{Halt, Layer, Made, Scene, Top};
+use swf_scene::{Halt, Layer, Made, Scene, SentEvent, Top};
 use swf_strands::{Standing, child_of, innermost, layers_of, stack_of};
 use swf_value::Json;
 
@@ -32,7 +31,7 @@ pub struct Change {
     pub depth: usize,
     pub layers: Vec<Layer>,
     pub context: Json,
-    pub emitted: Option<Event>,
+    pub emitted: Option<SentEvent>,
 }
 
 /// The step of the strand that these branch numbers lead to from this one.
@@ -197,44 +196,34 @@ fn next_of(alloc: Global, scene: Scene, around: &[Layer], top: &Top) -> Result<M
     requires { (fs : List TheFrame) × ((around.now ≡ running fs) × (can_go scene.now [] (plug fs (top_node top.now)) ≡ true)) }
     ensures { IfOk result (λ m. (fs : List TheFrame) → around.now ≡ running fs → IsStep (sight_of scene.entry) fs top.now (stepped_of m)) }
 {
-    match top {
-        Top::Fresh { task, raw } => {
-            let scene = scene.inside(alloc, around)?;
-            made_of(&scene, enter(alloc, &scene, task, raw))
-        }
+    let scene = scene.inside(alloc, outer_of(around, top))?;
+    let given = match top {
+        Top::Fresh { task, raw } => enter(alloc, &scene, task, raw),
         Top::Waiting {
             task,
             raw,
             input,
             retries,
             ..
-        } => {
-            let scene = scene.inside(alloc, around)?;
-            made_of(&scene, woken(alloc, &scene, task, raw, input, *retries))
-        }
+        } => woken(alloc, &scene, task, raw, input, *retries),
         Top::Hearing {
             task,
             raw,
             input,
             heard,
             ..
-        } => {
-            let scene = scene.inside(alloc, around)?;
-            let heard = heard.as_slice();
-            made_of(&scene, listened(alloc, &scene, task, raw, input, heard))
-        }
+        } => listened(alloc, &scene, task, raw, input, heard.as_slice()),
         Top::Forked { .. } => unreachable!(),
         Top::Done { output, flow } => {
-            let (frame, outer) = innermost(around);
-            let scene = scene.inside(alloc, outer)?;
-            made_of(&scene, moved_on(alloc, &scene, frame, output, flow))
+            let (frame, _) = innermost(around);
+            moved_on(alloc, &scene, frame, output, flow)
         }
         Top::Fault(problem) => {
-            let (frame, outer) = innermost(around);
-            let scene = scene.inside(alloc, outer)?;
-            made_of(&scene, failed(alloc, &scene, frame, problem))
+            let (frame, _) = innermost(around);
+            failed(alloc, &scene, frame, problem)
         }
-    }
+    };
+    made_of(&scene, given)
 }
 
 // What a rule gives, an error included.

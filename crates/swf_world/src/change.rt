@@ -23,7 +23,7 @@ use swf_cloudevents::Event;
 use swf_document::DocKey;
 use swf_duration::Moment;
 use swf_meaning::Key;
-use swf_tasks::{Machine, Step};
+use swf_tasks::{BoxedMachine, Machine, SentEvent, Step};
 use swf_text::Text;
 use swf_turns::{Timers, Turns};
 
@@ -47,7 +47,7 @@ pub enum ChangeKind {
     Start {
         id: Text,
         used: Key,
-        instance: Machine,
+        instance: BoxedMachine,
     },
     /// Those that took the event.
     Event {
@@ -62,7 +62,7 @@ pub enum ChangeKind {
         number: usize,
         step: Step,
         until: Option<u64>,
-        emitted: Option<Event>,
+        emitted: Option<SentEvent>,
         heard: Vec<Hearing>,
     },
 }
@@ -113,12 +113,12 @@ impl World {
         self.count += 1;
     }
 
-    fn install_start(&mut self, id: Text, used: Key, instance: Machine)
+    fn install_start(&mut self, id: Text, used: Key, instance: BoxedMachine)
         requires suits { SuitsStart self.old.world id used instance }
         requires room { 0 < self.old.room }
         ensures { self.new.world ≡ with_instance self.old.world instance }
     {
-        add(&mut self.instances, id, instance);
+        add(&mut self.instances, id, instance.into_machine());
         add(&mut self.keys, used, self.count);
         self.turns.add();
         self.count += 1;
@@ -153,7 +153,7 @@ impl World {
         number: usize,
         step: Step,
         until: Option<u64>,
-        emitted: Option<Event>,
+        emitted: Option<SentEvent>,
         heard: Vec<Hearing>,
     )
         requires suits { SuitsStep self.old.world number step until emitted heard.items }
@@ -211,12 +211,12 @@ fn set_timer(timers: &mut Timers, number: usize, until: Option<u64>, now: Moment
 }
 
 // The event that goes out is kept, where one does.
-fn put_out(outbox: &mut Vec<Event>, emitted: Option<Event>)
+fn put_out(outbox: &mut Vec<Event>, emitted: Option<SentEvent>)
     requires { vec_len outbox.old < vec_capacity outbox.old }
     ensures { outbox.new.items ≡ outbox.old.items ++ option_to_list emitted }
 {
     if let Some(event) = emitted {
-        outbox.push(event).unwrap();
+        outbox.push(event.into_event()).unwrap();
     }
 }
 

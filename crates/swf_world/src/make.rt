@@ -13,7 +13,7 @@ use indexmap::IndexMap;
 use std::alloc::{AllocError, Global};
 use swf_cloudevents::Event;
 use swf_meaning::Key;
-use swf_tasks::{Machine, Site, Step};
+use swf_tasks::{BoxedMachine, Machine, Site, Step};
 use swf_text::{Strand, Text};
 use swf_validate::Accepted;
 use swf_value::Json;
@@ -56,7 +56,7 @@ impl World {
         Ok(untold(ChangeKind::Start {
             id: id.copy()?,
             used: Key::Instance(id.copy()?),
-            instance,
+            instance: BoxedMachine::new(alloc, instance)?,
         }))
     }
 }
@@ -94,7 +94,8 @@ pub fn step_change(
     };
     let mut step = prepared.step;
     let mut heard = Vec::new(alloc);
-    if let Some(event) = &prepared.emitted {
+    if let Some(sent) = &prepared.emitted {
+        let event = sent.event();
         step = offered_step(alloc, instance, step, event)?;
         heard = offer(alloc, event, instances, number)?.heard;
     }
@@ -120,5 +121,5 @@ fn offered_step(
     let mut instance = instance.copy(alloc)?;
     instance.take(step);
     instance.deliver_event(alloc, event)?;
-    Ok(Step::Whole(instance))
+    Ok(Step::Whole(BoxedMachine::new(alloc, instance)?))
 }

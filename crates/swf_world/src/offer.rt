@@ -7,14 +7,14 @@ ghost use Rattle.swf_world.specs.Offers.{IsOffer};
 use indexmap::IndexMap;
 use std::alloc::{AllocError, Global};
 use swf_cloudevents::Event;
-use swf_tasks::Machine;
+use swf_tasks::{BoxedMachine, Machine};
 use swf_text::Text;
 
 /// An instance that took an event, after it took it.
 #[derive(Drop)]
 pub struct Hearing {
     pub number: usize,
-    pub instance: Machine,
+    pub instance: BoxedMachine,
 }
 
 /// Those that took an event, and how many of their tasks did.
@@ -68,6 +68,7 @@ fn offer_one(
     }
     let mut instance = instance.copy(alloc)?;
     let taken = instance.deliver_event(alloc, event)?;
+    let instance = BoxedMachine::new(alloc, instance)?;
     heard.push(Hearing { number, instance })?;
     Ok(taken)
 }

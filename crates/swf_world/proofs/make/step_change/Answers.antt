@@ -20,10 +20,12 @@ returns c =
     let there : slice_get is n ≡ Some i = instance_there c.args.instances.now.entries n i c.index-instance.ensures in
     let made : IsReady now n strand is step p.until p.emitted × IsSent n p.emitted is c.match-prepared.heard.items =
     elim c.match-prepared.branch [
-      | in-Some+in_ok-step+in_ok-heard w ↦ (
-        sent_ready now n strand is i p step w.in-Some.event there c.in-Ok.ensures.ok w.in-Some.is (w.step-is ∙ w.in_ok-step.ensures),
-        subst (λ o. IsSent n o is c.match-prepared.heard.items) (sym w.in-Some.is) (subst (λ h. IsSent n (Some w.in-Some.event) is h.items) (sym w.heard-is) w.in_ok-heard.ensures.heard),
-      )
+      | in-Some+in_ok-step+in_ok-heard w ↦
+          let e = w.event-event.result.now in
+          let sent : p.emitted ≡ Some e = w.in-Some.is ∙ ap Some (sym w.event-event.ensures) in (
+            sent_ready now n strand is i p step e there c.in-Ok.ensures.ok sent (w.step-is ∙ w.in_ok-step.ensures),
+            subst (λ o. IsSent n o is c.match-prepared.heard.items) (sym sent) (subst (λ h. IsSent n (Some e) is h.items) (sym w.heard-is) w.in_ok-heard.ensures.heard),
+          )
       | in_default-emitted w ↦ (
         quiet_ready now n strand is i p step there c.in-Ok.ensures.ok w.in_default-emitted.is w.step-is,
         subst (λ o. IsSent n o is c.match-prepared.heard.items) (sym w.in_default-emitted.is) (ap (λ h. h.items) w.heard-is ∙ c.new-heard.ensures.items),

@@ -15,11 +15,11 @@ add-requires-2-clause-new c =
     (new_in_view c.self.inside.documents.entries _ c.self.inside.keys.entries _ _ _ _ c.args.self.now c.args.used (Instance c.args.id) c.self.view_is c.requires.suits.used_is c.requires.suits.new)
 
 pub invariant_of-self : goal.invariant_of-self
-invariant_of-self c = rw (c.add.ensures, c.add-2.ensures)
+invariant_of-self c = rw (c.add.ensures, c.add-2.ensures, c.into_machine.ensures)
     (kept_started c.self.inside.documents.entries c.self.inside.instances.entries c.self.inside.keys.entries c.self.inside.moment c.self.inside.count c.self.inside.turns c.add-3.new.self c.self.inside.timers.set c.args.id c.args.used c.args.instance
     c.self.invariant c.requires.suits.placed c.requires.suits.used_is c.requires.suits.awake (omega (arith, ap (λ h. h.room) c.self.view_is)) c.add-3.ensures.numbers c.add-3.ensures.count)
 
 pub returns : goal.returns
-returns c = rw (c.add.ensures, c.add-2.ensures)
+returns c = rw (c.add.ensures, c.add-2.ensures, c.into_machine.ensures)
     (started_world c.self.inside.documents.entries c.self.inside.instances.entries c.self.inside.keys.entries c.self.inside.moment c.self.inside.outbox.items c.self.inside.count c.args.id c.args.used c.args.instance c.requires.suits.placed c.requires.suits.used_is
     ∙ ap (λ h. with_instance h.world c.args.instance) c.self.view_is)
