@@ -5,6 +5,7 @@ ghost use Rattle.json.specs.Token.{begin_array, begin_object};
 ghost use Rattle.serde_json.specs.Read.{of_json, converted, read as read_text};
 ghost use Rattle.swf_value.specs.Found.{Finds, FindsNext, IsFound};
 
+use crate::names::Names;
 use crate::number::number;
 use crate::value::Json;
 use crate::whole::{Found, found_list, found_number, found_object, found_text};
@@ -19,9 +20,10 @@ const DEEPEST: usize = 127;
 pub(crate) fn find(alloc: Global, text: &str) -> Result<Option<Found>, AllocError>
     ensures { IfOk result (Finds IsFound (read_text text.now)) }
 {
+    let mut names = Names::new(alloc)?;
     let mut scratch = Scratch::new(alloc);
     let mut reader = Reader::new(text, &mut scratch)?;
-    let Some(found) = find_next(alloc, &mut reader, DEEPEST)? else {
+    let Some(found) = find_next(alloc, &mut reader, &mut names, DEEPEST)? else {
         return Ok(None);
     };
     if reader.next().is_some() {
@@ -35,6 +37,7 @@ pub(crate) fn find(alloc: Global, text: &str) -> Result<Option<Found>, AllocErro
 fn find_next(
     alloc: Global,
     reader: &mut Reader<'_>,
+    names: &mut Names,
     depth: usize,
 ) -> Result<Option<Found>, AllocError>
     ensures found { IfOk result
@@ -59,8 +62,8 @@ fn find_next(
             None => Ok(None),
         },
         Token::String(text) => Ok(Some(found_text(alloc, text)?)),
-        Token::BeginArray => find_list(alloc, reader, depth),
-        Token::BeginObject => find_object(alloc, reader, depth),
+        Token::BeginArray => find_list(alloc, reader, names, depth),
+        Token::BeginObject => find_object(alloc, reader, names, depth),
         Token::EndObject | Token::EndArray | Token::Key(_) | Token::Bad => Ok(None),
     }
 }
@@ -70,6 +73,7 @@ fn find_next(
 fn find_list(
     alloc: Global,
     reader: &mut Reader<'_>,
+    names: &mut Names,
     depth: usize,
 ) -> Result<Option<Found>, AllocError>
     ensures found { IfOk result (FindsNext IsFound
@@ -82,7 +86,7 @@ fn find_list(
     }
     let mut found = Vec::new(alloc);
     'items: while !reader.take_end_array() {
-        let Some(item) = find_next(alloc, reader, depth - 1)? else {
+        let Some(item) = find_next(alloc, reader, names, depth - 1)? else {
             return Ok(None);
         };
         found.push(item)?;
@@ -95,6 +99,7 @@ fn find_list(
 fn find_object(
     alloc: Global,
     reader: &mut Reader<'_>,
+    names: &mut Names,
     depth: usize,
 ) -> Result<Option<Found>, AllocError>
     ensures found { IfOk result (FindsNext IsFound
@@ -111,9 +116,9 @@ fn find_object(
             return Ok(None);
         };
         let Some(name) = key else {
-            return Ok(Some(found_object(alloc, found)?));
+            return Ok(Some(found_object(alloc, names, found)?));
         };
-        let Some(member) = find_next(alloc, reader, depth - 1)? else {
+        let Some(member) = find_next(alloc, reader, names, depth - 1)? else {
             return Ok(None);
         };
         drop(found.insert(name, member)?);

@@ -6,6 +6,7 @@ mod find;
 mod list;
 mod map;
 mod measure;
+mod names;
 mod number;
 mod order;
 mod read;

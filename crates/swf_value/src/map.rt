@@ -1,5 +1,5 @@
 // The members of an object, which several values share.
-ghost use Rattle.std.specs.Prelude.{◌≡◌, IfOk, IfErr, option_map, chars};
+ghost use Rattle.std.specs.Prelude.{◌≡◌, IfOk, IfErr, None, false, option_map, chars};
 ghost use Rattle.std.specs.Ordering.{nat_cmp};
 ghost use Rattle.std.specs.Cmp.Lexicographic.{slice_cmp};
 ghost use Rattle.swf_value.specs.Members.{at, put};
@@ -85,21 +85,38 @@ impl JsonMap {
         ensures ok { IfOk result (λ _. self.new ≡ put name value self.old) }
         ensures err { IfErr result (λ _. self.new ≡ self.old) }
     {
+        self.put(name, value)?;
+        Ok(())
+    }
+
+    /// Puts a member among the others, and says whether it replaced one.
+    pub(crate) fn put(&mut self, name: Text, value: Json) -> Result<bool, AllocError>
+        requires { Ascending self.old }
+        ensures ok { IfOk result (λ _. self.new ≡ put name value self.old) }
+        ensures new { IfOk result (λ replaced. replaced ≡ false → at name self.old ≡ None) }
+        ensures err { IfErr result (λ _. self.new ≡ self.old) }
+    {
         insert_into(Arc::make_mut(&mut self.shared)?, name, value)
     }
 }
 
-/// Puts a member among ascending members.
-fn insert_into(members: &mut Vec<Member>, name: Text, value: Json) -> Result<(), AllocError>
+/// Puts a member among ascending members, and says whether it replaced one.
+fn insert_into(members: &mut Vec<Member>, name: Text, value: Json) -> Result<bool, AllocError>
     requires { Ascending (members_of members.old.items) }
     ensures ok { IfOk result (λ _. members_of members.new.items ≡ put name value (members_of members.old.items)) }
+    ensures new { IfOk result (λ replaced. replaced ≡ false → at name (members_of members.old.items) ≡ None) }
     ensures err { IfErr result (λ _. members.new.items ≡ members.old.items) }
 {
     match place_of(members, name.as_str()) {
-        Ok(place) => members[place] = Member { name, value },
-        Err(place) => members.insert(place, Member { name, value })?,
+        Ok(place) => {
+            members[place] = Member { name, value };
+            Ok(true)
+        }
+        Err(place) => {
+            members.insert(place, Member { name, value })?;
+            Ok(false)
+        }
     }
-    Ok(())
 }
 
 /// Where a name stands among ascending members, or else where it would stand.

@@ -1,10 +1,12 @@
 // How large and how deep a value is.
 ghost use Rattle.std.specs.Prelude.{◌≡◌, ◌≤◌, ◌^◌, ◌-◌, ◌+◌, min};
+ghost use Rattle.swf_text.specs.Size.{bytes_in};
 ghost use Rattle.swf_value.specs.Value.{depth, depth_items, depth_members};
-ghost use Rattle.swf_value.specs.Node.{items_of, members_of};
+ghost use Rattle.swf_value.specs.Node.{items_of, members_of, node_value};
 ghost use Rattle.swf_value.specs.Size.{size, size_items, size_members};
 
 use crate::value::{Json, JsonNode, Member};
+use swf_text::Text;
 
 /// One for each list, object and other value inside, and one for each byte of the texts and names;
 /// the greatest number where that is greater still. It takes no memory.
@@ -34,6 +36,9 @@ fn add_size(sum: u64, value: &Json, most: u64) -> u64
     requires { sum ≤ most }
     ensures { result ≡ min (sum + size value.now) most }
 {
+    if let Some(size) = value.kept_size() {
+        return sum_within(sum, u64::from(size), most);
+    }
     let sum = sum_within(sum, 1, most);
     match value.node() {
         JsonNode::Null | JsonNode::Bool(_) | JsonNode::Int(_) => sum,
@@ -72,6 +77,29 @@ fn add_members(sum: u64, members: &[Member], most: u64) -> u64
         sum = add_size(named, &member.value, most);
     }
     sum
+}
+
+/// The size of a level; the greatest number where it is larger still.
+pub(crate) fn size_of_node(node: &JsonNode) -> u32
+    ensures { result ≡ min (size (node_value node.now)) (2 ^ 32 - 1) }
+{
+    let most = u64::from(u32::MAX);
+    let size = match node {
+        JsonNode::Null | JsonNode::Bool(_) | JsonNode::Int(_) => 1,
+        JsonNode::Text(text) => sum_within(1, text.as_str().len() as u64, most),
+        JsonNode::List(items) => add_items(1, items.as_slice(), most),
+        JsonNode::Object(members) => add_members(1, members.as_slice(), most),
+    };
+    size as u32
+}
+
+/// What a member adds to the size of an object; the greatest number where it is larger still.
+pub(crate) fn size_of_member(name: &Text, value: &Json) -> u32
+    ensures { result ≡ min (bytes_in name.now + size value.now) (2 ^ 32 - 1) }
+{
+    let most = u64::from(u32::MAX);
+    let named = sum_within(0, name.as_str().len() as u64, most);
+    add_size(named, value, most) as u32
 }
 
 /// How deep lists and objects nest, which is 0 for the other values; the greatest number where that

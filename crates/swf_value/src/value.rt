@@ -1,12 +1,14 @@
 // A JSON value: one level is a `JsonNode`, and the `Json` round it keeps what holds of each level.
-ghost use Rattle.std.specs.Prelude.{◌≡◌, ◌↔◌, ◌-◌, ◌^◌, min, IfOk, IfErr, IsTrue, option_map, chars};
+ghost use Rattle.std.specs.Prelude.{◌≡◌, ◌↔◌, ◌-◌, ◌^◌, min, IfOk, IfErr, IfSome, IsTrue, None, false, option_map, chars};
+ghost use Rattle.swf_value.specs.Members.{member_at};
 ghost use Rattle.swf_value.specs.Node.{node_value};
 ghost use Rattle.swf_value.specs.Grow.{IsList, IsObject, with_item, with_put};
+ghost use Rattle.swf_value.specs.Size.{size};
 ghost use Rattle.swf_value.specs.Value.{IsLevel, depth};
 
 use crate::list::JsonList;
 use crate::map::JsonMap;
-use crate::measure::{depth_of_items, depth_of_members};
+use crate::measure::{depth_of_items, depth_of_members, size_of_member, size_of_node};
 use crate::order::compare;
 use std::alloc::{AllocError, Global};
 use std::marker::Model;
@@ -19,6 +21,8 @@ pub struct Json {
     node: JsonNode,
     /// How deep lists and objects nest in it; the greatest number where that is greater still.
     depth: u32,
+    /// How large it is; the greatest number where it is larger still.
+    size: u32,
 }
 
 /// One level of a value.
@@ -54,7 +58,7 @@ impl Model for Json {
 
     ghost view = { λ j. node_value j.node };
 
-    ghost invariant = { λ j. IsKept j.depth (node_value j.node) };
+    ghost invariant = { λ j. IsKept j.depth j.size (node_value j.node) };
 
     ghost size = { weight };
 
@@ -75,6 +79,7 @@ impl Json {
         Json {
             node: JsonNode::Null,
             depth: 0,
+            size: 1,
         }
     }
 
@@ -84,6 +89,7 @@ impl Json {
         Json {
             node: JsonNode::Bool(value),
             depth: 0,
+            size: 1,
         }
     }
 
@@ -95,27 +101,21 @@ impl Json {
         Json {
             node: JsonNode::Int(value),
             depth: 0,
+            size: 1,
         }
     }
 
     pub fn text(value: Text) -> Json
         ensures { result ≡ text value }
     {
-        Json {
-            node: JsonNode::Text(value),
-            depth: 0,
-        }
+        Json::of(JsonNode::Text(value))
     }
 
     pub fn list(alloc: Global, items: Vec<Json>) -> Result<Json, AllocError>
         ensures { IfOk result (λ v. v ≡ list (items_of items.items)) }
     {
-        let depth = depth_of_items(&items).saturating_add(1);
         let items = JsonList::new(alloc, items)?;
-        Ok(Json {
-            node: JsonNode::List(items),
-            depth,
-        })
+        Ok(Json::of(JsonNode::List(items)))
     }
 
     /// An object of these members, which stand by ascending name.
@@ -123,12 +123,18 @@ impl Json {
         requires { Ascending (members_of members.items) }
         ensures { IfOk result (λ v. v ≡ object (members_of members.items)) }
     {
-        let depth = depth_of_members(&members).saturating_add(1);
         let members = JsonMap::new(alloc, members)?;
-        Ok(Json {
-            node: JsonNode::Object(members),
-            depth,
-        })
+        Ok(Json::of(JsonNode::Object(members)))
+    }
+
+    /// The value of a level.
+    fn of(node: JsonNode) -> Json
+        requires { IsLevel (node_value node) }
+        ensures { result ≡ node_value node }
+    {
+        let depth = depth_of_node(&node);
+        let size = size_of_node(&node);
+        Json { node, depth, size }
     }
 
     /// How deep lists and objects nest in it; the greatest number where that is greater still.
@@ -136,6 +142,17 @@ impl Json {
         ensures { result ≡ min (depth self.now) (2 ^ 32 - 1) }
     {
         self.depth
+    }
+
+    /// How large it is, unless that is too large for it to be kept.
+    pub(crate) fn kept_size(&self) -> Option<u32>
+        ensures { IfSome result (λ n. n ≡ size self.now) }
+    {
+        if self.size < u32::MAX {
+            Some(self.size)
+        } else {
+            None
+        }
     }
 
     /// The level at the top.
@@ -178,6 +195,7 @@ impl Json {
         Ok(Json {
             node,
             depth: self.depth,
+            size: self.size,
         })
     }
 
@@ -188,22 +206,31 @@ impl Json {
         ensures ok { IfOk result (λ _. self.new ≡ with_item self.old item) }
         ensures err { IfErr result (λ _. self.new ≡ self.old) }
     {
-        let depth = item.depth().saturating_add(1);
+        let depth = item.depth.saturating_add(1);
+        let size = item.size;
         push_item(&mut self.node, item)?;
         self.depth = self.depth.max(depth);
+        self.size = self.size.saturating_add(size);
         Ok(())
     }
 
     /// Puts a member into an object, where it replaces one of the same name: in place where this
     /// is the object's only owner.
-    #[tactic(auto, using(crate::proofs::Grown::level_with_put))]
+    #[tactic(auto, using(crate::proofs::Grown::level_with_put, crate::proofs::Grown::kept_with_new))]
     pub fn put(&mut self, name: Text, value: Json) -> Result<(), AllocError>
         requires { IsObject self.old }
         ensures ok { IfOk result (λ _. self.new ≡ with_put self.old name value) }
         ensures err { IfErr result (λ _. self.new ≡ self.old) }
     {
-        put_member(&mut self.node, name, value)?;
-        self.depth = depth_of_node(&self.node);
+        let depth = value.depth.saturating_add(1);
+        let size = size_of_member(&name, &value);
+        if put_member(&mut self.node, name, value)? {
+            self.depth = depth_of_node(&self.node);
+            self.size = size_of_node(&self.node);
+        } else {
+            self.depth = self.depth.max(depth);
+            self.size = self.size.saturating_add(size);
+        }
         Ok(())
     }
 }
@@ -239,15 +266,16 @@ fn push_item(node: &mut JsonNode, item: Json) -> Result<(), AllocError>
     }
 }
 
-/// Puts a member into an object.
-fn put_member(node: &mut JsonNode, name: Text, value: Json) -> Result<(), AllocError>
+/// Puts a member into an object, and says whether it replaced one.
+fn put_member(node: &mut JsonNode, name: Text, value: Json) -> Result<bool, AllocError>
     requires object { IsObject (node_value node.old) }
     requires level { IsLevel (node_value node.old) }
     ensures ok { IfOk result (λ _. node_value node.new ≡ with_put (node_value node.old) name value) }
+    ensures new { IfOk result (λ replaced. replaced ≡ false → member_at name (node_value node.old) ≡ None) }
     ensures err { IfErr result (λ _. node_value node.new ≡ node_value node.old) }
 {
     match node {
-        JsonNode::Object(members) => members.insert(name, value),
+        JsonNode::Object(members) => members.put(name, value),
         _ => Err(AllocError),
     }
 }

@@ -1,10 +1,11 @@
 // What is found of JSON that is read: the value that it is, where it is one, and how deep it nests.
-ghost use Rattle.std.specs.Prelude.{◌≡◌, IfOk, IfSome, option_map, chars, IsUtf8};
+ghost use Rattle.std.specs.Prelude.{◌≡◌, IfOk, IfSome, option_map};
 ghost use Rattle.serde_json.specs.Data as json_data;
 ghost use Rattle.swf_value.specs.Value.{InRange, IsValue, list, object};
 ghost use Rattle.swf_value.specs.Read.{whole_items, whole_members};
 ghost use Rattle.swf_value.specs.Found.{IsInt, IsFound, AreFound, MembersFound, deepest_item, deepest_member};
 
+use crate::names::Names;
 use crate::value::{Json, Member};
 use std::alloc::{AllocError, Global};
 use std::collections::BTreeMap;
@@ -32,13 +33,14 @@ pub(crate) fn found_list(alloc: Global, items: Vec<Found>) -> Result<Found, Allo
 /// What is found of an object, from what is found of its members.
 pub(crate) fn found_object(
     alloc: Global,
+    names: &mut Names,
     members: BTreeMap<&str, Found>,
 ) -> Result<Found, AllocError>
     ensures { IfOk result (λ f. (ms : json_data.Members) → MembersFound ms members.entry.entries
         → IsFound (json_data.object ms) f) }
 {
     let depth = depth_of_members(&members).saturating_add(1);
-    let value = whole_object(alloc, members)?;
+    let value = whole_object(alloc, names, members)?;
     Ok(Found { value, depth })
 }
 
@@ -108,7 +110,11 @@ fn whole_list(alloc: Global, items: Vec<Found>) -> Result<Option<Json>, AllocErr
 }
 
 /// The object of these members, if each is a value.
-fn whole_object(alloc: Global, members: BTreeMap<&str, Found>) -> Result<Option<Json>, AllocError>
+fn whole_object(
+    alloc: Global,
+    names: &mut Names,
+    members: BTreeMap<&str, Found>,
+) -> Result<Option<Json>, AllocError>
     ensures { IfOk result (λ o. (ms : json_data.Members) → MembersFound ms members.entry.entries
         → (o ≡ option_map object (whole_members ms)) × IfSome o IsValue) }
 {
@@ -117,16 +123,8 @@ fn whole_object(alloc: Global, members: BTreeMap<&str, Found>) -> Result<Option<
         let Some(value) = member.value else {
             return Ok(None);
         };
-        let name = name_of(alloc, name)?;
+        let name = names.text_of(alloc, name)?;
         found.push(Member { name, value })?;
     }
     Ok(Some(Json::object(alloc, found)?))
-}
-
-/// A member's name as a text.
-fn name_of(alloc: Global, name: &str) -> Result<Text, AllocError>
-    ensures is { IfOk result (λ t. t ≡ chars name.now) }
-    ensures utf8 { IsUtf8 name.now }
-{
-    Text::copy_of(alloc, name)
 }
