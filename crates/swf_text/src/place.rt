@@ -1,6 +1,8 @@
 // A place in a value.
-ghost use Rattle.std.specs.Prelude.{◌≡◌, ◌++◌, ◌∷◌, [], IfOk, IfErr};
+ghost use Rattle.std.specs.Prelude.{◌≡◌, ◌++◌, ◌∷◌, [], IfOk, IfErr, IfSome};
+ghost use Rattle.swf_text.specs.Pointer.{pointer};
 
+use crate::pointer::pointer_text;
 use crate::text::Text;
 use std::alloc::{AllocError, Global};
 use std::marker::Model;
@@ -9,6 +11,8 @@ use std::marker::Model;
 #[derive(Drop)]
 pub struct Place {
     parts: Vec<Text>,
+    /// Its JSON Pointer, where that was made.
+    pointer: Option<Text>,
 }
 
 impl Model for Place {
@@ -17,6 +21,10 @@ impl Model for Place {
     ghost Value = { List (List ℕ) };
 
     ghost view = { λ p. p.parts.items };
+
+    ghost use Rattle.swf_text.specs.Pointer.{IsPointed};
+
+    ghost invariant = { λ p. IsPointed p.pointer p.parts.items };
 }
 
 impl Place {
@@ -26,6 +34,7 @@ impl Place {
     {
         Place {
             parts: Vec::new(alloc),
+            pointer: None,
         }
     }
 
@@ -33,7 +42,10 @@ impl Place {
     pub fn of(parts: Vec<Text>) -> Place
         ensures { result ≡ parts.items }
     {
-        Place { parts }
+        Place {
+            parts,
+            pointer: None,
+        }
     }
 
     /// One name or position more, further in.
@@ -41,6 +53,7 @@ impl Place {
         ensures ok { IfOk result (λ _. self.new ≡ self.old ++ part ∷ []) }
         ensures err { IfErr result (λ _. self.new ≡ self.old) }
     {
+        self.pointer = None;
         self.parts.push(part)?;
         Ok(())
     }
@@ -53,7 +66,27 @@ impl Place {
         for part in &self.parts {
             parts.push(part.copy()?)?;
         }
-        Ok(Place { parts })
+        Ok(Place {
+            parts,
+            pointer: None,
+        })
+    }
+
+    /// The same place once more, with its JSON Pointer, which is then made no more.
+    pub fn pointed(&self, alloc: Global) -> Result<Place, AllocError>
+        ensures { IfOk result (λ place. place ≡ self.now) }
+    {
+        let pointer = pointer_text(alloc, self)?;
+        let mut place = self.copy(alloc)?;
+        place.pointer = Some(pointer);
+        Ok(place)
+    }
+
+    /// Its JSON Pointer, where that was made.
+    pub(crate) fn pointer(&self) -> Option<&Text>
+        ensures { IfSome result (λ t. t.now ≡ pointer self.now) }
+    {
+        self.pointer.as_ref()
     }
 
     /// The names and positions in order.

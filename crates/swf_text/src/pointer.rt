@@ -11,6 +11,9 @@ use std::alloc::{AllocError, Global};
 pub fn pointer_text(alloc: Global, place: &Place) -> Result<Text, AllocError>
     ensures { IfOk result (λ t. t ≡ pointer place.now) }
 {
+    if let Some(text) = place.pointer() {
+        return text.copy();
+    }
     let mut out = TextBuilder::with_capacity(alloc, room_for(place))?;
     for part in place.as_slice() {
         push_part(part, &mut out)?;
