@@ -1,4 +1,5 @@
 // What a `call` calls (DSL 1.0.0, reference, "Call" and "HTTP Call").
+use crate::boxed::Boxed;
 use crate::listing::Listing;
 use crate::template::{Field, Template};
 use swf_expr::Expr;
@@ -7,7 +8,7 @@ use swf_text::Text;
 /// What a `call` calls.
 #[derive(Drop)]
 pub enum Callee {
-    Http(HttpSpec),
+    Http(Boxed<HttpSpec>),
     /// A function of the document.
     Function { name: Text, with: Option<Template> },
 }

@@ -1,6 +1,7 @@
 // What every task may have (DSL 1.0.0, reference, "Task" and "Flow Directive").
 ghost use Rattle.std.specs.Prelude.{◌≡◌, IfOk};
 
+use crate::boxed::Boxed;
 use crate::template::Template;
 use std::alloc::AllocError;
 use swf_expr::Expr;
@@ -9,7 +10,7 @@ use swf_text::{Place, Text};
 /// The parts that every task may have.
 #[derive(Drop)]
 pub struct Common {
-    pub cond: Option<Expr>,
+    pub cond: Option<Boxed<Expr>>,
     pub input_from: Option<Template>,
     pub output_as: Option<Template>,
     pub export_as: Option<Template>,
@@ -49,6 +50,6 @@ impl Flow {
 #[derive(Drop)]
 pub struct Case {
     pub name: Text,
-    pub cond: Option<Expr>,
+    pub cond: Option<Boxed<Expr>>,
     pub flow: Option<Flow>,
 }

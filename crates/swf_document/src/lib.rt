@@ -1,6 +1,7 @@
 //! Workflow documents as plain types, and which value is which document.
 #![tactic(auto)]
 
+mod boxed;
 mod call;
 mod common;
 mod document;
@@ -14,6 +15,7 @@ mod run;
 mod tasks;
 mod template;
 
+pub use boxed::{Boxed, unboxed};
 pub use call::{Callee, Endpoint, HttpSpec, Method};
 pub use common::{Case, Common, Flow};
 pub use document::{DocKey, Document, NamedError, NamedRetry};

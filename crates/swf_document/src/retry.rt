@@ -1,4 +1,5 @@
 // When a failed attempt is made again (DSL 1.0.0, reference, "Retry").
+use crate::boxed::Boxed;
 use swf_expr::Expr;
 use swf_text::Text;
 
@@ -17,6 +18,6 @@ pub struct RetryPolicy {
     pub delay: u64,
     /// How many further attempts there are at most.
     pub count: Option<u64>,
-    pub cond: Option<Expr>,
-    pub except: Option<Expr>,
+    pub cond: Option<Boxed<Expr>>,
+    pub except: Option<Boxed<Expr>>,
 }

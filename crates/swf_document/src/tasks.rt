@@ -2,6 +2,7 @@
 ghost use Rattle.std.specs.Prelude.{◌≡◌, IfOk};
 ghost use Rattle.swf_document.specs.TaskNode.{tasks_of};
 
+use crate::boxed::Boxed;
 use crate::call::Callee;
 use crate::common::{Case, Common};
 use crate::error::{ErrorFilter, ErrorRef};
@@ -70,7 +71,7 @@ pub struct ForSpec {
     /// The variable that has the item's position.
     pub at: Text,
     /// What has to hold before each round.
-    pub guard: Option<Expr>,
+    pub guard: Option<Boxed<Expr>>,
     pub tasks: Tasks,
 }
 
@@ -88,12 +89,12 @@ pub struct ForkSpec {
 #[derive(Drop)]
 pub struct TrySpec {
     pub tasks: Tasks,
-    pub errors: ErrorFilter,
+    pub errors: Boxed<ErrorFilter>,
     /// The variable that has the error.
     pub name: Text,
-    pub cond: Option<Expr>,
-    pub except: Option<Expr>,
-    pub retry: Option<RetryRef>,
+    pub cond: Option<Boxed<Expr>>,
+    pub except: Option<Boxed<Expr>>,
+    pub retry: Option<Boxed<RetryRef>>,
     /// What is run once an error is caught.
     pub handler: Option<Tasks>,
 }

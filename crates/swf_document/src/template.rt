@@ -1,6 +1,7 @@
 // A template: one level is a `TemplateNode`, and the `Template` round it is what contracts see.
-ghost use Rattle.std.specs.Prelude.{◌≡◌};
+ghost use Rattle.std.specs.Prelude.{◌≡◌, IfOk};
 
+use std::alloc::{AllocError, Global};
 use std::marker::Model;
 use swf_expr::Expr;
 use swf_text::Text;
@@ -10,7 +11,7 @@ use swf_value::Json;
 #[cycle(template)]
 #[derive(Drop)]
 pub struct Template {
-    node: TemplateNode,
+    node: Box<TemplateNode>,
 }
 
 /// One level of a template.
@@ -44,49 +45,45 @@ impl Model for Template {
     ghost use Rattle.swf_document.specs.TemplateNode.{node_template};
     ghost use Rattle.swf_document.specs.Template.{weight};
 
-    ghost view = { λ t. node_template t.node };
+    ghost view = { λ t. node_template t.node.value };
 
     ghost size = { weight };
 
     ghost use Rattle.swf_document.specs.TemplateFalls.{falls};
 
-    ghost size_decreases = { λ a h. falls a.node };
+    ghost size_decreases = { λ a h. falls a.node.value };
 }
 
 impl Template {
     ghost use Rattle.swf_document.specs.Template.{constant, run, list, object};
     ghost use Rattle.swf_document.specs.TemplateNode.{node_template, templates_of, fields_of};
 
-    pub fn constant(value: Json) -> Template
-        ensures { result ≡ constant value }
+    pub fn constant(alloc: Global, value: Json) -> Result<Template, AllocError>
+        ensures { IfOk result (λ t. t ≡ constant value) }
     {
-        Template {
-            node: TemplateNode::Const(value),
-        }
+        let node = Box::new(alloc, TemplateNode::Const(value))?;
+        Ok(Template { node })
     }
 
-    pub fn run(expression: Expr) -> Template
-        ensures { result ≡ run expression }
+    pub fn run(alloc: Global, expression: Expr) -> Result<Template, AllocError>
+        ensures { IfOk result (λ t. t ≡ run expression) }
     {
-        Template {
-            node: TemplateNode::Run(expression),
-        }
+        let node = Box::new(alloc, TemplateNode::Run(expression))?;
+        Ok(Template { node })
     }
 
-    pub fn list(items: Vec<Template>) -> Template
-        ensures { result ≡ list (templates_of items.items) }
+    pub fn list(alloc: Global, items: Vec<Template>) -> Result<Template, AllocError>
+        ensures { IfOk result (λ t. t ≡ list (templates_of items.items)) }
     {
-        Template {
-            node: TemplateNode::List(items),
-        }
+        let node = Box::new(alloc, TemplateNode::List(items))?;
+        Ok(Template { node })
     }
 
-    pub fn object(fields: Vec<Field>) -> Template
-        ensures { result ≡ object (fields_of fields.items) }
+    pub fn object(alloc: Global, fields: Vec<Field>) -> Result<Template, AllocError>
+        ensures { IfOk result (λ t. t ≡ object (fields_of fields.items)) }
     {
-        Template {
-            node: TemplateNode::Object(fields),
-        }
+        let node = Box::new(alloc, TemplateNode::Object(fields))?;
+        Ok(Template { node })
     }
 
     /// The level at the top.

@@ -5,7 +5,7 @@ ghost use Rattle.swf_reader.specs.Parts.{endpoint_run, endpoint_text, endpoint_i
 use crate::parts::{flag_at, part, text_in, tree_of};
 use crate::template::{named_templates_of, template_at};
 use std::alloc::{AllocError, Global};
-use swf_document::{Callee, DocKey, Endpoint, HttpSpec, Method, RunSpec};
+use swf_document::{Boxed, Callee, DocKey, Endpoint, HttpSpec, Method, RunSpec};
 use swf_expr::Expr;
 use swf_forms::{characters, inner, is_enclosed, method_of, trimmed};
 use swf_shapes::field;
@@ -97,7 +97,7 @@ pub fn callee_in(alloc: Global, value: &Json) -> Result<Callee, AllocError>
     let nothing = Json::null();
     let name = text_in(alloc, part(value, "call", &nothing))?;
     if is_word(&name, "http") {
-        let http = http_in(alloc, part(value, "with", &nothing))?;
+        let http = Boxed::new(alloc, http_in(alloc, part(value, "with", &nothing))?)?;
         Ok(Callee::Http(http))
     } else {
         let with = template_at(alloc, value, "with")?;

@@ -8,7 +8,7 @@ use crate::parts::{expression_at, number_in, part, status_in, text_at, text_in};
 use crate::template::{template_at, template_in};
 use std::alloc::{AllocError, Global};
 use swf_document::{
-    ErrorFilter, ErrorRef, ErrorSpec, Listing, NamedError, NamedRetry, RetryPolicy, RetryRef,
+    Boxed, ErrorFilter, ErrorRef, ErrorSpec, Listing, NamedError, NamedRetry, RetryPolicy, RetryRef,
 };
 use swf_duration::{DurationFault, read_duration};
 use swf_shapes::field;
@@ -97,11 +97,11 @@ fn retry_in(alloc: Global, value: &Json) -> Result<RetryRef, AllocError>
     }
 }
 
-pub fn retry_at(alloc: Global, value: &Json) -> Result<Option<RetryRef>, AllocError>
+pub fn retry_at(alloc: Global, value: &Json) -> Result<Option<Boxed<RetryRef>>, AllocError>
     ensures { IfOk result (λ r. r ≡ retry_at value.now) }
 {
     match field(value, "retry") {
-        Some(found) => Ok(Some(retry_in(alloc, found)?)),
+        Some(found) => Ok(Some(Boxed::new(alloc, retry_in(alloc, found)?)?)),
         None => Ok(None),
     }
 }

@@ -5,7 +5,7 @@ ghost use Rattle.swf_value.specs.Value.{null};
 ghost use Rattle.swf_reader.specs.Parts.{part, text_in, text_at, flag_in, flag_at, number_in, status_in, tree_of, expression_in, expression_at, flow_in, flow_at};
 
 use std::alloc::{AllocError, Global};
-use swf_document::Flow;
+use swf_document::{Boxed, Flow};
 use swf_expr::Expr;
 use swf_forms::{bare, characters, expression_of, trimmed};
 use swf_shapes::field;
@@ -103,12 +103,16 @@ pub fn expression_in(alloc: Global, value: &Json) -> Result<Expr, AllocError>
     tree_of(alloc, bare(trimmed(&characters)))
 }
 
-pub fn expression_at(alloc: Global, value: &Json, name: &str) -> Result<Option<Expr>, AllocError>
+pub fn expression_at(
+    alloc: Global,
+    value: &Json,
+    name: &str,
+) -> Result<Option<Boxed<Expr>>, AllocError>
     requires { IsTrue (is_ascii name.now) }
     ensures { IfOk result (λ e. e ≡ expression_at name.now value.now) }
 {
     match field(value, name) {
-        Some(found) => Ok(Some(expression_in(alloc, found)?)),
+        Some(found) => Ok(Some(Boxed::new(alloc, expression_in(alloc, found)?)?)),
         None => Ok(None),
     }
 }

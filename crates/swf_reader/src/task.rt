@@ -15,7 +15,9 @@ use crate::event::{cases_of, listen_in};
 use crate::parts::{expression_at, expression_in, flag_at, flow_at, part, text_in};
 use crate::template::{template_in, transform_at};
 use std::alloc::{AllocError, Global};
-use swf_document::{Common, Flow, ForSpec, ForkSpec, Kind, Named, Task, Tasks, Template, TrySpec};
+use swf_document::{
+    Boxed, Common, Flow, ForSpec, ForkSpec, Kind, Named, Task, Tasks, Template, TrySpec,
+};
 use swf_shapes::{Seen, Task as Word, child, field, has, keyword_task, position, seen_in};
 use swf_text::{Place, Text, word};
 use swf_value::{Json, JsonNode, Member};
@@ -28,7 +30,7 @@ fn common_in(alloc: Global, place: &Place, value: &Json) -> Result<Common, Alloc
     let output_as = transform_at(alloc, value, "output", "as")?;
     let export_as = transform_at(alloc, value, "export", "as")?;
     let flow = flow_or_next(alloc, value)?;
-    let place = place.copy(alloc)?;
+    let place = place.pointed(alloc)?;
     Ok(Common {
         cond,
         input_from,
@@ -121,7 +123,7 @@ fn caught_kind(
 {
     let nothing = Json::null();
     let errors = part(part(catch, "errors", &nothing), "with", &nothing);
-    let errors = errors_in(alloc, errors)?;
+    let errors = Boxed::new(alloc, errors_in(alloc, errors)?)?;
     let name = variable_at(alloc, catch, "as", "error")?;
     let cond = expression_at(alloc, catch, "when")?;
     let except = expression_at(alloc, catch, "exceptWhen")?;
@@ -160,7 +162,7 @@ pub fn tasks_in(alloc: Global, place: &Place, value: &Json) -> Result<Tasks, All
 fn items_in(alloc: Global, place: &Place, items: &[Json]) -> Result<Vec<Named>, AllocError>
     ensures { IfOk result (λ v. tasks_of v.items ≡ items_in place.now 0 (items_of items.now)) }
 {
-    let mut tasks = Vec::new(alloc);
+    let mut tasks = Vec::with_capacity(alloc, items.len())?;
     for (index, item) in items.iter().enumerate() {
         let place = child(alloc, place, position(alloc, index)?)?;
         add_task(&mut tasks, item_in(alloc, &place, item)?)?;
@@ -215,7 +217,7 @@ fn task_in(alloc: Global, place: &Place, value: &Json) -> Result<Task, AllocErro
         | JsonNode::Int(_)
         | JsonNode::Text(_)
         | JsonNode::List(_) => {
-            let kind = Kind::Set(Template::constant(Json::null()));
+            let kind = Kind::Set(Template::constant(alloc, Json::null())?);
             Ok(Task { common, kind })
         }
     }

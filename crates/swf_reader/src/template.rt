@@ -72,10 +72,10 @@ fn text_template(alloc: Global, value: &Json, written: &Text) -> Result<Template
     let trimmed = trimmed(&characters);
     if is_enclosed(trimmed) {
         let expression = tree_of(alloc, inner(trimmed))?;
-        Ok(Template::run(expression))
+        Template::run(alloc, expression)
     } else {
         let value = value.copy()?;
-        Ok(Template::constant(value))
+        Template::constant(alloc, value)
     }
 }
 
@@ -87,26 +87,26 @@ pub fn template_in(alloc: Global, value: &Json) -> Result<Template, AllocError>
     match value.node() {
         JsonNode::Null | JsonNode::Bool(_) | JsonNode::Int(_) => {
             let value = value.copy()?;
-            Ok(Template::constant(value))
+            Template::constant(alloc, value)
         }
         JsonNode::Text(text) => text_template(alloc, value, text),
         JsonNode::List(items) => {
             let items = items.as_slice();
             if are_constant(alloc, items)? {
                 let value = value.copy()?;
-                return Ok(Template::constant(value));
+                return Template::constant(alloc, value);
             }
             let filled = templates_in(alloc, items)?;
-            Ok(Template::list(filled))
+            Template::list(alloc, filled)
         }
         JsonNode::Object(members) => {
             let members = members.as_slice();
             if have_constants(alloc, members)? {
                 let value = value.copy()?;
-                return Ok(Template::constant(value));
+                return Template::constant(alloc, value);
             }
             let filled = fields_in(alloc, members)?;
-            Ok(Template::object(filled))
+            Template::object(alloc, filled)
         }
     }
 }
@@ -178,7 +178,7 @@ fn transform_in(alloc: Global, value: &Json) -> Result<Template, AllocError>
     match value.node() {
         JsonNode::Text(_) => {
             let expression = expression_in(alloc, value)?;
-            Ok(Template::run(expression))
+            Template::run(alloc, expression)
         }
         _ => template_in(alloc, value),
     }

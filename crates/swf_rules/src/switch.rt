@@ -56,7 +56,7 @@ fn is_taken(
         None => Ok(false),
         Some(condition) => {
             let vars = within(alloc, scene, task, raw, input)?;
-            let value = value_of(alloc, task, first(alloc, condition, &vars, input)?)?;
+            let value = value_of(alloc, task, first(alloc, condition.get(), &vars, input)?)?;
             Ok(is_true(&value))
         }
     }

@@ -11,7 +11,7 @@ use crate::completion::complete;
 use crate::lists::comes_to;
 use std::alloc::Global;
 use swf_document::{
-    ErrorKind, NamedRetry, Problem, RetryPolicy, RetryRef, TrySpec, matches_filter,
+    ErrorKind, NamedRetry, Problem, RetryPolicy, RetryRef, TrySpec, matches_filter, unboxed,
 };
 use swf_expr::Expr;
 use swf_jq_builtins::is_true;
@@ -154,8 +154,8 @@ fn tried_again(
     ensures { Gives (sight_of scene.entry.now) (tried_again (sight_of scene.entry.now) task.now raw.now input.now retries policy.now vars.now (handled (sight_of scene.entry.now) task.now raw.now input.now problem.now (handler_of spec.now.handler) (is_some spec.now.retry))) result }
 {
     if allows(policy, retries) {
-        let when = policy.cond.as_ref();
-        let except = policy.except.as_ref();
+        let when = unboxed(&policy.cond);
+        let except = unboxed(&policy.except);
         if conditions(alloc, task, vars, input, when, except)? {
             return later(scene, task, raw, input, retries, policy);
         }
@@ -190,12 +190,14 @@ fn retried(
     requires { vars.now ≡ catching (sight_of scene.now) task.now raw.now problem.now }
     ensures { Gives (sight_of scene.entry.now) (retried (sight_of scene.entry.now) task.now raw.now input.now retries problem.now (handler_of spec.now.handler) spec.now.retry) result }
 {
-    match &spec.retry {
-        None => handled(alloc, scene, task, raw, input, problem, spec),
-        Some(RetryRef::Written(policy)) => tried_again(
+    let Some(retry) = &spec.retry else {
+        return handled(alloc, scene, task, raw, input, problem, spec);
+    };
+    match retry.get() {
+        RetryRef::Written(policy) => tried_again(
             alloc, scene, task, raw, input, retries, problem, spec, policy, vars,
         ),
-        Some(RetryRef::Named(name)) => {
+        RetryRef::Named(name) => {
             let policies = scene.setting.document.document().retries.as_slice();
             let Some(policy) = retry_named(name, policies) else {
                 return Err(fails(alloc, task, ErrorKind::Configuration, "unknown retry"));
@@ -221,12 +223,12 @@ pub fn caught(
 ) -> Result<Made, Halt>
     ensures { Gives (sight_of scene.entry.now) (caught (sight_of scene.entry.now) task.now raw.now input.now retries problem.now (catch_of spec.now) (handler_of spec.now.handler)) result }
 {
-    if !matches_filter(&spec.errors, problem) {
+    if !matches_filter(spec.errors.get(), problem) {
         return Err(Halt::Fault(problem.copy()?));
     }
     let vars = catching(alloc, scene, task, raw, problem)?;
-    let when = spec.cond.as_ref();
-    let except = spec.except.as_ref();
+    let when = unboxed(&spec.cond);
+    let except = unboxed(&spec.except);
     if conditions(alloc, task, &vars, input, when, except)? {
         retried(
             alloc, scene, task, raw, input, retries, problem, spec, &vars,

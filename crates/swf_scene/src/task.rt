@@ -17,7 +17,7 @@ use std::alloc::{AllocError, Global};
 use std::marker::Model;
 use swf_document::{
     Case, Document, ErrorRef, Flow, ForSpec, ForkSpec, Kind, ListenSpec, Listing, Named, Task,
-    Tasks, Template, TrySpec,
+    Tasks, Template, TrySpec, unboxed,
 };
 use swf_expr::Expr;
 use swf_text::Place;
@@ -111,7 +111,7 @@ impl TaskRef {
     {
         match self.parts() {
             Parts::Workflow(_) => None,
-            Parts::Listed(task) => task.common.cond.as_ref(),
+            Parts::Listed(task) => unboxed(&task.common.cond),
         }
     }
 
@@ -299,7 +299,7 @@ impl TaskRef {
         ensures { option_map (λ e. e.now) result ≡ guard_in (kind_of self.now) }
     {
         match self.work() {
-            Work::For(spec) => spec.guard.as_ref(),
+            Work::For(spec) => unboxed(&spec.guard),
             _ => None,
         }
     }

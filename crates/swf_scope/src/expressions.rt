@@ -8,7 +8,7 @@ ghost use Rattle.swf_scope.specs.VariablesView.{names_in};
 use crate::spot::{Spot, tell_unless};
 use crate::variables::{Variables, all_known};
 use std::alloc::{AllocError, Global};
-use swf_document::{FaultKind, Faults, Field, Template, TemplateNode};
+use swf_document::{Boxed, FaultKind, Faults, Field, Template, TemplateNode};
 use swf_expr::Expr;
 
 /// Tells a variable without a value, once.
@@ -35,14 +35,14 @@ pub fn condition(
     alloc: Global,
     variables: &Variables<'_>,
     at: &Spot<'_>,
-    given: &Option<Expr>,
+    given: &Option<Boxed<Expr>>,
     out: &mut Faults,
 ) -> Result<(), AllocError>
     ensures { OnOk result (out.new ≡ out.old ++ condition_faults (names_in variables.now) (place_at at.now) given.now) }
 {
     match given {
         None => Ok(()),
-        Some(expr) => expression(alloc, variables, at, expr, out),
+        Some(given) => expression(alloc, variables, at, given.get(), out),
     }
 }
 

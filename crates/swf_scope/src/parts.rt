@@ -176,7 +176,7 @@ pub fn with(
     ensures { OnOk result (out.new ≡ out.old ++ with_faults (names_in variables.now) (place_at at.now) given.now) }
 {
     match given {
-        Callee::Http(request) => http(alloc, variables, at, request, out),
+        Callee::Http(request) => http(alloc, variables, at, request.get(), out),
         Callee::Function { name: _, with } => filled(alloc, variables, at, with, out),
     }
 }

@@ -249,9 +249,11 @@ fn catch_retry(
 ) -> Result<(), AllocError>
     ensures { OnOk result (out.new ≡ out.old ++ catch_retry_faults (scope_of scope.now) (place_at at.now) given.now.retry) }
 {
-    match &given.retry {
-        None => Ok(()),
-        Some(RetryRef::Named(name)) => {
+    let Some(given) = &given.retry else {
+        return Ok(());
+    };
+    match given.get() {
+        RetryRef::Named(name) => {
             tell_unless(
                 alloc,
                 scope.known.retries.has(name),
@@ -260,6 +262,6 @@ fn catch_retry(
                 out,
             )
         }
-        Some(RetryRef::Written(policy)) => retry(alloc, &*scope.around, at, policy, out),
+        RetryRef::Written(policy) => retry(alloc, &*scope.around, at, policy, out),
     }
 }

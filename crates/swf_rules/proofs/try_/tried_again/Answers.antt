@@ -7,4 +7,4 @@ use Rattle.swf_rules.proofs.try_.tried_again.Goals as goal
 pub returns-in_err-conditions : goal.returns-in_err-conditions
 returns-in_err-conditions c =
     Gives-again (sight_of c.args.scene.now) _ c.from_residual.result c.in_err-conditions.field-0.0 c.from_residual.ensures.1
-    (tried_again-halt (sight_of c.args.scene.now) c.args.task.now c.args.raw.now c.args.input.now c.args.retries c.args.policy.now c.args.vars.now _ _ _ c.in_err-conditions.field-0.0 (sym c.if-allows.true ∙ c.allows.ensures) c.as_ref-when.ensures.value c.as_ref-except.ensures.value c.in_err-conditions.ensures)
+    (tried_again-halt (sight_of c.args.scene.now) c.args.task.now c.args.raw.now c.args.input.now c.args.retries c.args.policy.now c.args.vars.now _ _ _ c.in_err-conditions.field-0.0 (sym c.if-allows.true ∙ c.allows.ensures) c.unboxed-when.ensures c.unboxed-except.ensures c.in_err-conditions.ensures)
