@@ -60,10 +60,20 @@ impl<F: OpenFile + FileExt + AsRawFd + Drop> Opened<F> {
     pub(crate) fn read_at(&self, at: u64, into: &mut [u8]) -> io::Result<usize>
         ensures { IfOk result (λ n. n ≤ length into.old) }
     {
-        let rest = self.size()?.saturating_sub(at);
-        let count = rest.min(into.len() as u64) as usize;
-        self.file.read_exact_at(&mut into[..count], at)?;
-        Ok(count)
+        let mut count = 0;
+        for _ in 0..u64::MAX {
+            if count >= into.len() {
+                return Ok(into.len());
+            }
+            let from = at.saturating_add(count as u64);
+            match self.file.read_at(&mut into[count..], from) {
+                Ok(0) => return Ok(count),
+                Ok(more) => count += more,
+                Err(error) if error.kind() == ErrorKind::Interrupted => {}
+                Err(error) => return Err(error),
+            }
+        }
+        Err(ErrorKind::Interrupted.into())
     }
 
     pub(crate) fn write_at(&mut self, at: u64, bytes: &[u8]) -> io::Result<()>
