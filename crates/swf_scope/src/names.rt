@@ -25,6 +25,14 @@ impl Names {
         }
     }
 
+    // No names, with room for so many.
+    fn with_room(alloc: Global, count: usize) -> Result<Names, AllocError>
+        ensures { IfOk result (λ names. places_in names ≡ nowhere) }
+    {
+        let places = IndexMap::with_capacity(alloc, count)?;
+        Ok(Names { places })
+    }
+
     /// The place of a name.
     pub fn find(&self, name: &Text) -> Option<usize>
         ensures { result ≡ places_in self.now name.now }
@@ -56,7 +64,7 @@ impl Names {
 pub fn names_of_tasks(alloc: Global, tasks: &[Named]) -> Result<Names, AllocError>
     ensures { IfOk result (λ names. places_in names ≡ places_of (task_names (tasks_of tasks.now))) }
 {
-    let mut names = Names::new(alloc);
+    let mut names = Names::with_room(alloc, tasks.len())?;
     for (place, task) in tasks.iter().enumerate() {
         names.add(&task.name, place)?;
     }
@@ -67,7 +75,7 @@ pub fn names_of_tasks(alloc: Global, tasks: &[Named]) -> Result<Names, AllocErro
 pub fn names_of_errors(alloc: Global, errors: &[NamedError]) -> Result<Names, AllocError>
     ensures { IfOk result (λ names. places_in names ≡ places_of (error_names errors.now)) }
 {
-    let mut names = Names::new(alloc);
+    let mut names = Names::with_room(alloc, errors.len())?;
     for (place, error) in errors.iter().enumerate() {
         names.add(&error.name, place)?;
     }
@@ -78,7 +86,7 @@ pub fn names_of_errors(alloc: Global, errors: &[NamedError]) -> Result<Names, Al
 pub fn names_of_retries(alloc: Global, retries: &[NamedRetry]) -> Result<Names, AllocError>
     ensures { IfOk result (λ names. places_in names ≡ places_of (retry_names retries.now)) }
 {
-    let mut names = Names::new(alloc);
+    let mut names = Names::with_room(alloc, retries.len())?;
     for (place, retry) in retries.iter().enumerate() {
         names.add(&retry.name, place)?;
     }

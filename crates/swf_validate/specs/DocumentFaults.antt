@@ -12,7 +12,7 @@ use Rattle.swf_validate.specs.Count.{count_tasks}
 use Rattle.swf_scope.specs.Names.{nowhere, places_of, task_names, error_names, retry_names}
 use Rattle.swf_scope.specs.Scope.{Known, Scope, Spot, under, fault_unless, filled_faults}
 use Rattle.swf_scope.specs.PartFaults.{error_faults, retry_faults}
-use Rattle.swf_validate.specs.TaskFaults.{place_of_task, in_list, named_faults, task_faults}
+use Rattle.swf_validate.specs.TaskFaults.{place_of_task, in_list, list_faults, task_faults}
 
 -- how many tasks a document may have
 abbrev pub most_tasks : ℕ
@@ -68,7 +68,7 @@ use_faults d =
 abbrev pub scope_faults : Document → List Fault
 scope_faults d =
     fault_unless (nat_le (count_tasks d.tasks + count_tasks d.functions) most_tasks) [] TooMany
-    ++ (named_faults (in_list (outermost d) d.tasks) nowhere d.tasks
+    ++ (list_faults (in_list (outermost d) d.tasks) d.tasks
     ++ (filled_faults workflow_variables (codes "input" ∷ codes "from" ∷ []) d.input_from
     ++ (filled_faults output_variables (codes "output" ∷ codes "as" ∷ []) d.output_as
     ++ use_faults d)))

@@ -1,5 +1,5 @@
 -- The faults of scope of a task, in the order of its members, which is that of their names (DSL 1.0.0, reference, "Task" and what follows it).
-use Rattle.std.specs.Prelude.{◌∷◌, [], ◌++◌, ◌+◌, ◌&&◌, ℕ, List, true, not, Option, Some, None, codes, is_some, nat_le}
+use Rattle.std.specs.Prelude.{◌∷◌, [], ◌++◌, ◌+◌, ◌&&◌, ◌==◌, ℕ, Bool, List, true, false, not, Option, Some, None, codes, is_some, nat_le}
 use Rattle.std.specs.Fmt.{decimal}
 use Rattle.swf_document.specs.Task.{Tasks, no_tasks, named, Task, task, Kind, call, do_all, emit, for, fork, listen, raise, run, set, switch, try, Handler, no_handler, handler, Catch, Loop}
 use Rattle.swf_document.specs.declared.common.Case.{Case}
@@ -57,8 +57,11 @@ with_variable s n = record s { around = n ∷ s.around }
 abbrev pub in_rounds : Scope → Loop → Scope
 in_rounds s l = with_variable (with_variable s l.at) l.each
 
+abbrev pub first_places : Tasks → Places
+first_places ts = places_of (task_names ts)
+
 abbrev pub in_list : Scope → Tasks → Scope
-in_list s ts = record s { targets = places_of (task_names ts) }
+in_list s ts = record s { targets = first_places ts }
 
 -- a branch has no targets
 abbrev pub in_fork : Scope → Scope
@@ -107,11 +110,15 @@ middle s c k =
 abbrev pub place_of_task : Task → Spot
 place_of_task (task c k) = c.place
 
+abbrev pub is_at : Option ℕ → ℕ → Bool
+is_at None i = false
+is_at (Some j) i = j == i
+
 abbrev mutual
-  -- the tasks of a list, each with a name of its own
-  pub named_faults : Scope → Places → Tasks → List Fault
-  named_faults s seen no_tasks = []
-  named_faults s seen (named n t ts) = fault_unless (not (is_some (seen n))) (place_of_task t) DuplicateName ++ (task_faults s t ++ named_faults s (added seen n 0) ts)
+  -- the tasks of a list from the i-th on, each with a name that stands there first
+  pub named_faults : Scope → Places → ℕ → Tasks → List Fault
+  named_faults s places i no_tasks = []
+  named_faults s places i (named n t ts) = fault_unless (is_at (places n) i) (place_of_task t) DuplicateName ++ (task_faults s t ++ named_faults s places (i + 1) ts)
 
   pub task_faults : Scope → Task → List Fault
   task_faults s (task c k) = before_export s c.place k ++ (export_faults s c ++ (before_if s c.place k ++ (middle s c k ++ behind_then s c.place k)))
@@ -119,25 +126,29 @@ abbrev mutual
   -- `call`, `do`, `emit` and `catch`
   pub before_export : Scope → Spot → Kind → List Fault
   before_export s p (call c) = callee_faults s.known.functions (under p (codes "call")) c
-  before_export s p (do_all ts) = named_faults (in_list s ts) nowhere ts
+  before_export s p (do_all ts) = named_faults (in_list s ts) (first_places ts) 0 ts
   before_export s p (emit t) = template_faults (own s.around) (under (under (under p (codes "emit")) (codes "event")) (codes "with")) t
-  before_export s p (for l ts) = named_faults (in_list (in_rounds s l) ts) nowhere ts
+  before_export s p (for l ts) = named_faults (in_list (in_rounds s l) ts) (first_places ts) 0 ts
   before_export s p (try c ts h) = handler_faults (with_variable s c.name) h ++ catch_faults (with_variable s c.name) (under p (codes "catch")) c
   before_export s p k = []
 
   pub handler_faults : Scope → Handler → List Fault
   handler_faults s no_handler = []
-  handler_faults s (handler ts) = named_faults (in_list s ts) nowhere ts
+  handler_faults s (handler ts) = named_faults (in_list s ts) (first_places ts) 0 ts
 
   -- `for` and `fork`
   pub before_if : Scope → Spot → Kind → List Fault
   before_if s p (for l ts) = expression_faults (own s.around) (under (under p (codes "for")) (codes "in")) l.items
-  before_if s p (fork c ts) = fault_unless (nat_le (count_list ts) most_branches) (under p (codes "fork")) TooMany ++ named_faults (in_fork s) nowhere ts
+  before_if s p (fork c ts) = fault_unless (nat_le (count_list ts) most_branches) (under p (codes "fork")) TooMany ++ named_faults (in_fork s) (first_places ts) 0 ts
   before_if s p k = []
 
   -- `try`, `while` and `with`
   pub behind_then : Scope → Spot → Kind → List Fault
   behind_then s p (call c) = with_faults (own s.around) (under p (codes "with")) c
   behind_then s p (for l ts) = condition_faults (own (in_rounds s l).around) (under p (codes "while")) l.guard
-  behind_then s p (try c ts h) = named_faults (in_list s ts) nowhere ts
+  behind_then s p (try c ts h) = named_faults (in_list s ts) (first_places ts) 0 ts
   behind_then s p k = []
+
+-- all tasks of a list
+abbrev pub list_faults : Scope → Tasks → List Fault
+list_faults s ts = named_faults s (first_places ts) 0 ts

@@ -2,12 +2,12 @@
 ghost use Rattle.std.specs.Prelude.{◌≡◌, ◌++◌, ◌∷◌, OnOk, codes, nat_le};
 ghost use Rattle.swf_document.specs.TaskNode.{kind_of, task_of, tasks_of, handler_of};
 ghost use Rattle.swf_document.specs.declared.fault.FaultKind.TheVariants.{TooMany};
-ghost use Rattle.swf_scope.specs.Names.{nowhere};
+ghost use Rattle.swf_scope.specs.NamesView.{places_in};
 ghost use Rattle.swf_scope.specs.Scope.{own, under, fault_unless, expression_faults, condition_faults, template_faults};
 ghost use Rattle.swf_scope.specs.ScopeView.{scope_of, caught_by};
 ghost use Rattle.swf_scope.specs.Spots.{place_at};
 ghost use Rattle.swf_scope.specs.PartFaults.{with_faults};
-ghost use Rattle.swf_validate.specs.TaskFaults.{named_faults, task_faults, before_export, before_if, behind_then, handler_faults, catch_faults, in_list, in_fork, with_variable, count_list, most_branches};
+ghost use Rattle.swf_validate.specs.TaskFaults.{list_faults, named_faults, is_at, task_faults, before_export, before_if, behind_then, handler_faults, catch_faults, in_list, in_fork, with_variable, count_list, most_branches};
 
 use crate::common::{export, middle};
 use crate::kinds::{caught, fork_size};
@@ -19,6 +19,7 @@ use swf_scope::{
     Names, Scope, Spot, Standard, Variables, callee, condition, expression, names_of_tasks,
     tell_unless, template, with,
 };
+use swf_text::Text;
 
 /// The faults of a list of tasks, each of which may go to any of them.
 #[cycle(tasks)]
@@ -29,34 +30,41 @@ pub fn list(
     given: &Tasks,
     out: &mut Faults,
 ) -> Result<(), AllocError>
-    ensures { OnOk result (out.new ≡ out.old ++ named_faults (in_list (scope_of scope.now) given.now) nowhere given.now) }
+    ensures { OnOk result (out.new ≡ out.old ++ list_faults (in_list (scope_of scope.now) given.now) given.now) }
 {
-    let targets = names_of_tasks(alloc, given.as_slice())?;
+    let places = names_of_tasks(alloc, given.as_slice())?;
     let inner = Scope {
         known: &*scope.known,
-        targets: &targets,
+        targets: &places,
         in_branch: scope.in_branch,
         around: &*scope.around,
     };
-    named(alloc, &inner, given.as_slice(), out)
+    named(alloc, &inner, &places, given.as_slice(), out)
 }
 
-/// The faults of named tasks.
+/// Whether a name stands first at a position of its list.
+fn stands_first(places: &Names, name: &Text, position: usize) -> bool
+    ensures { result ≡ is_at (places_in places.now name.now) position }
+{
+    places.find(name) == Some(position)
+}
+
+/// The faults of named tasks, by the place at which each name stands first.
 #[cycle(tasks)]
 #[inline(never)]
 fn named(
     alloc: Global,
     scope: &Scope<'_>,
+    places: &Names,
     given: &[Named],
     out: &mut Faults,
 ) -> Result<(), AllocError>
-    ensures { OnOk result (out.new ≡ out.old ++ named_faults (scope_of scope.now) nowhere (tasks_of given.now)) }
+    ensures { OnOk result (out.new ≡ out.old ++ named_faults (scope_of scope.now) (places_in places.now) 0 (tasks_of given.now)) }
 {
-    let mut seen = Names::new(alloc);
-    for one in given {
-        let fresh = seen.add(&one.name, 0)?;
+    for (position, one) in given.iter().enumerate() {
+        let first = stands_first(places, &one.name, position);
         let at = Spot::Task(&one.task.common.place);
-        tell_unless(alloc, fresh, &at, FaultKind::DuplicateName, out)?;
+        tell_unless(alloc, first, &at, FaultKind::DuplicateName, out)?;
         task(alloc, &*scope, &one.task, out)?;
     }
     Ok(())
@@ -142,7 +150,7 @@ fn round<'x>(
     given: &'x ForSpec,
     out: &mut Faults,
 ) -> Result<(), AllocError>
-    ensures { OnOk result (out.new ≡ out.old ++ named_faults (in_list (with_variable (with_variable (scope_of scope.now) given.now.at) given.now.each) given.now.tasks) nowhere given.now.tasks) }
+    ensures { OnOk result (out.new ≡ out.old ++ list_faults (in_list (with_variable (with_variable (scope_of scope.now) given.now.at) given.now.each) given.now.tasks) given.now.tasks) }
 {
     let at = Variables::Name(&given.at, &*scope.around);
     let each = Variables::Name(&given.each, &at);
@@ -219,9 +227,10 @@ fn fork(
     given: &ForkSpec,
     out: &mut Faults,
 ) -> Result<(), AllocError>
-    ensures { OnOk result (out.new ≡ out.old ++ (fault_unless (nat_le (count_list given.now.branches) most_branches) (under (place_at at.now) (codes "fork")) TooMany ++ named_faults (in_fork (scope_of scope.now)) nowhere given.now.branches)) }
+    ensures { OnOk result (out.new ≡ out.old ++ (fault_unless (nat_le (count_list given.now.branches) most_branches) (under (place_at at.now) (codes "fork")) TooMany ++ list_faults (in_fork (scope_of scope.now)) given.now.branches)) }
 {
     fork_size(alloc, &Spot::Word(&*at, "fork"), &given.branches, out)?;
+    let places = names_of_tasks(alloc, given.branches.as_slice())?;
     let targets = Names::new(alloc);
     let inner = Scope {
         known: &*scope.known,
@@ -229,7 +238,7 @@ fn fork(
         in_branch: true,
         around: &*scope.around,
     };
-    named(alloc, &inner, given.branches.as_slice(), out)
+    named(alloc, &inner, &places, given.branches.as_slice(), out)
 }
 
 /// The faults of the members `try`, `while` and `with`.

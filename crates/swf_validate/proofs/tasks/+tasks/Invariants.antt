@@ -2,7 +2,6 @@
 use Rattle.std.proofs.Common.{◌≡◌, ◌+◌, ◌*◌, ◌++◌, drop}
 use Rattle.swf_document.specs.Task.{weight_tasks, weight_task, weight_kind, weight_handler}
 use Rattle.swf_document.specs.TaskNode.{kind_of, task_of, tasks_of, handler_of}
-use Rattle.swf_scope.specs.Names.{nowhere}
 use Rattle.swf_scope.specs.NamesView.{places_in}
 use Rattle.swf_scope.specs.ScopeView.{scope_of}
 use Rattle.swf_validate.specs.TaskFaults.{named_faults}
@@ -35,6 +34,6 @@ decreases-catch l = 8 * weight_handler (handler_of l.given.now.handler) + 8
 abbrev pub decreases-fork : goal.decreases-fork
 decreases-fork l = 8 * weight_tasks l.given.now.branches + 8
 
-abbrev pub invariant-named-loop-one : goal.invariant-named-loop-one
-invariant-named-loop-one l =
-    l.out ++ named_faults (scope_of l.scope) (places_in l.seen) (tasks_of (drop l.one-index l.given)) ≡ l.fn.out ++ named_faults (scope_of l.scope) nowhere (tasks_of l.given)
+abbrev pub invariant-named-loop-position : goal.invariant-named-loop-position
+invariant-named-loop-position l =
+    l.out ++ named_faults (scope_of l.scope) (places_in l.places) l.position (tasks_of (drop l.position l.given)) ≡ l.fn.out ++ named_faults (scope_of l.scope) (places_in l.places) 0 (tasks_of l.given)
