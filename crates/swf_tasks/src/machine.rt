@@ -47,10 +47,10 @@ use thiserror::Error;
 /// An instance. Contracts see it as the instance of the definitions.
 #[derive(Drop)]
 pub struct Machine {
-    setting: Setting,
     /// On each strand the tasks that run, and at the top what stands innermost. The branches of a `fork` are the strands below its
     /// own.
     forest: Forest<Layer>,
+    setting: Setting,
     /// The strand that took the last step.
     turn: Strand,
 }
