@@ -16,7 +16,7 @@ use Rattle.swf_turns.specs.Waits.{is_set, is_over, timer_cmp, Woken}
 
 -- a timer says that
 abbrev says : ℕ → ℕ → Timer → Bool
-says n m t = (n == t.number) && (m == t.until.0)
+says n m t = (n == t.number.0) && (m == t.until.0)
 
 -- what holds of a call that succeeded
 pub on_ok : {T E P : Type 0} (r : Result T E) (x : T) → r ≡ Ok x → OnOk r P → P
@@ -30,12 +30,12 @@ set_pushed t xs ys p n m = sym (list_any-IsPermutation (says n m) (t ∷ xs) ys 
 set_popped : (t : Timer) (xs ys : List Timer) → IsPermutation xs (t ∷ ys) → (n m : ℕ) → is_set n m xs ≡ (says n m t || is_set n m ys)
 set_popped t xs ys p n m = list_any-IsPermutation (says n m) xs (t ∷ ys) p
 
-says_itself : (t : Timer) → says t.number t.until.0 t ≡ true
-says_itself t = and_from (t.number == t.number) (t.until.0 == t.until.0) (eq-eqb t.number t.number refl) (eq-eqb t.until.0 t.until.0 refl)
+says_itself : (t : Timer) → says t.number.0 t.until.0 t ≡ true
+says_itself t = and_from (t.number.0 == t.number.0) (t.until.0 == t.until.0) (eq-eqb t.number.0 t.number.0 refl) (eq-eqb t.until.0 t.until.0 refl)
 
 -- the greatest timer is the first
 not_before : (t u : Timer) → is_lt (timer_cmp t u) ≡ false → t.until.0 ≤ u.until.0
-not_before t u e = ge_from_not_lt u.until.0 t.until.0 (first_not_lt (nat_cmp u.until.0 t.until.0) (nat_cmp t.number u.number) e)
+not_before t u e = ge_from_not_lt u.until.0 t.until.0 (first_not_lt (nat_cmp u.until.0 t.until.0) (nat_cmp u.number.0 t.number.0) e)
   where
     first_not_lt : (a b : Ordering) → is_lt (ordering_then a b) ≡ false → is_lt a ≡ false
     first_not_lt Less b e = e
@@ -72,15 +72,15 @@ woken_none moment queue timers = record {
 
 -- one timer more is taken
 pub woken_more : (moment : ℕ) (queue next more : List ℕ) (timers left rest : List Timer) (t : Timer) → Woken moment queue next timers left → IsPermutation left (t ∷ rest) → t.until.0 ≤ moment →
-    ((n : ℕ) → is_among n more ≡ (is_among n next || (n == t.number))) → Woken moment queue more timers rest
+    ((n : ℕ) → is_among n more ≡ (is_among n next || (n == t.number.0))) → Woken moment queue more timers rest
 woken_more moment queue next more timers left rest t w p due among = record {
-  later = λ n m e. sym (ap (λ b. b || is_set n m rest) (false_from_ne_true (says n m t) (λ s. absurd (omega (arith, due, leb-false m moment e, eqb-true m t.until.0 (and_parts (n == t.number) (m == t.until.0) s).1)))))
+  later = λ n m e. sym (ap (λ b. b || is_set n m rest) (false_from_ne_true (says n m t) (λ s. absurd (omega (arith, due, leb-false m moment e, eqb-true m t.until.0 (and_parts (n == t.number.0) (m == t.until.0) s).1)))))
       ∙ sym (set_popped t left rest p n m) ∙ w.later n m e;
   only = λ n m e. w.only n m (set_popped t left rest p n m ∙ or_right (says n m t) (is_set n m rest) e);
-  kept = λ n e. among n ∙ or_left (is_among n next) (n == t.number) (w.kept n e);
+  kept = λ n e. among n ∙ or_left (is_among n next) (n == t.number.0) (w.kept n e);
   woken = λ n m e f. among n ∙ elim (cases_Bool (is_set n m left)) [
-    | inl s ↦ or_right (is_among n next) (n == t.number) (and_parts (n == t.number) (m == t.until.0) (taken n m f s)).0
-    | inr s ↦ or_left (is_among n next) (n == t.number) (w.woken n m e s)
+    | inl s ↦ or_right (is_among n next) (n == t.number.0) (and_parts (n == t.number.0) (m == t.until.0) (taken n m f s)).0
+    | inr s ↦ or_left (is_among n next) (n == t.number.0) (w.woken n m e s)
   ];
 }
   where
@@ -91,6 +91,6 @@ woken_more moment queue next more timers left rest t w p due among = record {
     ]
 
 -- the number of a timer that is taken
-pub popped_known : (t : Timer) (left rest timers : List Timer) (moment count : ℕ) (queue next : List ℕ) → Woken moment queue next timers left → IsPermutation left (t ∷ rest) → ((n m : ℕ) → is_set n m timers ≡ true → n < count) → t.number < count
+pub popped_known : (t : Timer) (left rest timers : List Timer) (moment count : ℕ) (queue next : List ℕ) → Woken moment queue next timers left → IsPermutation left (t ∷ rest) → ((n m : ℕ) → is_set n m timers ≡ true → n < count) → t.number.0 < count
 popped_known t left rest timers moment count queue next w p known =
-    known t.number t.until.0 (w.only t.number t.until.0 (set_popped t left rest p t.number t.until.0 ∙ or_left (says t.number t.until.0 t) (is_set t.number t.until.0 rest) (says_itself t)))
+    known t.number.0 t.until.0 (w.only t.number.0 t.until.0 (set_popped t left rest p t.number.0 t.until.0 ∙ or_left (says t.number.0 t.until.0 t) (is_set t.number.0 t.until.0 rest) (says_itself t)))

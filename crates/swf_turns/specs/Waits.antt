@@ -8,7 +8,7 @@ use Rattle.swf_turns.specs.declared.timers.Timer.{Timer}
 use Rattle.swf_turns.specs.Line.{is_among}
 
 abbrev timer_code : Coded Timer
-timer_code = code_by (ℕ × ℕ) (coded× coded_ℕ coded_ℕ) (λ t. (t.number, t.until.0)) (λ p. record { until = record { 0 = p.1 }; number = p.0 }) (λ _. refl)
+timer_code = code_by (ℕ × ℕ) (coded× coded_ℕ coded_ℕ) (λ t. (t.number.0, t.until.0)) (λ p. record { until = record { 0 = p.1 }; number = record { 0 = p.0 } }) (λ _. refl)
 
 pub record Alarms : Type 0 where
   pub set : List Timer
@@ -20,15 +20,15 @@ alarms_code = code_by (List Timer × (ℕ × ℕ)) (coded× (coded_list timer_co
 
 -- a timer says that this number waits until that moment
 abbrev pub is_set : ℕ → ℕ → List Timer → Bool
-is_set n m timers = list_any (λ t. (n == t.number) && (m == t.until.0)) timers
+is_set n m timers = list_any (λ t. (n == t.number.0) && (m == t.until.0)) timers
 
 -- some timer's moment is reached
 abbrev pub is_over : ℕ → List Timer → Bool
 is_over moment timers = list_any (λ t. nat_le t.until.0 moment) timers
 
--- the earlier timer is the greater
+-- the earlier timer is the greater, and of equal ones that of the smaller number
 abbrev pub timer_cmp : Timer → Timer → Ordering
-timer_cmp a b = ordering_then (nat_cmp b.until.0 a.until.0) (nat_cmp a.number b.number)
+timer_cmp a b = ordering_then (nat_cmp b.until.0 a.until.0) (nat_cmp b.number.0 a.number.0)
 
 -- at a moment no timer is left that was set until then, those that left are in the queue, and all others stay
 pub record Woken (moment : ℕ) (queue next : List ℕ) (timers left : List Timer) : Type 0 where

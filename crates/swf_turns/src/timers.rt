@@ -10,11 +10,12 @@ use std::cmp::Reverse;
 use std::collections::BinaryHeap;
 use std::marker::Model;
 
-/// The moment until which the instance of a number waits, in milliseconds. The earlier timer is the greater.
+/// The moment until which the instance of a number waits, in milliseconds. The earlier timer is the greater, and of equal ones that of
+/// the instance that was started first.
 #[derive(Clone, Copy, PartialEq, Eq, PartialOrd, Ord)]
 struct Timer {
     until: Reverse<u64>,
-    number: usize,
+    number: Reverse<usize>,
 }
 
 /// The timers of instances, each until its moment in milliseconds. Contracts see what is set, how many timers there are, and
@@ -71,7 +72,7 @@ impl Timers {
         requires { 0 < self.old.room }
         ensures { (n m : ℕ) → is_set n m self.new.set ≡ (((n == number) && (m == until)) || is_set n m self.old.set) }
     {
-        let until = Reverse(until);
+        let (until, number) = (Reverse(until), Reverse(number));
         self.heap.push(Timer { until, number }).unwrap();
     }
 
@@ -94,7 +95,7 @@ impl Timers {
         ensures none { is_over moment self.new.set ≡ false }
     {
         while let Some(timer) = pop_due(&mut self.heap, moment) {
-            turns.put(timer.number);
+            turns.put(timer.number.0);
         }
     }
 }

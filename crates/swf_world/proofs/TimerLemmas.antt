@@ -13,7 +13,7 @@ use Rattle.swf_world.proofs.WaitLemmas.{enabled_later, nobody_due}
 
 -- a timer says that
 abbrev says : ℕ → ℕ → Timer → Bool
-says n m t = (n == t.number) && (m == t.until.0)
+says n m t = (n == t.number.0) && (m == t.until.0)
 
 -- where none is, none is set until one that is reached
 pub none_over : (moment : ℕ) (timers : List Timer) → is_over moment timers ≡ false → (n m : ℕ) → nat_le m moment ≡ true → is_set n m timers ≡ false
@@ -22,7 +22,7 @@ none_over moment timers e n m w = false_from_ne_true (is_set n m timers) (λ s. 
     over_with : (ts : List Timer) → is_set n m ts ≡ true → is_over moment ts ≡ true
     over_with [] s = cc
     over_with (t ∷ ts) s = elim (or_cases (says n m t) (is_set n m ts) s) [
-      | inl h ↦ or_left (nat_le t.until.0 moment) (is_over moment ts) (le-leb t.until.0 moment (omega (arith, eqb-true m t.until.0 (and_parts (n == t.number) (m == t.until.0) h).1, leb-true m moment w)))
+      | inl h ↦ or_left (nat_le t.until.0 moment) (is_over moment ts) (le-leb t.until.0 moment (omega (arith, eqb-true m t.until.0 (and_parts (n == t.number.0) (m == t.until.0) h).1, leb-true m moment w)))
       | inr h ↦ or_right (nat_le t.until.0 moment) (is_over moment ts) (over_with ts h)
     ]
 
