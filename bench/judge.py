@@ -3,7 +3,7 @@ lines for a text. Faults are gathered in any order, and sorted by their places a
 import json
 import re
 
-from expressions import Bad, free, parse
+from expressions import Bad, KEYWORDS, free, parse
 KINDS = [
     "missing",
     "wrong-kind",
@@ -40,7 +40,7 @@ PRE = NUMBER[:-1] + "|[0-9]*[A-Za-z-]" + LETTERS + "*)"
 VERSION = re.compile("[.]".join([NUMBER] * 3) + "(-" + PRE + "([.]" + PRE + ")*)?([+]" + LETTERS + "+([.]" + LETTERS + "+)*)?")
 LABEL = re.compile("[a-z0-9]([a-z0-9-]{0,61}[a-z0-9])?")
 NAME = re.compile("[A-Za-z_][A-Za-z0-9_]*")
-RESERVED = {"context", "input", "output", "task", "workflow"}
+RESERVED = {"context", "input", "output", "task", "workflow"} | KEYWORDS
 
 
 def duration(v):
