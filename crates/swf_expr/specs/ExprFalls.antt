@@ -6,8 +6,8 @@ use Rattle.swf_expr.specs.Expr.{Tree}
 use Rattle.swf_expr.specs.declared.expr.ExprNode.{ExprNode}
 use Rattle.swf_expr.specs.declared.expr.ExprNode.TheVariants as nodes
 use Rattle.swf_expr.specs.declared.expr.ExprMember.{ExprMember}
-use Rattle.swf_expr.specs.declared.expr.Expr.TheDeep.{deep-ExprNode, deep-ExprMember}
-use Rattle.swf_expr.specs.ExprNode.{node_tree, trees_of, pairs_of, value_or_here, weight, weight_trees, weight_pairs}
+use Rattle.swf_expr.specs.declared.constant.ConstantObject.TheDeep.{deep-ExprNode, deep-ExprMember}
+use Rattle.swf_expr.specs.ExprNode.{node_tree, trees_of, pairs_of, value_or_here, weight, weight_trees, weight_pairs, weight_object}
 
 -- no argument is heavier than all of them together
 most_trees : (es : List Tree) → most (λ e. weight e + 1) es ≤ weight_trees (trees_of es) + 1
@@ -23,6 +23,9 @@ member_falls k (Some v) = omega arith
 most_members : (ms : List ExprMember) → most deep-ExprMember ms ≤ weight_pairs (pairs_of ms) + 1
 most_members [] = omega arith
 most_members (m ∷ ms) = omega (arith, most_members ms, member_falls m.key m.value)
+
+pub falls_object : (ms : List ExprMember) → max (most deep-ExprMember ms) 0 ≤ weight_object (pairs_of ms)
+falls_object ms = omega (arith, most_members ms)
 
 pub falls : (n : ExprNode) → max (deep-ExprNode n) 0 ≤ weight (node_tree n)
 falls nodes.Here = omega arith
@@ -41,6 +44,7 @@ falls (nodes.Neg a) = omega arith
 falls (nodes.List None) = omega arith
 falls (nodes.List (Some a)) = omega arith
 falls (nodes.Object v) = omega (arith, most_members v.items)
+falls (nodes.Constant c) = omega arith
 falls (nodes.If c a None) = omega arith
 falls (nodes.If c a (Some b)) = omega arith
 falls (nodes.Bind a x b) = omega arith

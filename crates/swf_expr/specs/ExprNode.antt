@@ -35,6 +35,7 @@ node_tree (nodes.Neg a) = neg a.value
 node_tree (nodes.List None) = empty_list
 node_tree (nodes.List (Some a)) = list_of a.value
 node_tree (nodes.Object v) = object_of (pairs_of v.items)
+node_tree (nodes.Constant c) = object_of c
 node_tree (nodes.If c a None) = if_then c.value a.value
 node_tree (nodes.If c a (Some b)) = if_else c.value a.value b.value
 node_tree (nodes.Bind a x b) = bind a.value x b.value
@@ -71,3 +72,7 @@ abbrev mutual
   pub weight_pairs : Pairs → ℕ
   weight_pairs no_pairs = 0
   weight_pairs (pair k v ps) = weight k + weight v + weight_pairs ps
+
+-- the same of the members of an object
+abbrev pub weight_object : Pairs → ℕ
+weight_object ps = 2 + weight_pairs ps

@@ -2,6 +2,7 @@
 ghost use Rattle.std.specs.Prelude.{◌≡◌, true, IfOk};
 
 use crate::builtin::Builtin;
+use crate::constant::ConstantObject;
 use crate::name::Name;
 use crate::op::Op;
 use std::alloc::{AllocError, Global};
@@ -37,6 +38,8 @@ pub enum ExprNode {
     Neg(Box<Expr>),
     List(Option<Box<Expr>>),
     Object(Vec<ExprMember>),
+    /// An object whose keys and values are literals.
+    Constant(ConstantObject),
     If(Box<Expr>, Box<Expr>, Option<Box<Expr>>),
     Bind(Box<Expr>, Name, Box<Expr>),
     /// A built-in, with as many arguments as it has.
@@ -220,12 +223,15 @@ impl Expr {
         })
     }
 
-    pub fn object_of(members: Vec<ExprMember>) -> Expr
+    /// An object. Where its keys and values are literals, it keeps the object that they make, unless no memory is found.
+    pub fn object_of(alloc: Global, members: Vec<ExprMember>) -> Expr
         ensures { result ≡ object_of (pairs_of members.items) }
     {
-        Expr {
-            node: ExprNode::Object(members),
-        }
+        let node = match ConstantObject::of(alloc, members) {
+            Ok(constant) => ExprNode::Constant(constant),
+            Err(members) => ExprNode::Object(members),
+        };
+        Expr { node }
     }
 
     pub fn if_then(alloc: Global, condition: Expr, then: Expr) -> Result<Expr, AllocError>

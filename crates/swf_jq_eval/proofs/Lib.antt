@@ -3,3 +3,4 @@ pub mod Applied
 pub mod Calls
 pub mod Scopes
 pub mod Weights
+pub mod Constants

@@ -10,7 +10,7 @@ ghost use Rattle.swf_jq_eval.specs.Goes.{Goes, Comes};
 ghost use Rattle.swf_jq_eval.specs.Steps.{truth};
 
 use crate::call::call;
-use crate::object::{Chosen, object};
+use crate::object::{Chosen, constant_object, object};
 use crate::outputs::{Ending, Out, Outputs, Stop, count, give, make, make_truth, over};
 use crate::scope::{Context, Scope, give_named};
 use crate::steps::{Step, each_step};
@@ -69,6 +69,7 @@ fn level(level: &ExprNode, at: &Context<'_>, out: &mut Out) -> Result<Ending, St
         ExprNode::List(None) => make_list(at.alloc, Vec::new(at.alloc), out),
         ExprNode::List(Some(of)) => list_of(of, at, out),
         ExprNode::Object(members) => object(members, &Chosen::Nothing, at, out),
+        ExprNode::Constant(constant) => constant_object(constant, at, out),
         ExprNode::If(condition, first, second) => choose(condition, first, second, at, out),
         ExprNode::Bind(of, name, inside) => bind(of, name.text(), inside, at, out),
         ExprNode::Apply(builtin, arguments) => call(*builtin, arguments, at, out),

@@ -1,7 +1,7 @@
 // The objects that the members of an expression make.
 ghost use Rattle.std.specs.Prelude.{◌≡◌, IfOk};
 ghost use Rattle.swf_expr.specs.ExprNode.{pairs_of, value_or_here};
-ghost use Rattle.swf_value.specs.Value.{object};
+ghost use Rattle.swf_value.specs.Value.{object, no_members};
 ghost use Rattle.swf_jq_builtins.specs.Operations.{index_of};
 ghost use Rattle.swf_jq_eval.specs.Run.{turn, over, answered, onward};
 ghost use Rattle.swf_jq_eval.specs.Outputs.{run, objects, with_member};
@@ -14,7 +14,7 @@ use crate::outputs::{Ending, Out, Outputs, Stop, count, make, over, raise};
 use crate::scope::Context;
 use crate::steps::{Step, each_step};
 use std::alloc::{AllocError, Global};
-use swf_expr::{Expr, ExprMember};
+use swf_expr::{ConstantObject, Expr, ExprMember};
 use swf_text::Text;
 use swf_value::{Json, JsonNode};
 
@@ -44,6 +44,23 @@ pub fn object(
         }
         Some((member, rest)) => keyed(member, rest, chosen, at, out),
     }
+}
+
+/// The object of members that are literals, in the turns that these take.
+#[inline(never)]
+#[tactic(auto, using(crate::proofs::Constants::constant_goes, crate::proofs::Constants::keys_stop, crate::proofs::Constants::values_stop))]
+pub fn constant_object(
+    constant: &ConstantObject,
+    at: &Context<'_>,
+    out: &mut Out,
+) -> Result<Ending, Stop>
+    ensures { Goes out.old (objects constant.now (object no_members) (names at.now) at.now.input.now) out.new result }
+{
+    let made = constant.object();
+    let members = constant.members().len() as u64;
+    count(&mut out.turns, members)?;
+    count(&mut out.turns, members)?;
+    make(at.alloc, made.copy()?, out)
 }
 
 /// The objects that a member and those behind it make.

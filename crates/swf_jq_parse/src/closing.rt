@@ -61,7 +61,7 @@ pub fn close_brace(stack: &mut Stack, of: Expr, at: usize) -> Result<Mode, Parse
     match stack.pop() {
         Some(Item::Value(members, key)) => {
             let members = members.with(key, Some(inner))?;
-            Ok(Mode::Have(members.into_expr()))
+            Ok(Mode::Have(members.into_expr(stack.alloc())))
         }
         other => refuse(other, at),
     }

@@ -31,7 +31,7 @@ pub fn step(stack: &mut Stack, mode: Mode, at: usize, token: Token) -> Result<Mo
         Mode::Called(name, place) => called_next(stack, name, place, at, token),
         Mode::Member(members, first) => member(stack, members, first, at, token),
         Mode::AfterKey(members, key, alone) => after_key(stack, members, key, alone, at, token),
-        Mode::MemberEnd(members) => member_end(members, at, token),
+        Mode::MemberEnd(members) => member_end(stack.alloc(), members, at, token),
         Mode::WantVar(of) => var_next(of, at, token),
         Mode::WantPipe(of, name) => bar_next(stack, of, name, at, token),
     }

@@ -74,7 +74,7 @@ fn member_sign(
         }
         Sign::RightBrace => {
             if first {
-                Ok(Mode::Have(members.into_expr()))
+                Ok(Mode::Have(members.into_expr(stack.alloc())))
             } else {
                 Err(ParseFault::Syntax { at })
             }
@@ -105,19 +105,24 @@ pub fn after_key(
                 return Err(ParseFault::Syntax { at });
             }
             let members = members.with(key, None)?;
-            member_end(members, at, token)
+            member_end(stack.alloc(), members, at, token)
         }
     }
 }
 
 /// What may follow a whole member.
 #[tactic(auto, unfolding(crate::specs::Member::member_end))]
-pub fn member_end(members: Members, at: usize, token: Token) -> Result<Mode, ParseFault>
+pub fn member_end(
+    alloc: Global,
+    members: Members,
+    at: usize,
+    token: Token,
+) -> Result<Mode, ParseFault>
     ensures { Gives (λ m. m) result (member_end members at token) }
 {
     match token {
         Token::Sign(Sign::Comma) => Ok(Mode::Member(members, false)),
-        Token::Sign(Sign::RightBrace) => Ok(Mode::Have(members.into_expr())),
+        Token::Sign(Sign::RightBrace) => Ok(Mode::Have(members.into_expr(alloc))),
         other => refuse(other, at),
     }
 }

@@ -107,10 +107,10 @@ impl Members {
     }
 
     /// The object of these members.
-    pub fn into_expr(self) -> Expr
+    pub fn into_expr(self, alloc: Global) -> Expr
         ensures { result ≡ object_of self }
     {
-        Expr::object_of(self.all)
+        Expr::object_of(alloc, self.all)
     }
 }
 

@@ -61,6 +61,7 @@ fn write(expr: &Expr, out: &mut Out) -> Result<(), AllocError>
         ExprNode::List(None) => out.text.push_ascii("[]"),
         ExprNode::List(Some(of)) => write_between("[", of, "]", out),
         ExprNode::Object(members) => write_object(members, out),
+        ExprNode::Constant(constant) => write_object(constant.members(), out),
         ExprNode::If(condition, then, None) => write_if_then(condition, then, out),
         ExprNode::If(condition, then, Some(otherwise)) => {
             write_if_else(condition, then, otherwise, out)
@@ -231,8 +232,8 @@ fn is_term(expr: &Expr) -> bool
 {
     match expr.node() {
         ExprNode::Here | ExprNode::Lit(_) | ExprNode::Var(_) => true,
-        ExprNode::List(_) | ExprNode::Object(_) | ExprNode::If(_, _, _) => true,
-        ExprNode::Apply(_, _) => true,
+        ExprNode::List(_) | ExprNode::Object(_) | ExprNode::Constant(_) => true,
+        ExprNode::If(_, _, _) | ExprNode::Apply(_, _) => true,
         _ => false,
     }
 }

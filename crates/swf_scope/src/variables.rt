@@ -61,6 +61,7 @@ pub fn all_known(expr: &Expr, variables: &Variables<'_>) -> bool
 {
     match expr.node() {
         ExprNode::Here | ExprNode::Lit(_) | ExprNode::List(None) => true,
+        ExprNode::Constant(constant) => members_known(constant.members(), &*variables),
         ExprNode::Var(name) => has(variables, name.text()),
         ExprNode::Iterate(of)
         | ExprNode::Maybe(of)
