@@ -1,289 +1,426 @@
--- What is read is an expression of the grammar.
-use Rattle.std.proofs.Common.{◌≡◌, ◌∙◌, ℕ, List, [], ◌∷◌, ◌++◌, Bool, true, false, refl, ap, sym, Option, Some, None, Ok, Err, subst, append-nil, append_assoc}
-use Rattle.swf_expr.specs.Expr.{Tree, no_trees, Pairs, no_pairs, here, lit, var, index, iterate, maybe, object_of, apply}
-use Rattle.swf_value.specs.Value.{text}
-use Rattle.swf_expr.specs.declared.builtin.Builtin.{Builtin}
-use Rattle.swf_jq_parse.specs.Closing.{applied, applied_to, paren_closed, bracket_closed, brace_closed, next_argument, then_next, elif_next, else_next, if_ended}
-use Rattle.swf_jq_tokens.specs.Gives.{◌>>=◌}
-use Rattle.swf_jq_parse.specs.Grammar
-use Rattle.swf_jq_parse.specs.Grammar.{Tokens, Pipe, Comma, Alt, Or, And, Cmp, Sum, Prod, Unary, Post, Term, ArgumentsOf, Branches, TextOf, Pieces, MembersOf, MemberOf, KeyOf, ValueOf}
-use Rattle.swf_jq_parse.specs.GrammarLaws as Laws
-use Rattle.swf_jq_parse.specs.GrammarLaws.{tokens, IsSound}
-use Rattle.swf_jq_parse.specs.Joining.{Step, reduce, in_value}
-use Rattle.swf_jq_parse.specs.Machine.{run, step, finish, called_next, whole, whole_at, unmoved, ends_at}
-use Rattle.swf_jq_parse.specs.Member.{key_lit, member, member_sign, member_end, after_key, variable_member, alone_end}
-use Rattle.swf_jq_parse.specs.Operand.{named}
-use Rattle.swf_jq_parse.specs.Rows.{pair_last}
-use Rattle.swf_jq_parse.specs.Suffix.{have, have_sign, have_keyword, dotted, suffix}
-use Rattle.swf_jq_parse.specs.TextPart.{resumed, closed}
+-- What is read is an expression of the grammar, and a fault is that of its token: what was read says what is open.
+use Rattle.std.proofs.Common.{◌≡◌, ◌⊎◌, ℕ, length, List, [], ◌∷◌, ◌++◌, Bool, true, false, refl, nat_le, Option, Some, None, Ok, Err, subst, inl, inr, arith}
+use Rattle.swf_expr.specs.Expr.{Tree, here, index, iterate, empty_list, list_of, no_trees, bind, object_of, if_else, apply}
+use Rattle.swf_expr.specs.ExprNode.{trees_of, pairs_of}
+use Rattle.swf_expr.specs.declared.expr.ExprMember.{ExprMember}
+use Rattle.swf_jq_parse.specs.Grammar.{Tokens, Level, Post, Term, Branches, TextOf, Pieces, MembersOf, MemberOf, KeyOf, ArgumentsOf}
+use Rattle.swf_jq_parse.specs.GrammarLaws.{Placed, tokens, ArgumentsBefore, FaultAt}
+use Rattle.swf_jq_parse.specs.Machine.{Step, pending_level, pending_right, joined, context, opening_level, step, want, want_name, want_keyword, want_sign, first, emptied, have, goes_on, close, go_on, text_end, followed, suffix, dotted, called_next, applied, applied_to, member, member_end, after_key, bound, piped, unmoved, wrong, misplaced}
+use Rattle.swf_jq_parse.specs.Parts.{is_called, with_value, key_alone, plus_piece, named, text_sum}
 use Rattle.swf_jq_parse.specs.declared.mode.Mode.{Mode}
 use Rattle.swf_jq_parse.specs.declared.mode.Mode.TheVariants as mode
 use Rattle.swf_jq_parse.specs.declared.stack.Item.{Item}
 use Rattle.swf_jq_parse.specs.declared.stack.Item.TheVariants as items
+use Rattle.swf_jq_parse.specs.declared.stack.Opening.{Opening}
+use Rattle.swf_jq_parse.specs.declared.stack.Opening.TheVariants as opening
+use Rattle.swf_jq_parse.specs.declared.stack.Purpose.{Purpose}
 use Rattle.swf_jq_parse.specs.declared.stack.Purpose.TheVariants as purpose
-use Rattle.swf_jq_tokens.specs.declared.token.Keyword.{Keyword}
 use Rattle.swf_jq_tokens.specs.declared.token.Keyword.TheVariants as keyword
 use Rattle.swf_jq_tokens.specs.declared.token.Sign.TheVariants as sign
-use Rattle.swf_jq_tokens.specs.declared.token.Sign.{Sign}
 use Rattle.swf_jq_tokens.specs.declared.token.Token.{Token}
 use Rattle.swf_jq_tokens.specs.declared.token.Token.TheVariants as token
-use Rattle.swf_jq_parse.proofs.Spelling.{Ready, Object, Keyed, Spells, Placed, Told, grown, changed, pushed}
-use Rattle.swf_jq_parse.proofs.Joined.{Whole, close_keeps}
-use Rattle.swf_jq_parse.proofs.Reading.{Holds, Reads, Keeps, kept_if, snoc, object_opens, text_opens, want_keeps, list_start_keeps, index_start_keeps}
-use Rattle.swf_jq_parse.proofs.SignsRead.{alt_keeps, or_keeps, and_keeps, op_keeps, comma_keeps, pipe_keeps, bind_keeps, var_next_keeps, bar_next_keeps}
-use Rattle.swf_jq_parse.proofs.Closers.{paren_keeps, bracket_keeps, object_ends, brace_keeps, argument_keeps, then_keeps, elif_keeps, else_keeps, end_keeps, resumed_keeps, closed_keeps}
+use Rattle.swf_jq_parse.proofs.Binding.{sits, chosen, other, le_self, le_up, level_left, level_low, right_low, joint_level_low, fits_level, fits_between, Means, means, means_level}
+use Rattle.std.proofs.lemmas.Bool.{cases_Bool}
+use Rattle.std.specs.Prelude.{if◌then◌else◌}
+use Rattle.std.proofs.lemmas.Bool.Decides.{nat_tests}
+use Rattle.swf_expr.specs.declared.builtin.Builtin.{Builtin}
+use Rattle.swf_expr.specs.declared.op.Op.TheVariants as ops
+use Rattle.swf_jq_tokens.specs.Gives.{◌>>=◌}
+use Rattle.swf_jq_parse.specs.Grammar
+use Rattle.swf_jq_parse.specs.GrammarLaws as Laws
+use Rattle.swf_jq_parse.specs.Joints.{level, left, right, sign_of, tree_of, fits, follower_left, follower_level, follows}
+use Rattle.swf_jq_parse.specs.declared.joint.Follower.{Follower}
+use Rattle.swf_jq_parse.specs.declared.joint.Follower.TheVariants as follower
+use Rattle.swf_jq_parse.specs.declared.joint.Joint.{Joint}
+use Rattle.swf_jq_parse.specs.declared.stack.Pending.TheVariants as pending
+use Rattle.swf_jq_tokens.specs.declared.fault.ParseFault.TheVariants as fault
+use Rattle.swf_jq_tokens.specs.declared.token.Keyword.{Keyword}
+use Rattle.swf_jq_tokens.specs.declared.token.Sign.{Sign}
+use Rattle.swf_jq_parse.proofs.Names.{no_form}
 
--- ---- after an operand
+-- where an operand may stand
+abbrev pub Low : ℕ → Type 0
+Low c = nat_le c 9 ≡ true
 
-have_keyword_keeps : (s : List Item) (e : Tree) (at : ℕ) (k : Keyword) (us : Placed) → Told (Spells s) (λ ws. Post ws e) us → Ready s → Keeps (have_keyword s e at k) (us ++ (at, token.Keyword k) ∷ [])
-unfolding have_keyword then_next elif_next else_next if_ended
-have_keyword_keeps s e at keyword.As us h ready = bind_keeps s at e us h ready
-have_keyword_keeps s e at keyword.Or us h ready = or_keeps s at e us h ready
-have_keyword_keeps s e at keyword.And us h ready = and_keeps s at e us h ready
-have_keyword_keeps s e at keyword.Then us h ready = then_keeps at (reduce 0 s e).0 (reduce 0 s e).1 us (close_keeps s e us h ready)
-have_keyword_keeps s e at keyword.Elif us h ready = elif_keeps at (reduce 0 s e).0 (reduce 0 s e).1 us (close_keeps s e us h ready)
-have_keyword_keeps s e at keyword.Else us h ready = else_keeps at (reduce 0 s e).0 (reduce 0 s e).1 us (close_keeps s e us h ready)
-have_keyword_keeps s e at keyword.End us h ready = end_keeps at (reduce 0 s e).0 (reduce 0 s e).1 us (close_keeps s e us h ready)
-have_keyword_keeps s e at keyword.If us h ready = tt
-have_keyword_keeps s e at keyword.Null us h ready = tt
-have_keyword_keeps s e at keyword.True us h ready = tt
-have_keyword_keeps s e at keyword.False us h ready = tt
+-- an operand in hand, where something has to bind at least so tightly, and this binds so tightly at most
+abbrev pub Hand : ℕ → ℕ → Tokens → Tree → Tokens → Type 0
+Hand c l ts e us = ((c ≡ 11) × Branches ts e us) ⊎ (Low c × (nat_le c l ≡ true) × ((k : ℕ) → nat_le c k ≡ true → nat_le k l ≡ true → Level k ts e us))
 
-have_sign_keeps : (s : List Item) (e : Tree) (at : ℕ) (g : Sign) (us : Placed) → Told (Spells s) (λ ws. Post ws e) us → Ready s → Keeps (have_sign s e at g) (us ++ (at, token.Sign g) ∷ [])
-unfolding have_sign paren_closed bracket_closed brace_closed next_argument
-have_sign_keeps s e at sign.LeftParen us h ready = tt
-have_sign_keeps s e at sign.RightParen us h ready = paren_keeps at (reduce 0 s e).0 (reduce 0 s e).1 us (close_keeps s e us h ready)
-have_sign_keeps s e at sign.LeftBracket us h ready = (
-  grown (Spells s) (λ ws. Post ws e) (Holds s (mode.IndexStart e)) us (at, token.Sign sign.LeftBracket) h (λ ws d. (
-    subst (λ (w : Tokens). Post w (iterate e)) (sym (snoc ws (token.Sign sign.LeftBracket) (token.Sign sign.RightBracket ∷ []))) (Grammar.post_iterate ws e d),
-    (λ ts t g. subst (λ (w : Tokens). Post w (index e t)) (sym (snoc ws (token.Sign sign.LeftBracket) (ts ++ token.Sign sign.RightBracket ∷ []))) (Grammar.post_index ws ts e t d g)),
-  )),
-  ready,
-)
-have_sign_keeps s e at sign.RightBracket us h ready = bracket_keeps at (reduce 0 s e).0 (reduce 0 s e).1 us (close_keeps s e us h ready)
-have_sign_keeps s e at sign.LeftBrace us h ready = tt
-have_sign_keeps s e at sign.RightBrace us h ready = brace_keeps at (reduce 0 s e).0 (reduce 0 s e).1 us (close_keeps s e us h ready)
-have_sign_keeps s e at sign.Comma us h ready = comma_keeps s at e us h ready
-have_sign_keeps s e at sign.Pipe us h ready = pipe_keeps at s e us h ready
-have_sign_keeps s e at sign.Semicolon us h ready = argument_keeps at (reduce 0 s e).0 (reduce 0 s e).1 us (close_keeps s e us h ready)
-have_sign_keeps s e at sign.Colon us h ready = tt
-have_sign_keeps s e at sign.Question us h ready =
-    (grown (Spells s) (λ ws. Post ws e) (λ ws. Post ws (maybe e)) us (at, token.Sign sign.Question) h (λ ws d. Grammar.post_maybe ws e d), ready)
-have_sign_keeps s e at sign.Alternative us h ready = alt_keeps s at e us h ready
-have_sign_keeps s e at (sign.Op o) us h ready = op_keeps o s at e us h ready
+-- the members of an object that begins here, and what is left behind them
+abbrev pub ObjectTo : Tokens → List ExprMember → Tokens → Type 0
+ObjectTo ts ms us = (vs : Tokens) × (ts ≡ token.Sign sign.LeftBrace ∷ vs) × MembersOf vs ms us
 
-have_keeps : (s : List Item) (e : Tree) (at : ℕ) (t : Token) (us : Placed) → Told (Spells s) (λ ws. Post ws e) us → Ready s → Keeps (have s e at t) (us ++ (at, t) ∷ [])
-unfolding have resumed closed
-have_keeps s e at token.Dot us h ready = (grown (Spells s) (λ ws. Post ws e) (Holds s (mode.Suffix e)) us (at, token.Dot) h (λ ws d. (ws, refl, d)), ready)
-have_keeps s e at token.Dots us h ready = tt
-have_keeps s e at (token.Field x) us h ready =
-    (grown (Spells s) (λ ws. Post ws e) (λ ws. Post ws (index e (lit (text x)))) us (at, token.Field x) h (λ ws d. Grammar.post_field ws e x d), ready)
-have_keeps s e at (token.Var x) us h ready = tt
-have_keeps s e at (token.Name x) us h ready = tt
-have_keeps s e at (token.Keyword k) us h ready = have_keyword_keeps s e at k us h ready
-have_keeps s e at (token.Number n) us h ready = tt
-have_keeps s e at (token.Text t) us h ready = tt
-have_keeps s e at (token.TextOpen t) us h ready = tt
-have_keeps s e at (token.TextMid t) us h ready = resumed_keeps at t (reduce 0 s e).0 (reduce 0 s e).1 us (close_keeps s e us h ready)
-have_keeps s e at (token.TextClose t) us h ready = closed_keeps at t (reduce 0 s e).0 (reduce 0 s e).1 us (close_keeps s e us h ready)
-have_keeps s e at (token.Sign g) us h ready = have_sign_keeps s e at g us h ready
+-- after such members one more may stand
+abbrev pub Inside : List ExprMember → Tokens → Tokens → Type 0
+Inside ms ts zs = (m : ExprMember) (us : Tokens) → MemberOf zs m us → ObjectTo ts (ms ++ m ∷ []) us
 
-suffix_keeps : (s : List Item) (e : Tree) (at : ℕ) (t : Token) (us : Placed) → Reads s (mode.Suffix e) us → Keeps (suffix s e at t) (us ++ (at, t) ∷ [])
-unfolding suffix
-suffix_keeps s e at (token.Text t) us h = (
-  grown (Spells s) (Holds s (mode.Suffix e)) (λ ws. Post ws (index e (lit (text t)))) us (at, token.Text t) h.0 (λ ws q.
-      subst (λ (w : Tokens). Post w (index e (lit (text t)))) (sym (ap (λ (w : Tokens). w ++ token.Text t ∷ []) q.1 ∙ snoc q.0 token.Dot (token.Text t ∷ [])))
-      (Grammar.post_text q.0 (token.Text t ∷ []) e (lit (text t)) q.2 (Grammar.text_whole t))),
-  h.1,
-)
-suffix_keeps s e at (token.TextOpen t) us h =
-    text_opens at s (purpose.Index e) (Holds s (mode.Suffix e)) us t h.0 h.1 (λ ws q. λ ts w d.
-    subst (λ (v : Tokens). Post v (index e w)) (sym (ap (λ (v : Tokens). v ++ ts) q.1 ∙ snoc q.0 token.Dot ts)) (Grammar.post_text q.0 ts e w q.2 d))
-suffix_keeps s e at (token.Sign sign.LeftBracket) us h = (
-  grown (Spells s) (Holds s (mode.Suffix e)) (Holds s (mode.IndexStart e)) us (at, token.Sign sign.LeftBracket) h.0 (λ ws q. (
-    subst (λ (w : Tokens). Post w (iterate e)) (sym (bracket_after ws q.0 q.1 (token.Sign sign.RightBracket ∷ []))) (Grammar.post_dot_iterate q.0 e q.2),
-    (λ ts t g. subst (λ (w : Tokens). Post w (index e t)) (sym (bracket_after ws q.0 q.1 (ts ++ token.Sign sign.RightBracket ∷ []))) (Grammar.post_dot_index q.0 ts e t q.2 g)),
-  )),
-  h.1,
-)
+-- what a text is for
+abbrev pub Serves : Purpose → Tokens → Tokens → Type 0
+Serves purpose.Operand ts zs = (w : Tree) (us : Tokens) → TextOf zs w us → Post ts w us
+Serves (purpose.Index e) ts zs = (w : Tree) (us : Tokens) → TextOf zs w us → Post ts (index e w) us
+Serves (purpose.Key ms) ts zs = Inside ms ts zs
+
+-- something open in an operand that begins with `ts`, where `vs` are left for what stands in it
+abbrev pub Opens : Placed → Opening → ℕ → Placed → Placed → Type 0
+Opens all opening.Paren c ts vs = Low c × ((e : Tree) (us : Tokens) → Level 0 (tokens vs) e (token.Sign sign.RightParen ∷ us) → Post (tokens ts) e us)
+Opens all opening.List c ts vs =
+    Low c × ((e : Tree) (us : Tokens) → Level 0 (tokens vs) e (token.Sign sign.RightBracket ∷ us) → Post (tokens ts) (list_of e) us)
+    × ((us : Tokens) → tokens vs ≡ token.Sign sign.RightBracket ∷ us → Post (tokens ts) empty_list us)
+Opens all (opening.Index a) c ts vs =
+    Low c × ((e : Tree) (us : Tokens) → Level 0 (tokens vs) e (token.Sign sign.RightBracket ∷ us) → Post (tokens ts) (index a e) us)
+    × ((us : Tokens) → tokens vs ≡ token.Sign sign.RightBracket ∷ us → Post (tokens ts) (iterate a) us)
+Opens all (opening.Text p a) c ts vs = Low c × (zs : Tokens) × Serves p (tokens ts) zs × ((e : Tree) (us : Tokens) → Level 0 (tokens vs) e us → Pieces zs (plus_piece a e) us)
+Opens all (opening.Key ms) c ts vs = Low c × Inside ms (tokens ts) (token.Sign sign.LeftParen ∷ tokens vs)
+Opens all (opening.Value ms k) c ts vs = Low c × (zs : Tokens) × Inside ms (tokens ts) zs × KeyOf zs k (token.Sign sign.Colon ∷ tokens vs)
+Opens all opening.If c ts vs = (b : Tree) (us : Tokens) → Branches (tokens vs) b us → Hand c 10 (tokens ts) b us
+Opens all (opening.Then a) c ts vs =
+    (zs : Tokens) × Level 0 zs a (token.Keyword keyword.Then ∷ tokens vs) × ((b : Tree) (us : Tokens) → Branches zs b us → Hand c 10 (tokens ts) b us)
+Opens all (opening.Else a b) c ts vs =
+    (zs : Tokens) × (ws : Tokens) × Level 0 zs a (token.Keyword keyword.Then ∷ ws) × Level 0 ws b (token.Keyword keyword.Else ∷ tokens vs)
+    × ((d : Tree) (us : Tokens) → Branches zs d us → Hand c 10 (tokens ts) d us)
+Opens all (opening.Arguments x p es) c ts vs =
+    Low c × (q : ℕ) × (ws : Placed) × (ts ≡ (p, token.Name x) ∷ (q, token.Sign sign.LeftParen) ∷ ws) × ArgumentsBefore (tokens ws) es (tokens vs) × (xs : Placed) × (all ≡ xs ++ ts)
+
+-- what is open, where `vs` are left for what stands in the innermost
+abbrev pub Spells : Placed → List Item → Placed → Type 0
+Spells all [] vs = all ≡ vs
+Spells all (items.Pending p ∷ s) vs =
+    (ts : Placed) × Spells all s ts × (sits (context s) p ≡ true)
+    × ((l : ℕ) (b : Tree) (us : Tokens) → Hand (pending_right p) l (tokens vs) b us → Hand (context s) (pending_level p) (tokens ts) (joined p b) us)
+Spells all (items.Open o ∷ s) vs = (ts : Placed) × Spells all s ts × Opens all o (context s) ts vs
+
+-- what may stand next, where an operand begins with `ts` and `us` are left
+abbrev pub Stands : Placed → ℕ → Mode → Placed → Placed → Type 0
+Stands all c mode.Want ts us = (ts ≡ us) × Low c
+Stands all c mode.First ts us = (ts ≡ us) × Low c
+Stands all c (mode.Have e) ts us = Hand c 10 (tokens ts) e (tokens us)
+Stands all c (mode.Dotted e true) ts us = Low c × Post (tokens ts) e (tokens us) × ((w : Tree) (vs : Tokens) → TextOf (tokens us) w vs → Post (tokens ts) (index e w) vs)
+Stands all c (mode.Dotted e false) ts us = Low c × Post (tokens ts) e (token.Dot ∷ tokens us)
+Stands all c (mode.Called x p) ts us = Low c × (ts ≡ (p, token.Name x) ∷ us) × (xs : Placed) × (all ≡ xs ++ ts) × (is_called x ≡ true)
+Stands all c (mode.Member ms first) ts us = Low c × Inside ms (tokens ts) (tokens us) × (first ≡ true → (ms ≡ []) × (tokens ts ≡ token.Sign sign.LeftBrace ∷ tokens us))
+Stands all c (mode.AfterKey ms k alone) ts us =
+    Low c × (zs : Tokens) × Inside ms (tokens ts) zs × KeyOf zs k (tokens us) × (alone ≡ true → MemberOf zs (key_alone k) (tokens us))
+Stands all c (mode.MemberEnd ms) ts us = Low c × ObjectTo (tokens ts) ms (tokens us)
+Stands all c (mode.WantVar e) ts us = (nat_le c 0 ≡ true) × Post (tokens ts) e (token.Keyword keyword.As ∷ tokens us)
+Stands all c (mode.WantPipe e x) ts us = (nat_le c 0 ≡ true) × Post (tokens ts) e (token.Keyword keyword.As ∷ token.Var x ∷ tokens us)
+
+abbrev pub Reads : Placed → List Item → Mode → Placed → Type 0
+Reads all s m us = (ts : Placed) × Spells all s ts × Stands all (context s) m ts us
+
+-- what a step leaves, before these tokens, is so, and its fault is the token's
+abbrev pub Keeps : Placed → ℕ × Token → Placed → Step → Type 0
+Keeps all t us (Ok r) = Reads all r.0 r.1 us
+Keeps all t us (Err f) = FaultAt all t us f
+
+-- ---- operands in hand
+
+-- what binds as tightly as what follows a term is one
+post_of : {k : ℕ} {ts us : Tokens} {a : Tree} → Level k ts a us → nat_le 10 k ≡ true → Post ts a us
+post_of (Grammar.level_joint k ts vs us a b j fit c d) h = cc (le_up 10 k 8 h (le_up k (level j) 8 (fits_level k j fit) (joint_level_low j)))
+post_of (Grammar.level_minus k ts us a low c) h = cc (le_up 10 k 9 h low)
+post_of (Grammar.level_bind ts vs us a b x c d) h = cc h
+post_of (Grammar.level_post k ts us a c) h = c
+
+pub hold : (c : ℕ) (ts us : Tokens) (e : Tree) → Low c → Post ts e us → Hand c 10 ts e us
+hold c ts us e low d = inr (low, le_up c 9 10 low refl, λ k above below. Grammar.level_post k ts us e d)
+
+-- an operand in hand where no branches have to be
+in_hand : (c l : ℕ) (ts us : Tokens) (e : Tree) → nat_le c 10 ≡ true → Hand c l ts e us
+    → Low c × (nat_le c l ≡ true) × ((k : ℕ) → nat_le c k ≡ true → nat_le k l ≡ true → Level k ts e us)
+in_hand c l ts us e ten (inl h) = let is : c ≡ 11 = h.0 in cc
+in_hand c l ts us e ten (inr h) = h
+
+pub inner : (c l : ℕ) (ts us : Tokens) (e : Tree) → nat_le c 10 ≡ true → Hand c l ts e us → Level c ts e us
+inner c l ts us e ten h = let d = in_hand c l ts us e ten h in d.2 c (le_self c) d.1
+
+branches_in : (l : ℕ) (ts us : Tokens) (e : Tree) → Hand 11 l ts e us → Branches ts e us
+branches_in l ts us e (inl h) = h.1
+branches_in l ts us e (inr h) = cc h.0
+
+context_low : (s : List Item) → nat_le (context s) 11 ≡ true
+context_low (items.Pending (pending.Left j a) ∷ s) = le_up (right j) 9 11 (right_low j) refl
+context_low (items.Open (opening.Value ms k) ∷ s) = refl
+context_low s = refl
+
+-- a joint takes a right operand
+takes_right : (c : ℕ) (j : Joint) (ts vs : Tokens) (a : Tree) → fits c j ≡ true → Low c → Level (left j) ts a (sign_of j ∷ vs)
+    → (l : ℕ) (b : Tree) (us : Tokens) → Hand (right j) l vs b us → Hand c (level j) ts (tree_of j a b) us
+takes_right c j ts vs a fit low d l b us h =
+    let tail = inner (right j) l vs us b (le_up (right j) 9 10 (right_low j) refl) h in
+    inr (low, fits_level c j fit, λ k above below. Grammar.level_joint k ts vs us a b j (fits_between c k j fit above below) d tail)
+
+-- `as` takes what follows its `|`
+binds_right : (c : ℕ) (ts vs : Tokens) (e : Tree) (x : List ℕ) → nat_le c 0 ≡ true → Post ts e (token.Keyword keyword.As ∷ token.Var x ∷ token.Sign sign.Pipe ∷ vs)
+    → (l : ℕ) (b : Tree) (us : Tokens) → Hand 0 l vs b us → Hand c 0 ts (bind e x b) us
+binds_right c ts vs e x low d l b us h =
+    inr (le_up c 0 9 low refl, low, λ n above below. subst (λ (m : ℕ). Level m ts (bind e x b) us) (zero_is n below) (Grammar.level_bind ts vs us e b x d (inner 0 l vs us b refl h)))
   where
-    bracket_after : (ws vs : Tokens) → ws ≡ vs ++ token.Dot ∷ [] → (ts : Tokens) → (ws ++ token.Sign sign.LeftBracket ∷ []) ++ ts ≡ vs ++ token.Dot ∷ token.Sign sign.LeftBracket ∷ ts
-    bracket_after ws vs is ts = snoc ws (token.Sign sign.LeftBracket) ts ∙ ap (λ (w : Tokens). w ++ token.Sign sign.LeftBracket ∷ ts) is ∙ snoc vs token.Dot (token.Sign sign.LeftBracket ∷ ts)
-suffix_keeps s e at t us h = tt
+    zero_is : (n : ℕ) → nat_le n 0 ≡ true → 0 ≡ n
+    zero_is n none = grind (arith, nat_tests)
 
-pub here_read : (s : List Item) (us : Placed) → Reads s mode.Dotted us → Told (Spells s) (λ ws. Post ws here) us
-here_read s us h = changed (Spells s) (Holds s mode.Dotted) (λ ws. Post ws here) us h.0 (λ ws q. subst (λ (w : Tokens). Post w here) (sym q) (Grammar.post_term (token.Dot ∷ []) here Grammar.term_here))
+-- one argument more
+argument_more : {ts vs : Tokens} {es : List Tree} (us : Tokens) (e : Tree) → ArgumentsBefore ts es vs → Level 0 vs e us → ArgumentsOf ts (es ++ e ∷ []) us
+argument_more us e (Laws.none_before xs) c = Grammar.one_argument xs us e c
+argument_more us e (Laws.some_before xs ys ds f) c = Grammar.more_arguments xs ys us ds e f c
 
-dotted_keeps : (s : List Item) (at : ℕ) (t : Token) (us : Placed) → Reads s mode.Dotted us → Keeps (dotted s at t) (us ++ (at, t) ∷ [])
-unfolding dotted
-dotted_keeps s at (token.Text t) us h = (
-  grown (Spells s) (Holds s mode.Dotted) (λ ws. Post ws (index here (lit (text t)))) us (at, token.Text t) h.0 (λ ws q.
-      subst (λ (w : Tokens). Post (w ++ token.Text t ∷ []) (index here (lit (text t)))) (sym q)
-      (Grammar.post_term (token.Dot ∷ token.Text t ∷ []) (index here (lit (text t))) (Grammar.term_dot_text (token.Text t ∷ []) (lit (text t)) (Grammar.text_whole t)))),
-  h.1,
-)
-dotted_keeps s at (token.TextOpen t) us h =
-    text_opens at s (purpose.Index here) (Holds s mode.Dotted) us t h.0 h.1 (λ ws q. λ ts w d.
-    subst (λ (v : Tokens). Post (v ++ ts) (index here w)) (sym q) (Grammar.post_term (token.Dot ∷ ts) (index here w) (Grammar.term_dot_text ts w d)))
-dotted_keeps s at t us h = have_keeps s here at t us (here_read s us h) h.1
+-- a name with no arguments
+pub alone_term : (ts us : Placed) (x : List ℕ) (p : ℕ) (b : Builtin) → ts ≡ (p, token.Name x) ∷ us → named x 0 ≡ Some b → Post (tokens ts) (apply b no_trees) (tokens us)
+alone_term ts us x p b is known = rw is (Grammar.post_term _ (tokens us) _ (Grammar.term_name (tokens us) x b known))
 
--- ---- names
+-- members go on
+inside_more : (ts vs : Tokens) (ms : List ExprMember) → ObjectTo ts ms (token.Sign sign.Comma ∷ vs) → Inside ms ts vs
+inside_more ts vs ms o m us d = (o.0, o.1, Grammar.more_members o.0 vs us ms m o.2 d)
 
-pub name_read : (s : List Item) (x : List ℕ) (p : ℕ) (b : Builtin) (us : Placed) → named x 0 ≡ Some b → Reads s (mode.Called x p) us → Told (Spells s) (λ ws. Post ws (apply b no_trees)) us
-unfolding tokens
-name_read s x p b us known h = (h.0, (p, token.Name x) ∷ [], h.1, h.2, Grammar.post_term (token.Name x ∷ []) (apply b no_trees) (Grammar.term_name x b known))
+module _ (all us : Placed) where
+  held : {e : Tree} (s : List Item) (ts : Placed) → Spells all s ts → Low (context s) → Post (tokens ts) e (tokens us) → Reads all s (mode.Have e) us
+  held s ts sp low d = (ts, sp, hold (context s) (tokens ts) (tokens us) _ low d)
 
-alone_keeps : (s : List Item) (x : List ℕ) (p at : ℕ) (t : Token) (us : Placed) (o : Option Builtin) → named x 0 ≡ o → Reads s (mode.Called x p) us
-    → Keeps (applied_to o p no_trees >>= λ e. have s e at t) (us ++ (at, t) ∷ [])
-unfolding applied_to
-alone_keeps s x p at t us None known h = tt
-alone_keeps s x p at t us (Some b) known h = have_keeps s (apply b no_trees) at t us (name_read s x p b us known h) h.4
+  wrong_keeps : (at : ℕ) (t : Token) → Keeps all (at, t) us (wrong at t)
+  wrong_keeps at token.Dots = inr (refl, refl)
+  wrong_keeps at t = inl refl
 
-called_keeps : (s : List Item) (x : List ℕ) (p at : ℕ) (t : Token) (us : Placed) → Reads s (mode.Called x p) us → Keeps (called_next s x p at t) (us ++ (at, t) ∷ [])
-unfolding called_next applied tokens
-called_keeps s x p at (token.Sign sign.LeftParen) us h =
-    let first : Spells (items.Arguments x p no_trees ∷ s) (us ++ (at, token.Sign sign.LeftParen) ∷ []) = (
-      h.0,
-      (p, token.Name x) ∷ (at, token.Sign sign.LeftParen) ∷ [],
-      ap (λ (w : Placed). w ++ (at, token.Sign sign.LeftParen) ∷ []) h.1 ∙ append_assoc h.0 ((p, token.Name x) ∷ []) ((at, token.Sign sign.LeftParen) ∷ []),
-      h.2,
-      (([], refl, Laws.none_before), h.4),
-      ((at, token.Sign sign.LeftParen) ∷ [], refl),
-    ) in
-    ((us ++ (at, token.Sign sign.LeftParen) ∷ [], [], sym (append-nil (us ++ (at, token.Sign sign.LeftParen) ∷ [])), first, refl), refl)
-called_keeps s x p at t us h = alone_keeps s x p at t us (named x 0) refl h
+  applied_keeps : (t : ℕ × Token) (x : List ℕ) (p : ℕ) (es : List Tree) (next : Tree → Step) → (named x (length es) ≡ None → FaultAt all t us (fault.UnknownName p))
+      → ((b : Builtin) → named x (length es) ≡ Some b → Keeps all t us (next (apply b (trees_of es)))) → Keeps all t us (applied x p es >>= next)
+  unfolding applied applied_to
+  applied_keeps t x p es next h g = so (named x (length es)) refl
+    where
+      so : (o : Option Builtin) → named x (length es) ≡ o → Keeps all t us (applied_to o p es >>= next)
+      so None is = h is
+      so (Some b) is = g b is
 
--- ---- members
+  -- ---- what follows an operand
 
-keyed : (s : List Item) (ms : Pairs) (first : Bool) (us : Placed) (u : ℕ × Token) (k : Tree) (alone : Bool) → Reads s (mode.Member ms first) us
-    → KeyOf (u.1 ∷ []) k → (alone ≡ true → MemberOf (u.1 ∷ []) k (index here k)) → Reads s (mode.AfterKey ms k alone) (us ++ u ∷ [])
-keyed s ms first us u k alone h d f =
-    (grown (Spells s) (Holds s (mode.Member ms first)) (Keyed ms k alone) us u h.0 (λ ws q. (ws, u.1 ∷ [], refl, q.0, (d, f))), h.1)
+  suffix_keeps : (s : List Item) (e : Tree) (at : ℕ) (t : Token) (ts : Placed) → Spells all s ts → Low (context s) → Post (tokens ts) e (t ∷ tokens us) → Keeps all (at, t) us (suffix s e at t)
+  unfolding suffix
+  suffix_keeps s e at token.Dot ts sp low d = (ts, sp, (low, d))
+  suffix_keeps s e at (token.Field x) ts sp low d = held s ts sp low (Grammar.post_field _ _ e x d)
+  suffix_keeps s e at (token.Sign sign.LeftBracket) ts sp low d =
+      (us, (ts, sp, (low, λ k vs c. Grammar.post_index _ _ vs e k d c, λ vs is. Grammar.post_iterate _ vs e (rw is at d))), (refl, refl))
+  suffix_keeps s e at (token.Sign sign.Question) ts sp low d = held s ts sp low (Grammar.post_maybe _ _ e d)
+  suffix_keeps s e at t ts sp low d = inl refl
 
-member_sign_keeps : (s : List Item) (ms : Pairs) (first : Bool) (at : ℕ) (g : Sign) (us : Placed) → Reads s (mode.Member ms first) us → Keeps (member_sign s ms first at g) (us ++ (at, token.Sign g) ∷ [])
-unfolding member_sign
-member_sign_keeps s ms first at sign.LeftParen us h = (
-  pushed s (items.Key ms) (Holds s (mode.Member ms first)) us (at, token.Sign sign.LeftParen) (λ v. tt) h.0 (λ ws q. (
-    (λ ts t d. (
-      ws,
-      token.Sign sign.LeftParen ∷ (ts ++ token.Sign sign.RightParen ∷ []),
-      snoc ws (token.Sign sign.LeftParen) (ts ++ token.Sign sign.RightParen ∷ []),
-      q.0,
-      (Grammar.key_pipe ts t d, (λ e. cc e)),
-    )),
-    h.1,
-  )),
-  refl,
-)
-member_sign_keeps s ms first at sign.RightBrace us h =
-    kept_if first _ _ (us ++ (at, token.Sign sign.RightBrace) ∷ []) (λ yet. (
-      grown (Spells s) (Holds s (mode.Member ms first)) (λ ws. Post ws (object_of ms)) us (at, token.Sign sign.RightBrace) h.0 (λ ws q.
-          let none = q.1 yet in
-          subst (λ (w : Tokens). Post (w ++ token.Sign sign.RightBrace ∷ []) (object_of ms)) (sym none.0)
-          (subst (λ (ps : Pairs). Post (token.Sign sign.LeftBrace ∷ token.Sign sign.RightBrace ∷ []) (object_of ps)) (sym none.1)
-          (Grammar.post_term (token.Sign sign.LeftBrace ∷ token.Sign sign.RightBrace ∷ []) (object_of no_pairs) Grammar.term_empty_object))),
-      h.1,
-    )) (λ not_yet. tt)
-member_sign_keeps s ms first at g us h = tt
+  followed_keeps : (s : List Item) (l : ℕ) (e : Tree) (at : ℕ) (t : Token) (f : Follower) (ts : Placed) → Spells all s ts
+      → Means (context s) t f → nat_le (follower_left f) l ≡ true → Hand (context s) l (tokens ts) e (t ∷ tokens us) → Keeps all (at, t) us (followed f s e at t)
+  unfolding followed
+  followed_keeps s l e at t f ts sp m tight h = so f m (operand.2 (follower_left f) (le_up (context s) (follower_level f) (follower_left f) level_is (level_left f)) tight)
+    where
+      level_is : nat_le (context s) (follower_level f) ≡ true
+      level_is = means_level (context s) t f m
 
-member_keeps : (s : List Item) (ms : Pairs) (first : Bool) (at : ℕ) (t : Token) (us : Placed) → Reads s (mode.Member ms first) us → Keeps (member s ms first at t) (us ++ (at, t) ∷ [])
-unfolding member variable_member
-member_keeps s ms first at (token.Name x) us h = keyed s ms first us (at, token.Name x) (lit (text x)) true h (Grammar.key_name x) (λ e. Grammar.member_name x)
-member_keeps s ms first at (token.Keyword k) us h = keyed s ms first us (at, token.Keyword k) (key_lit k) false h (Grammar.key_keyword k) (λ e. cc e)
-member_keeps s ms first at (token.Text t) us h =
-    keyed s ms first us (at, token.Text t) (lit (text t)) true h (Grammar.key_text (token.Text t ∷ []) (lit (text t)) (Grammar.text_whole t)) (λ e. Grammar.member_text (token.Text t ∷ []) (lit (text t)) (Grammar.text_whole t))
-member_keeps s ms first at (token.TextOpen t) us h =
-    text_opens at s (purpose.Key ms) (Holds s (mode.Member ms first)) us t h.0 h.1 (λ ws q. λ ts w d. (ws, ts, refl, q.0, (Grammar.key_text ts w d, (λ e. Grammar.member_text ts w d))))
-member_keeps s ms first at (token.Var x) us h =
-    (grown (Spells s) (Holds s (mode.Member ms first)) (Object (pair_last ms (lit (text x)) (var x))) us (at, token.Var x) h.0 (λ ws q. q.0 (token.Var x ∷ []) (lit (text x)) (var x) (Grammar.member_var x)), h.1)
-member_keeps s ms first at (token.Sign g) us h = member_sign_keeps s ms first at g us h
-member_keeps s ms first at t us h = tt
+      operand : Low (context s) × (nat_le (context s) l ≡ true) × ((k : ℕ) → nat_le (context s) k ≡ true → nat_le k l ≡ true → Level k (tokens ts) e (t ∷ tokens us))
+      operand = in_hand (context s) l (tokens ts) (t ∷ tokens us) e (le_up (context s) (follower_level f) 10 level_is (level_low f)) h
 
-member_end_keeps : (s : List Item) (ms : Pairs) (at : ℕ) (t : Token) (us : Placed) → Reads s (mode.MemberEnd ms) us → Keeps (unmoved s (member_end ms at t)) (us ++ (at, t) ∷ [])
-unfolding member_end
-member_end_keeps s ms at (token.Sign sign.Comma) us h =
-    (grown (Spells s) (Object ms) (Holds s (mode.Member ms false)) us (at, token.Sign sign.Comma) h.0 (λ ws o. (object_opens ms ws o, (λ e. cc e))), h.1)
-member_end_keeps s ms at (token.Sign sign.RightBrace) us h =
-    (grown (Spells s) (Object ms) (λ ws. Post ws (object_of ms)) us (at, token.Sign sign.RightBrace) h.0 (λ ws o. object_ends ms ws o), h.1)
-member_end_keeps s ms at t us h = tt
+      so : (g : Follower) → Means (context s) t g → Level (follower_left g) (tokens ts) e (t ∷ tokens us) → Keeps all (at, t) us (followed g s e at t)
+      so follower.Suffix k d = suffix_keeps s e at t ts sp operand.0 (post_of d refl)
+      so follower.As k d = (ts, sp, (k.0, rw k.1 at (post_of d refl)))
+      so (follower.Joint j) k d = (us, (ts, sp, k.0, takes_right (context s) j (tokens ts) (tokens us) e k.0 operand.0 (rw k.1 at d)), (refl, right_low j))
 
-alone_read : (ms : Pairs) (k : Tree) (alone : Bool) (ws : Tokens) → alone ≡ true → Keyed ms k alone ws → Object (pair_last ms k (index here k)) ws
-alone_read ms k alone ws is h = subst (Object (pair_last ms k (index here k))) (sym h.2) (h.3 h.1 k (index here k) (h.4.1 is))
+  goes_on_keeps : (s : List Item) (l : ℕ) (e : Tree) (at : ℕ) (t : Token) (ts : Placed) (ended : Step) → Spells all s ts → Hand (context s) l (tokens ts) e (t ∷ tokens us)
+      → Keeps all (at, t) us ended → Keeps all (at, t) us (goes_on (follows (context s) t) l s e at t ended)
+  goes_on_keeps s l e at t ts ended sp h k = so (follows (context s) t) refl
+    where
+      so : (o : Option Follower) → follows (context s) t ≡ o → Keeps all (at, t) us (goes_on o l s e at t ended)
+      so None is = k
+      so (Some f) is = elim (cases_Bool (nat_le (follower_left f) l)) [
+        | inl tight ↦ rw (chosen (nat_le (follower_left f) l) (followed f s e at t) (misplaced at) tight) (followed_keeps s l e at t f ts sp (means (context s) t f is) tight h)
+        | inr loose ↦ rw (other (nat_le (follower_left f) l) (followed f s e at t) (misplaced at) loose) (inl refl)
+      ]
 
-alone_end_keeps : (s : List Item) (ms : Pairs) (k : Tree) (alone : Bool) (at : ℕ) (t : Token) (us : Placed) → Reads s (mode.AfterKey ms k alone) us → Keeps (alone_end s ms k alone at t) (us ++ (at, t) ∷ [])
-alone_end_keeps s ms k alone at t us h =
-    kept_if alone _ _ (us ++ (at, t) ∷ [])
-    (λ is. member_end_keeps s (pair_last ms k (index here k)) at t us (changed (Spells s) (Keyed ms k alone) (Object (pair_last ms k (index here k))) us h.0 (λ ws q. alone_read ms k alone ws is q), h.1))
-    (λ is_not. tt)
+  -- ---- what ends or goes on with something open
 
-after_key_keeps : (s : List Item) (ms : Pairs) (k : Tree) (alone : Bool) (at : ℕ) (t : Token) (us : Placed) → Reads s (mode.AfterKey ms k alone) us → Keeps (after_key s ms k alone at t) (us ++ (at, t) ∷ [])
-unfolding after_key
-after_key_keeps s ms k alone at (token.Sign sign.Colon) us h = (
-  pushed s (items.Value ms k) (Keyed ms k alone) us (at, token.Sign sign.Colon) (λ v. tt) h.0 (λ ws q. (
-    (λ ts v d. subst (Object (pair_last ms k v))
-        (sym (append_assoc q.0 q.1 (token.Sign sign.Colon ∷ ts)) ∙ ap (λ (w : Tokens). w ++ token.Sign sign.Colon ∷ ts) (sym q.2) ∙ sym (snoc ws (token.Sign sign.Colon) ts))
-        (q.3 (q.1 ++ token.Sign sign.Colon ∷ ts) k v (Grammar.member_value q.1 ts k v q.4.0 d))),
-    h.1,
-  )),
-  refl,
-)
-after_key_keeps s ms k alone at t us h = alone_end_keeps s ms k alone at t us h
+  -- a text for its purpose
+  text_keeps : (s : List Item) (p : Purpose) (w : Tree) (ts : Placed) (zs : Tokens) → Spells all s ts → Low (context s) → Serves p (tokens ts) zs → TextOf zs w (tokens us)
+      → Reads all s (text_end p w) us
+  unfolding text_end
+  text_keeps s purpose.Operand w ts zs sp low serves d = held s ts sp low (serves w (tokens us) d)
+  text_keeps s (purpose.Index e) w ts zs sp low serves d = held s ts sp low (serves w (tokens us) d)
+  text_keeps s (purpose.Key ms) w ts zs sp low serves d = (ts, sp, (low, zs, serves, Grammar.key_text zs _ w d, λ alone. Grammar.member_text zs _ w d))
 
--- ---- every step
+  -- an object ends
+  object_keeps : (s : List Item) (ms : List ExprMember) (ts : Placed) → Spells all s ts → Low (context s) → ObjectTo (tokens ts) ms (token.Sign sign.RightBrace ∷ tokens us) → Reads all s (mode.Have (object_of (pairs_of ms))) us
+  object_keeps s ms ts sp low o = held s ts sp low (rw o.1 (Grammar.post_term _ (tokens us) _ (Grammar.term_object o.0 (tokens us) ms o.2)))
 
-pub step_keeps : (s : List Item) (m : Mode) (at : ℕ) (t : Token) (us : Placed) → Reads s m us → Keeps (step s m at t) (us ++ (at, t) ∷ [])
-unfolding step
-step_keeps s mode.Want at t us h = want_keeps s at t us h.0 h.1
-step_keeps s mode.ListStart at t us h = list_start_keeps s at t us h
-step_keeps s (mode.IndexStart e) at t us h = index_start_keeps s e at t us h
-step_keeps s (mode.Have e) at t us h = have_keeps s e at t us h.0 h.1
-step_keeps s mode.Dotted at t us h = dotted_keeps s at t us h
-step_keeps s (mode.Suffix e) at t us h = suffix_keeps s e at t us h
-step_keeps s (mode.Called x p) at t us h = called_keeps s x p at t us h
-step_keeps s (mode.Member ms first) at t us h = member_keeps s ms first at t us h
-step_keeps s (mode.AfterKey ms k alone) at t us h = after_key_keeps s ms k alone at t us h
-step_keeps s (mode.MemberEnd ms) at t us h = member_end_keeps s ms at t us h
-step_keeps s (mode.WantVar e) at t us h = var_next_keeps s e at t us h
-step_keeps s (mode.WantPipe e x) at t us h = bar_next_keeps s e x at t us h
+  go_on_keeps : (o : Opening) (s : List Item) (e : Tree) (at : ℕ) (t : Token) (ts vs : Placed) → Spells all s ts → Opens all o (context s) ts vs
+      → Level (opening_level o) (tokens vs) e (t ∷ tokens us) → Keeps all (at, t) us (go_on o s e at t)
+  unfolding go_on
+  go_on_keeps (opening.Text p a) s e at (token.TextMid t) ts vs sp h d =
+      (us, (ts, sp, (h.0, h.1, h.2, λ b ws c. Grammar.pieces_more h.1 (tokens us) ws t _ b (h.3 e (token.TextMid t ∷ tokens us) d) c)), (refl, refl))
+  go_on_keeps (opening.Text p a) s e at (token.TextClose t) ts vs sp h d =
+      text_keeps s p (text_sum a e t) ts h.1 sp h.0 h.2 (Grammar.text_pieces h.1 (tokens us) t _ (h.3 e (token.TextClose t ∷ tokens us) d))
+  go_on_keeps opening.If s e at (token.Keyword keyword.Then) ts vs sp h d = (us, (ts, sp, (tokens vs, d, h)), (refl, refl))
+  go_on_keeps (opening.Then c) s e at (token.Keyword keyword.Elif) ts vs sp h d =
+      let waits = λ (l : ℕ) (b : Tree) (ws : Tokens) (k : Hand 11 l (tokens us) b ws). h.2 (if_else c e b) ws (Grammar.branches_elif h.0 (tokens vs) (tokens us) ws c e b h.1 d (branches_in l (tokens us) ws b k)) in
+      (us, (us, (ts, sp, context_low s, waits), λ b ws k. inl (refl, k)), (refl, refl))
+  go_on_keeps (opening.Then c) s e at (token.Keyword keyword.Else) ts vs sp h d = (us, (ts, sp, (h.0, tokens vs, h.1, d, h.2)), (refl, refl))
+  go_on_keeps (opening.Then c) s e at (token.Keyword keyword.End) ts vs sp h d = (ts, sp, h.2 _ (tokens us) (Grammar.branches_end h.0 (tokens vs) (tokens us) c e h.1 d))
+  go_on_keeps (opening.Else c a) s e at (token.Keyword keyword.End) ts vs sp h d = (ts, sp, h.4 _ (tokens us) (Grammar.branches_else h.0 h.1 (tokens vs) (tokens us) c a e h.2 h.3 d))
+  go_on_keeps o s e at t ts vs sp h d = wrong_keeps at t
 
-whole_read : (at : ℕ) (s : List Item) (t e : Tree) (us : Placed) → Told (Spells s) (λ ws. Whole s ws t) us → whole_at at s t ≡ Ok e → Pipe (tokens us) e
-unfolding whole_at in_value
-whole_read at [] t e us h is =
-    let same : t ≡ e = cc is in
-    let all : us ≡ h.1 = h.2 ∙ ap (λ (w : Placed). w ++ h.1) h.3 in
-    subst (λ (w : Placed). Pipe (tokens w) e) (sym all) (subst (λ (r : Tree). Pipe (tokens h.1) r) same h.4)
-whole_read at (x ∷ s) t e us h is = cc is
+  close_keeps : (o : Opening) (s : List Item) (e : Tree) (at : ℕ) (t : Token) (ts vs : Placed) → Spells all s ts → Opens all o (context s) ts vs
+      → Level (opening_level o) (tokens vs) e (t ∷ tokens us) → Keeps all (at, t) us (close o s e at t)
+  unfolding close
+  close_keeps opening.Paren s e at (token.Sign sign.RightParen) ts vs sp h d = held s ts sp h.0 (h.1 e (tokens us) d)
+  close_keeps (opening.Key ms) s e at (token.Sign sign.RightParen) ts vs sp h d =
+      (ts, sp, (h.0, token.Sign sign.LeftParen ∷ tokens vs, h.1, Grammar.key_pipe (tokens vs) (tokens us) e d, λ never. cc never))
+  close_keeps (opening.Arguments x p es) s e at (token.Sign sign.RightParen) ts vs sp h d =
+      let arguments : ArgumentsOf (tokens h.2) (es ++ e ∷ []) (token.Sign sign.RightParen ∷ tokens us) = argument_more _ e h.4 d in
+      applied_keeps (at, token.Sign sign.RightParen) x p (es ++ e ∷ []) (λ a. Ok (s, mode.Have a))
+      (λ none. inr (inr (refl, (h.5, x, h.1, h.2, es ++ e ∷ [], subst (λ (w : Placed). all ≡ h.5 ++ w) h.3 h.6, arguments, none))))
+      (λ b known. held s ts sp h.0 (rw h.3 (Grammar.post_term _ (tokens us) _ (Grammar.term_call (tokens h.2) (tokens us) x b (es ++ e ∷ []) arguments known))))
+  close_keeps (opening.Arguments x p es) s e at (token.Sign sign.Semicolon) ts vs sp h d =
+      (us, (ts, sp, (h.0, h.1, h.2, h.3, Laws.some_before (tokens h.2) (tokens us) (es ++ e ∷ []) (argument_more _ e h.4 d), h.5, h.6)), (refl, refl))
+  close_keeps opening.List s e at (token.Sign sign.RightBracket) ts vs sp h d = held s ts sp h.0 (h.1 e (tokens us) d)
+  close_keeps (opening.Index a) s e at (token.Sign sign.RightBracket) ts vs sp h d = held s ts sp h.0 (h.1 e (tokens us) d)
+  close_keeps (opening.Value ms k) s e at (token.Sign sign.RightBrace) ts vs sp h d =
+      object_keeps s (ms ++ with_value k e ∷ []) ts sp h.0 (h.2 (with_value k e) _ (Grammar.member_value h.1 (tokens vs) _ k e h.3 d))
+  close_keeps (opening.Value ms k) s e at (token.Sign sign.Comma) ts vs sp h d =
+      (ts, sp, (h.0, inside_more (tokens ts) (tokens us) (ms ++ with_value k e ∷ []) (h.2 (with_value k e) _ (Grammar.member_value h.1 (tokens vs) _ k e h.3 d)), λ never. cc never))
+  close_keeps o s e at t ts vs sp h d = go_on_keeps o s e at t ts vs sp h d
 
-operand_ends : (at : ℕ) (s : List Item) (t e : Tree) (us : Placed) → Told (Spells s) (λ ws. Post ws t) us → Ready s → whole at (reduce 0 s t) ≡ Ok e → Pipe (tokens us) e
-unfolding whole
-operand_ends at s t e us h ready is = whole_read at (reduce 0 s t).0 (reduce 0 s t).1 e us (close_keeps s t us h ready) is
+  have_keeps : (s : List Item) (l : ℕ) (e : Tree) (at : ℕ) (t : Token) (ts : Placed) → Spells all s ts → Hand (context s) l (tokens ts) e (t ∷ tokens us) → Keeps all (at, t) us (have s l e at t)
+  unfolding have
+  have_keeps [] l e at t ts sp h = goes_on_keeps [] l e at t ts _ sp h (wrong_keeps at t)
+  have_keeps (items.Pending p ∷ s) l e at t ts sp h =
+      goes_on_keeps (items.Pending p ∷ s) l e at t ts _ sp h (have_keeps s (pending_level p) (joined p e) at t sp.0 sp.1 (sp.3 l e (t ∷ tokens us) h))
+  have_keeps (items.Open o ∷ s) l e at t ts sp h =
+      goes_on_keeps (items.Open o ∷ s) l e at t ts _ sp h (close_keeps o s e at t sp.0 ts sp.1 sp.2 (inner (opening_level o) l (tokens ts) (t ∷ tokens us) e (opening_low o) h))
+    where
+      opening_low : (q : Opening) → nat_le (opening_level q) 10 ≡ true
+      opening_low (opening.Value ms k) = refl
+      opening_low q = refl
 
-name_ends : (at : ℕ) (s : List Item) (x : List ℕ) (p : ℕ) (e : Tree) (us : Placed) (o : Option Builtin) → named x 0 ≡ o → Reads s (mode.Called x p) us
-    → (applied_to o p no_trees >>= λ d. whole at (reduce 0 s d)) ≡ Ok e → Pipe (tokens us) e
-unfolding applied_to
-name_ends at s x p e us None known h is = cc is
-name_ends at s x p e us (Some b) known h is = operand_ends at s (apply b no_trees) e us (name_read s x p b us known h) h.4 is
+  -- ---- where an operand is wanted
 
-finish_reads : (s : List Item) (m : Mode) (at : ℕ) (e : Tree) (us : Placed) → Reads s m us → finish s m at ≡ Ok e → Pipe (tokens us) e
-unfolding finish applied
-finish_reads s (mode.Have t) at e us h is = operand_ends at s t e us h.0 h.1 is
-finish_reads s mode.Dotted at e us h is = operand_ends at s here e us (here_read s us h) h.1 is
-finish_reads s (mode.Called x p) at e us h is = name_ends at s x p e us (named x 0) refl h is
-finish_reads s m at e us h is = cc is
+  -- a term of one token, and what it is
+  one_keeps : {e : Tree} (s : List Item) (t : ℕ × Token) → Spells all s (t ∷ us) → Low (context s) → Term (t.1 ∷ tokens us) e (tokens us) → Reads all s (mode.Have e) us
+  one_keeps s t sp low d = held s (t ∷ us) sp low (Grammar.post_term _ _ _ d)
 
-goes_on : (r : Step) (ts : List (ℕ × Token)) (at : ℕ) (e : Tree) (us : Placed) → Keeps r us
-    → ((s : List Item) (m : Mode) → Reads s m us → run s m ts (ends_at at) ≡ Ok e → Pipe (tokens (us ++ ts)) e)
-    → (r >>= λ x. run x.0 x.1 ts (ends_at at)) ≡ Ok e → Pipe (tokens (us ++ ts)) e
-goes_on (Ok x) ts at e us kept next is = next x.0 x.1 kept is
-goes_on (Err f) ts at e us kept next is = cc is
+  name_keeps : (s : List Item) (at : ℕ) (x : List ℕ) → Spells all s ((at, token.Name x) ∷ us) → Low (context s) → (xs : Placed) → all ≡ xs ++ (at, token.Name x) ∷ us
+      → Keeps all (at, token.Name x) us (unmoved s (want_name x at))
+  unfolding want_name
+  name_keeps s at x sp low xs is = so (is_called x) refl
+    where
+      so : (b : Bool) → is_called x ≡ b → Keeps all (at, token.Name x) us (unmoved s (if b then Ok (mode.Called x at) else Err (fault.UnknownName at)))
+      so true known = ((at, token.Name x) ∷ us, sp, (low, refl, xs, is, known))
+      so false unknown = inl (x, refl, no_form x unknown)
 
-run_reads : (ts : List (ℕ × Token)) (at : ℕ) (e : Tree) (s : List Item) (m : Mode) (us : Placed) → Reads s m us → run s m ts (ends_at at) ≡ Ok e → Pipe (tokens (us ++ ts)) e
-unfolding run tokens
-run_reads [] at e s m us h is = subst (λ (w : Placed). Pipe (tokens w) e) (sym (append-nil us)) (finish_reads s m at e us h is)
-run_reads (t ∷ ts) at e s m us h is =
-    subst (λ (w : Placed). Pipe (tokens w) e) (snoc us t ts)
-    (goes_on (step s m t.0 t.1) ts at e (us ++ t ∷ []) (step_keeps s m t.0 t.1 us h) (λ s' m' k. run_reads ts at e s' m' (us ++ t ∷ []) k) is)
+  keyword_keeps : (s : List Item) (at : ℕ) (k : Keyword) → Spells all s ((at, token.Keyword k) ∷ us) → Low (context s) → Keeps all (at, token.Keyword k) us (want_keyword s at k)
+  unfolding want_keyword
+  keyword_keeps s at keyword.Null sp low = one_keeps s _ sp low (Grammar.term_null (tokens us))
+  keyword_keeps s at keyword.True sp low = one_keeps s _ sp low (Grammar.term_true (tokens us))
+  keyword_keeps s at keyword.False sp low = one_keeps s _ sp low (Grammar.term_false (tokens us))
+  keyword_keeps s at keyword.If sp low =
+      (us, ((at, token.Keyword keyword.If) ∷ us, sp, λ b vs d. hold (context s) _ vs b low (Grammar.post_term _ vs b (Grammar.term_if (tokens us) vs b d))), (refl, refl))
+  keyword_keeps s at k sp low = inl refl
 
-pub sound : IsSound
-unfolding tokens
-sound ts at e is = run_reads ts at e [] mode.Want [] (([], [], refl, refl, refl), refl) is
+  sign_keeps : (s : List Item) (at : ℕ) (g : Sign) → Spells all s ((at, token.Sign g) ∷ us) → Low (context s) → Keeps all (at, token.Sign g) us (want_sign s at g)
+  unfolding want_sign
+  sign_keeps s at sign.LeftParen sp low =
+      (us, ((at, token.Sign sign.LeftParen) ∷ us, sp, (low, λ e vs d. Grammar.post_term _ vs e (Grammar.term_paren (tokens us) vs e d))), (refl, refl))
+  sign_keeps s at sign.LeftBracket sp low =
+      let listed = λ (e : Tree) (vs : Tokens) (d : Level 0 (tokens us) e (token.Sign sign.RightBracket ∷ vs)). Grammar.post_term _ vs _ (Grammar.term_list (tokens us) vs e d) in
+      (us, ((at, token.Sign sign.LeftBracket) ∷ us, sp, (low, listed, λ vs is. rw is (Grammar.post_term _ vs empty_list (Grammar.term_empty_list vs)))), (refl, refl))
+  sign_keeps s at sign.LeftBrace sp low =
+      ((at, token.Sign sign.LeftBrace) ∷ us, sp, (low, λ m vs d. (tokens us, refl, Grammar.one_member (tokens us) vs m d), λ yet. (refl, refl)))
+  sign_keeps s at (sign.Op ops.Subtract) sp low =
+      let negated = λ (l : ℕ) (b : Tree) (vs : Tokens) (h : Hand 9 l (tokens us) b vs). inr (low, low, λ k above below. Grammar.level_minus k (tokens us) vs b below (inner 9 l (tokens us) vs b refl h)) in
+      (us, ((at, token.Sign (sign.Op ops.Subtract)) ∷ us, sp, low, negated), (refl, refl))
+  sign_keeps s at g sp low = inl refl
+
+  want_keeps : (s : List Item) (at : ℕ) (t : Token) → Spells all s ((at, t) ∷ us) → Low (context s) → (xs : Placed) → all ≡ xs ++ (at, t) ∷ us → Keeps all (at, t) us (want s at t)
+  unfolding want
+  want_keeps s at token.Dot sp low xs is =
+      ((at, token.Dot) ∷ us, sp, (low, Grammar.post_term _ _ here (Grammar.term_here (tokens us)), λ w vs d. Grammar.post_term _ vs (index here w) (Grammar.term_dot_text (tokens us) vs w d)))
+  want_keeps s at (token.Field x) sp low xs is = one_keeps s _ sp low (Grammar.term_field (tokens us) x)
+  want_keeps s at (token.Var x) sp low xs is = one_keeps s _ sp low (Grammar.term_var (tokens us) x)
+  want_keeps s at (token.Name x) sp low xs is = name_keeps s at x sp low xs is
+  want_keeps s at (token.Keyword k) sp low xs is = keyword_keeps s at k sp low
+  want_keeps s at (token.Number n) sp low xs is = one_keeps s _ sp low (Grammar.term_number (tokens us) n)
+  want_keeps s at (token.Text t) sp low xs is = one_keeps s _ sp low (Grammar.term_text _ (tokens us) _ (Grammar.text_whole (tokens us) t))
+  want_keeps s at (token.TextOpen t) sp low xs is =
+      let serves = λ (w : Tree) (vs : Tokens) (d : TextOf (token.TextOpen t ∷ tokens us) w vs). Grammar.post_term _ vs w (Grammar.term_text _ vs w d) in
+      (us, ((at, token.TextOpen t) ∷ us, sp, (low, token.TextOpen t ∷ tokens us, serves, λ e vs d. Grammar.pieces_first (tokens us) vs t e d)), (refl, refl))
+  want_keeps s at (token.Sign g) sp low xs is = sign_keeps s at g sp low
+  want_keeps s at t sp low xs is = wrong_keeps at t
+
+  emptied_keeps : (s : List Item) (at : ℕ) → Spells all s ((at, token.Sign sign.RightBracket) ∷ us) → Keeps all (at, token.Sign sign.RightBracket) us (emptied s at)
+  unfolding emptied
+  emptied_keeps (items.Open opening.List ∷ s) at sp = held s sp.0 sp.1 sp.2.0 (sp.2.2 (tokens us) refl)
+  emptied_keeps (items.Open (opening.Index e) ∷ s) at sp = held s sp.0 sp.1 sp.2.0 (sp.2.2 (tokens us) refl)
+  emptied_keeps s at sp = inl refl
+
+  first_keeps : (s : List Item) (at : ℕ) (t : Token) → Spells all s ((at, t) ∷ us) → Low (context s) → (xs : Placed) → all ≡ xs ++ (at, t) ∷ us → Keeps all (at, t) us (first s at t)
+  unfolding first
+  first_keeps s at (token.Sign sign.RightBracket) sp low xs is = emptied_keeps s at sp
+  first_keeps s at t sp low xs is = want_keeps s at t sp low xs is
+
+  -- ---- names, texts and members
+
+  dotted_keeps : (s : List Item) (e : Tree) (alone : Bool) (at : ℕ) (t : Token) → Reads all s (mode.Dotted e alone) ((at, t) ∷ us) → Keeps all (at, t) us (dotted s e alone at t)
+  unfolding dotted
+  dotted_keeps s e true at (token.Text t) h = held s h.0 h.1 h.2.0 (h.2.2 _ (tokens us) (Grammar.text_whole (tokens us) t))
+  dotted_keeps s e false at (token.Text t) h = held s h.0 h.1 h.2.0 (Grammar.post_text _ _ (tokens us) e _ h.2.1 (Grammar.text_whole (tokens us) t))
+  dotted_keeps s e true at (token.TextOpen t) h = (us, (h.0, h.1, (h.2.0, _, h.2.2, λ k vs d. Grammar.pieces_first (tokens us) vs t k d)), (refl, refl))
+  dotted_keeps s e false at (token.TextOpen t) h =
+      (us, (h.0, h.1, (h.2.0, token.TextOpen t ∷ tokens us, λ w vs d. Grammar.post_text _ _ vs e w h.2.1 d, λ k vs d. Grammar.pieces_first (tokens us) vs t k d)), (refl, refl))
+  dotted_keeps s e true at t h = have_keeps s 10 e at t h.0 h.1 (hold (context s) (tokens h.0) (t ∷ tokens us) e h.2.0 h.2.1)
+  dotted_keeps s e false at (token.Sign sign.LeftBracket) h =
+      (us, (h.0, h.1, (h.2.0, λ k vs c. Grammar.post_dot_index _ _ vs e k h.2.1 c, λ vs is. Grammar.post_dot_iterate _ vs e (rw is at h.2.1))), (refl, refl))
+  dotted_keeps s e false at t h = inl refl
+
+  called_keeps : (s : List Item) (x : List ℕ) (p at : ℕ) (t : Token) → Reads all s (mode.Called x p) ((at, t) ∷ us) → Keeps all (at, t) us (called_next s x p at t)
+  unfolding called_next
+  called_keeps s x p at (token.Sign sign.LeftParen) h = (us, (h.0, h.1, (h.2.0, at, us, h.2.1, Laws.none_before (tokens us), h.2.2, h.2.3)), (refl, refl))
+  called_keeps s x p at t h =
+      applied_keeps (at, t) x p [] (λ e. have s 10 e at t) (λ none. inr (inl (h.2.2, x, subst (λ (w : Placed). all ≡ h.2.2 ++ w) h.2.1 h.2.3, none)))
+      (λ b known. have_keeps s 10 (apply b no_trees) at t h.0 h.1 (hold (context s) (tokens h.0) (t ∷ tokens us) _ h.2.0 (alone_term h.0 ((at, t) ∷ us) x p b h.2.1 known)))
+
+  member_keeps : (s : List Item) (ms : List ExprMember) (first : Bool) (at : ℕ) (t : Token) → Reads all s (mode.Member ms first) ((at, t) ∷ us) → Keeps all (at, t) us (member s ms first at t)
+  unfolding member
+  member_keeps s ms first at (token.Name x) h = (h.0, h.1, (h.2.0, _, h.2.1, Grammar.key_name (tokens us) x, λ e. Grammar.member_name (tokens us) x))
+  member_keeps s ms first at (token.Keyword k) h = (h.0, h.1, (h.2.0, _, h.2.1, Grammar.key_keyword (tokens us) k, λ never. cc never))
+  member_keeps s ms first at (token.Text t) h =
+      (h.0, h.1, (h.2.0, _, h.2.1, Grammar.key_text _ _ _ (Grammar.text_whole (tokens us) t), λ e. Grammar.member_text _ _ _ (Grammar.text_whole (tokens us) t)))
+  member_keeps s ms first at (token.TextOpen t) h = (us, (h.0, h.1, (h.2.0, _, h.2.1, λ e vs d. Grammar.pieces_first (tokens us) vs t e d)), (refl, refl))
+  member_keeps s ms first at (token.Var x) h = (h.0, h.1, (h.2.0, h.2.1 _ (tokens us) (Grammar.member_var (tokens us) x)))
+  member_keeps s ms first at (token.Sign sign.LeftParen) h = (us, (h.0, h.1, (h.2.0, h.2.1)), (refl, refl))
+  member_keeps s ms true at (token.Sign sign.RightBrace) h =
+      held s h.0 h.1 h.2.0 (rw ((h.2.2 refl).1, (h.2.2 refl).0) (Grammar.post_term _ (tokens us) _ (Grammar.term_empty_object (tokens us))))
+  member_keeps s ms first at t h = inl refl
+
+  member_end_keeps : (s : List Item) (ms : List ExprMember) (at : ℕ) (t : Token) → Reads all s (mode.MemberEnd ms) ((at, t) ∷ us) → Keeps all (at, t) us (unmoved s (member_end ms at t))
+  unfolding member_end
+  member_end_keeps s ms at (token.Sign sign.Comma) h = (h.0, h.1, (h.2.0, inside_more (tokens h.0) (tokens us) ms h.2.1, λ never. cc never))
+  member_end_keeps s ms at (token.Sign sign.RightBrace) h = object_keeps s ms h.0 h.1 h.2.0 h.2.1
+  member_end_keeps s ms at t h = inl refl
+
+  after_key_keeps : (s : List Item) (ms : List ExprMember) (k : Tree) (alone : Bool) (at : ℕ) (t : Token) → Reads all s (mode.AfterKey ms k alone) ((at, t) ∷ us)
+      → Keeps all (at, t) us (after_key s ms k alone at t)
+  unfolding after_key
+  after_key_keeps s ms k alone at (token.Sign sign.Colon) h = (us, (h.0, h.1, (h.2.0, h.2.1, h.2.2, h.2.3)), (refl, refl))
+  after_key_keeps s ms k true at t h =
+      member_end_keeps s (ms ++ key_alone k ∷ []) at t (h.0, h.1, (h.2.0, h.2.2 (key_alone k) (t ∷ tokens us) (h.2.4 refl)))
+  after_key_keeps s ms k false at t h = inl refl
+
+  bound_keeps : (s : List Item) (e : Tree) (at : ℕ) (t : Token) → Reads all s (mode.WantVar e) ((at, t) ∷ us) → Keeps all (at, t) us (unmoved s (bound e at t))
+  unfolding bound
+  bound_keeps s e at (token.Var x) h = h
+  bound_keeps s e at t h = inl refl
+
+  piped_keeps : (s : List Item) (e : Tree) (x : List ℕ) (at : ℕ) (t : Token) → Reads all s (mode.WantPipe e x) ((at, t) ∷ us) → Keeps all (at, t) us (piped s e x at t)
+  unfolding piped
+  piped_keeps s e x at (token.Sign sign.Pipe) h = (us, (h.0, h.1, h.2.0, binds_right (context s) (tokens h.0) (tokens us) e x h.2.0 h.2.1), (refl, refl))
+  piped_keeps s e x at t h = inl refl
+
+  pub step_keeps : (s : List Item) (m : Mode) (at : ℕ) (t : Token) → Reads all s m ((at, t) ∷ us) → (xs : Placed) → all ≡ xs ++ (at, t) ∷ us → Keeps all (at, t) us (step s m at t)
+  unfolding step
+  step_keeps s mode.Want at t h xs is = want_keeps s at t (subst (Spells all s) h.2.0 h.1) h.2.1 xs is
+  step_keeps s mode.First at t h xs is = first_keeps s at t (subst (Spells all s) h.2.0 h.1) h.2.1 xs is
+  step_keeps s (mode.Have e) at t h xs is = have_keeps s 10 e at t h.0 h.1 h.2
+  step_keeps s (mode.Dotted e alone) at t h xs is = dotted_keeps s e alone at t h
+  step_keeps s (mode.Called x p) at t h xs is = called_keeps s x p at t h
+  step_keeps s (mode.Member ms first) at t h xs is = member_keeps s ms first at t h
+  step_keeps s (mode.AfterKey ms k alone) at t h xs is = after_key_keeps s ms k alone at t h
+  step_keeps s (mode.MemberEnd ms) at t h xs is = member_end_keeps s ms at t h
+  step_keeps s (mode.WantVar e) at t h xs is = bound_keeps s e at t h
+  step_keeps s (mode.WantPipe e x) at t h xs is = piped_keeps s e x at t h

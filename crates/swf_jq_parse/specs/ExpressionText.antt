@@ -5,8 +5,7 @@ use Rattle.swf_expr.specs.Expr.{Tree}
 use Rattle.swf_jq_parse.specs.Grammar.{Pipe}
 use Rattle.swf_jq_parse.specs.GrammarLaws.{tokens}
 use Rattle.swf_jq_tokens.specs.Lexer.{lex}
-use Rattle.swf_jq_parse.specs.Machine.{ends_at}
-use Rattle.swf_jq_parse.specs.Parse.{tokens_of, end_of}
+use Rattle.swf_jq_tokens.specs.declared.lexer.End.TheVariants as end
 use Rattle.swf_jq_tokens.specs.declared.fault.ParseFault.{ParseFault}
 use Rattle.swf_jq_tokens.specs.declared.fault.ParseFault.TheVariants as fault
 
@@ -14,8 +13,8 @@ use Rattle.swf_jq_tokens.specs.declared.fault.ParseFault.TheVariants as fault
 pub record IsTextOf (cs : List ℕ) (e : Tree) : Type 0 where
   pub short : length (encode_utf8_all cs) ≤ 4096
   pub place : ℕ
-  pub whole : end_of (lex [] 0 cs) ≡ ends_at place
-  pub grammar : Pipe (tokens (tokens_of (lex [] 0 cs))) e
+  pub whole : (lex [] 0 cs).1 ≡ end.At place
+  pub grammar : Pipe (tokens (lex [] 0 cs).0) e
 
 -- memory ran out, or the text is no expression
 abbrev pub IsRefused : List ℕ → ParseFault → Type 0

@@ -1,13 +1,7 @@
-pub mod Rows
-pub mod Joining
-pub mod TextPart
-pub mod Operand
-pub mod Closing
-pub mod Suffix
-pub mod Member
-pub mod Machine
-pub mod Parse
-pub mod Turn
+pub mod Parts
+pub mod Joints
 pub mod Grammar
+pub mod Machine
 pub mod GrammarLaws
+pub mod Parse
 pub mod ExpressionText

@@ -1,9 +1,10 @@
 //! The text of expressions: reading it as a tree.
 #![tactic(auto)]
 
-mod closing;
+mod close;
 mod fault;
-mod joining;
+mod follow;
+mod joint;
 mod laws;
 mod machine;
 mod member;
@@ -11,7 +12,6 @@ mod mode;
 mod operand;
 mod parsing;
 mod stack;
-mod suffix;
 mod text_part;
 
 pub use fault::ParseFault;

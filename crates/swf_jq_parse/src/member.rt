@@ -1,90 +1,67 @@
 // The members of an object.
-ghost use Rattle.std.specs.Prelude.{◌≡◌, IfOk};
+ghost use Rattle.std.specs.Prelude.{◌≡◌, ◌∷◌, ◌++◌, [], IfOk, Ok};
+ghost use Rattle.swf_jq_parse.specs.Machine.{member, after_key, member_end};
+ghost use Rattle.swf_expr.specs.Expr.{object_of};
+ghost use Rattle.swf_expr.specs.ExprNode.{pairs_of};
+ghost use Rattle.swf_jq_parse.specs.Parts.{with_value};
 ghost use Rattle.swf_jq_tokens.specs.Gives.{Gives};
-ghost use Rattle.swf_jq_parse.specs.Member.{member, member_sign, after_key, member_end, key_lit, variable_member};
 
-use crate::fault::{ParseFault, refuse};
-use crate::mode::Mode;
-use crate::operand::text_expr;
-use crate::stack::{Item, Members, Purpose, Stack};
-use crate::text_part::open_text;
+use crate::fault::refuse;
+use crate::mode::{Mode, Next};
+use crate::stack::{Members, Opening, Purpose, Stack, begin, with_last};
+use crate::text_part::{first_piece, text_expr};
 use std::alloc::{AllocError, Global};
-use swf_expr::{Expr, Name};
-use swf_jq_tokens::{Keyword, Sign, Token};
+use swf_expr::{Expr, ExprMember};
+use swf_jq_tokens::{Sign, Token};
 use swf_text::Text;
 
-/// The key that a keyword is.
-fn keyword_key(alloc: Global, keyword: Keyword) -> Result<Expr, AllocError>
-    ensures { IfOk result (λ e. e ≡ key_lit keyword) }
+/// These members and one more, which has a value of its own.
+pub fn with_value(members: Members, key: Expr, value: Expr) -> Result<Members, AllocError>
+    ensures { IfOk result (λ ms. ms ≡ members ++ with_value key value ∷ []) }
 {
-    let text = Text::copy_of(alloc, keyword.word())?;
-    Ok(text_expr(text))
+    let value = Some(value);
+    with_last(members, ExprMember { key, value })
 }
 
-/// A member `$name` after these.
-#[tactic(auto, unfolding(crate::specs::Member::variable_member))]
-fn bind_member(alloc: Global, members: Members, name: Name) -> Result<Mode, ParseFault>
-    ensures { Gives (λ m. m) result (Ok (variable_member members name)) }
+/// The object of these members.
+pub fn object(alloc: Global, members: Members) -> Result<Expr, AllocError>
+    ensures { IfOk result (λ e. e ≡ object_of (pairs_of members)) }
 {
-    let key = text_expr(name.text().copy()?);
-    let members = members.with(key, Some(Expr::var(name)))?;
-    Ok(Mode::MemberEnd(members))
+    let members = members.into_iter().collect(alloc)?;
+    Ok(Expr::object_of(alloc, members))
 }
 
 /// A member after these, or the end where there is none yet.
-#[tactic(auto, unfolding(crate::specs::Member::member))]
-pub fn member(
-    stack: &mut Stack,
-    members: Members,
-    first: bool,
-    at: usize,
-    token: Token,
-) -> Result<Mode, ParseFault>
+#[tactic(auto, using(crate::proofs::Parts::keyword_chars), unfolding(crate::specs::Machine::member))]
+pub fn member(stack: &mut Stack, members: Members, first: bool, at: usize, token: Token) -> Next
     ensures { Gives (λ m. (stack.new, m)) result (member stack.old members first at token) }
 {
+    let alloc = *stack.allocator();
     match token {
         Token::Name(name) => Ok(Mode::AfterKey(members, text_expr(name.into_text()), true)),
         Token::Keyword(keyword) => {
-            let key = keyword_key(stack.alloc(), keyword)?;
-            Ok(Mode::AfterKey(members, key, false))
+            let word = Text::copy_of(alloc, keyword.word())?;
+            Ok(Mode::AfterKey(members, text_expr(word), false))
         }
         Token::Text(text) => Ok(Mode::AfterKey(members, text_expr(text), true)),
-        Token::TextOpen(text) => open_text(stack, Purpose::Key(members), text),
-        Token::Var(name) => bind_member(stack.alloc(), members, name),
-        Token::Sign(sign) => member_sign(stack, members, first, at, sign),
-        other => refuse(other, at),
-    }
-}
-
-/// A sign where a member may stand.
-#[tactic(auto, unfolding(crate::specs::Member::member_sign))]
-fn member_sign(
-    stack: &mut Stack,
-    members: Members,
-    first: bool,
-    at: usize,
-    sign: Sign,
-) -> Result<Mode, ParseFault>
-    ensures { Gives (λ m. (stack.new, m)) result (member_sign stack.old members first at sign) }
-{
-    match sign {
-        Sign::LeftParen => {
-            stack.push(Item::Key(members))?;
-            Ok(Mode::Want)
+        Token::TextOpen(text) => {
+            begin(
+                stack,
+                Opening::Text(Purpose::Key(members), first_piece(text)),
+            )
         }
-        Sign::RightBrace => {
-            if first {
-                Ok(Mode::Have(members.into_expr(stack.alloc())))
-            } else {
-                Err(ParseFault::Syntax { at })
-            }
+        Token::Var(name) => {
+            let key = text_expr(name.text().copy()?);
+            Ok(Mode::MemberEnd(with_value(members, key, Expr::var(name))?))
         }
+        Token::Sign(Sign::LeftParen) => begin(stack, Opening::Key(members)),
+        Token::Sign(Sign::RightBrace) if first => Ok(Mode::Have(object(alloc, members)?)),
         other => refuse(other, at),
     }
 }
 
 /// What may follow a member's key.
-#[tactic(auto, unfolding(crate::specs::Member::after_key))]
+#[tactic(auto, unfolding(crate::specs::Machine::after_key))]
 pub fn after_key(
     stack: &mut Stack,
     members: Members,
@@ -92,37 +69,28 @@ pub fn after_key(
     alone: bool,
     at: usize,
     token: Token,
-) -> Result<Mode, ParseFault>
+) -> Next
     ensures { Gives (λ m. (stack.new, m)) result (after_key stack.old members key alone at token) }
 {
     match token {
-        Token::Sign(Sign::Colon) => {
-            stack.push(Item::Value(members, key))?;
-            Ok(Mode::Want)
+        Token::Sign(Sign::Colon) => begin(stack, Opening::Value(members, key)),
+        token if alone => {
+            let value = None;
+            let members = with_last(members, ExprMember { key, value })?;
+            member_end(*stack.allocator(), members, at, token)
         }
-        token => {
-            if !alone {
-                return Err(ParseFault::Syntax { at });
-            }
-            let members = members.with(key, None)?;
-            member_end(stack.alloc(), members, at, token)
-        }
+        other => refuse(other, at),
     }
 }
 
 /// What may follow a whole member.
-#[tactic(auto, unfolding(crate::specs::Member::member_end))]
-pub fn member_end(
-    alloc: Global,
-    members: Members,
-    at: usize,
-    token: Token,
-) -> Result<Mode, ParseFault>
+#[tactic(auto, unfolding(crate::specs::Machine::member_end))]
+pub fn member_end(alloc: Global, members: Members, at: usize, token: Token) -> Next
     ensures { Gives (λ m. m) result (member_end members at token) }
 {
     match token {
         Token::Sign(Sign::Comma) => Ok(Mode::Member(members, false)),
-        Token::Sign(Sign::RightBrace) => Ok(Mode::Have(members.into_expr(alloc))),
+        Token::Sign(Sign::RightBrace) => Ok(Mode::Have(object(alloc, members)?)),
         other => refuse(other, at),
     }
 }

@@ -1,4 +1,5 @@
 // What may stand next.
+use crate::fault::ParseFault;
 use crate::stack::Members;
 use swf_expr::{Expr, Name};
 
@@ -7,16 +8,12 @@ use swf_expr::{Expr, Name};
 pub enum Mode {
     /// An operand.
     Want,
-    /// What a `[` begins that is no suffix.
-    ListStart,
-    /// What a `[` begins behind this.
-    IndexStart(Expr),
+    /// The end of the list or index that was just opened, or an operand.
+    First,
     /// Whatever may follow this operand.
     Have(Expr),
-    /// Whatever may follow a `.` that is an operand.
-    Dotted,
-    /// A `[` or a text, behind this and a `.`.
-    Suffix(Expr),
+    /// A text or a `[`, behind this and a `.`, or whatever may follow where the `.` is the operand.
+    Dotted(Expr, bool),
     /// The arguments of a name at a place, or what may follow it.
     Called(Name, usize),
     /// A member after these, or the end where there is none yet.
@@ -30,3 +27,6 @@ pub enum Mode {
     /// The `|` after the name for this.
     WantPipe(Expr, Name),
 }
+
+/// What may stand next, or the fault of a token.
+pub type Next = Result<Mode, ParseFault>;

@@ -1,14 +1,15 @@
 // What may stand where an operand is wanted.
 ghost use Rattle.std.specs.Prelude.{◌≡◌, IfOk};
-ghost use Rattle.swf_value.specs.Value.{text as text_value};
 ghost use Rattle.swf_expr.specs.Expr.{lit, index};
+ghost use Rattle.swf_value.specs.Value.{text as text_value};
+ghost use Rattle.swf_jq_parse.specs.Machine.{applied, want, want_name, want_keyword, want_sign, first};
+ghost use Rattle.swf_jq_parse.specs.Parts.{is_called};
 ghost use Rattle.swf_jq_tokens.specs.Gives.{Gives};
-ghost use Rattle.swf_jq_parse.specs.Operand.{is_called, called, want, want_keyword, want_sign, list_start, index_start};
 
-use crate::fault::{ParseFault, refuse};
-use crate::mode::Mode;
-use crate::stack::{Item, Members, Pending, Purpose, Stack};
-use crate::text_part::open_text;
+use crate::fault::{ParseFault, refuse, refuse_token};
+use crate::mode::{Mode, Next};
+use crate::stack::{Arguments, Item, Members, Opening, Pending, Purpose, Stack, begin, open};
+use crate::text_part::{first_piece, text_expr};
 use std::alloc::{AllocError, Global};
 use swf_expr::{Builtin, Expr, Name, Op};
 use swf_jq_tokens::{Keyword, Sign, Token};
@@ -16,32 +17,22 @@ use swf_text::Text;
 use swf_value::Json;
 
 /// An operand, or its beginning.
-#[tactic(auto, unfolding(crate::specs::Operand::want, crate::specs::Operand::want_name))]
-pub fn want(stack: &mut Stack, at: usize, token: Token) -> Result<Mode, ParseFault>
+#[tactic(auto, unfolding(crate::specs::Machine::want))]
+pub fn want(stack: &mut Stack, at: usize, token: Token) -> Next
     ensures { Gives (λ m. (stack.new, m)) result (want stack.old at token) }
 {
     match token {
-        Token::Dot => Ok(Mode::Dotted),
-        Token::Dots => Err(ParseFault::Syntax {
-            at: at.saturating_add(1),
-        }),
-        Token::Field(name) => Ok(Mode::Have(field(stack.alloc(), Expr::here(), name)?)),
+        Token::Dot => Ok(Mode::Dotted(Expr::here(), true)),
+        Token::Field(name) => Ok(Mode::Have(field(*stack.allocator(), Expr::here(), name)?)),
         Token::Var(name) => Ok(Mode::Have(Expr::var(name))),
-        Token::Name(name) => call(name, at),
+        Token::Name(name) => want_name(name, at),
         Token::Keyword(keyword) => want_keyword(stack, at, keyword),
         Token::Number(number) => Ok(Mode::Have(number.into_expr())),
         Token::Text(text) => Ok(Mode::Have(text_expr(text))),
-        Token::TextOpen(text) => open_text(stack, Purpose::Operand, text),
+        Token::TextOpen(text) => begin(stack, Opening::Text(Purpose::Operand, first_piece(text))),
         Token::Sign(sign) => want_sign(stack, at, sign),
-        other => refuse(other, at),
+        other => refuse_token(other, at),
     }
-}
-
-/// The expression that gives a text. It takes no memory.
-pub fn text_expr(text: Text) -> Expr
-    ensures { result ≡ lit (text_value text) }
-{
-    Expr::lit(Json::text(text))
 }
 
 /// An operand, indexed by a text.
@@ -52,7 +43,7 @@ pub fn field(alloc: Global, of: Expr, name: Text) -> Result<Expr, AllocError>
 }
 
 /// Whether some built-in has this name.
-#[tactic(auto, unfolding(crate::specs::Operand::is_called))]
+#[tactic(auto, unfolding(crate::specs::Parts::is_called))]
 fn is_called(name: &Name) -> bool
     ensures { result ≡ is_called name.now }
 {
@@ -63,8 +54,9 @@ fn is_called(name: &Name) -> bool
 }
 
 /// The name of a built-in.
-fn call(name: Name, at: usize) -> Result<Mode, ParseFault>
-    ensures { Gives (λ m. m) result (called name at) }
+#[tactic(auto, unfolding(crate::specs::Machine::want_name))]
+fn want_name(name: Name, at: usize) -> Next
+    ensures { Gives (λ m. m) result (want_name name at) }
 {
     if is_called(&name) {
         Ok(Mode::Called(name, at))
@@ -73,65 +65,61 @@ fn call(name: Name, at: usize) -> Result<Mode, ParseFault>
     }
 }
 
-#[tactic(auto, unfolding(crate::specs::Operand::want_keyword))]
-fn want_keyword(stack: &mut Stack, at: usize, keyword: Keyword) -> Result<Mode, ParseFault>
+#[tactic(auto, unfolding(crate::specs::Machine::want_keyword))]
+fn want_keyword(stack: &mut Stack, at: usize, keyword: Keyword) -> Next
     ensures { Gives (λ m. (stack.new, m)) result (want_keyword stack.old at keyword) }
 {
     match keyword {
         Keyword::Null => Ok(Mode::Have(Expr::lit(Json::null()))),
         Keyword::True => Ok(Mode::Have(Expr::lit(Json::boolean(true)))),
         Keyword::False => Ok(Mode::Have(Expr::lit(Json::boolean(false)))),
-        Keyword::If => {
-            stack.push(Item::If)?;
-            Ok(Mode::Want)
-        }
+        Keyword::If => begin(stack, Opening::If),
         other => refuse(other, at),
     }
 }
 
-#[tactic(auto, unfolding(crate::specs::Operand::want_sign))]
-fn want_sign(stack: &mut Stack, at: usize, sign: Sign) -> Result<Mode, ParseFault>
+#[tactic(auto, unfolding(crate::specs::Machine::want_sign))]
+fn want_sign(stack: &mut Stack, at: usize, sign: Sign) -> Next
     ensures { Gives (λ m. (stack.new, m)) result (want_sign stack.old at sign) }
 {
     match sign {
-        Sign::LeftParen => {
-            stack.push(Item::Paren)?;
-            Ok(Mode::Want)
-        }
-        Sign::LeftBracket => Ok(Mode::ListStart),
-        Sign::LeftBrace => Ok(Mode::Member(Members::new(stack.alloc()), true)),
-        Sign::Op(Op::Subtract) => {
-            stack.push(Item::Pending(Pending::Negate))?;
-            Ok(Mode::Want)
-        }
+        Sign::LeftParen => begin(stack, Opening::Paren),
+        Sign::LeftBracket => open(stack, Item::Open(Opening::List), Mode::First),
+        Sign::LeftBrace => Ok(Mode::Member(Members::new(*stack.allocator()), true)),
+        Sign::Op(Op::Subtract) => open(stack, Item::Pending(Pending::Negate), Mode::Want),
         other => refuse(other, at),
     }
 }
 
-/// What begins a list: its end, or an operand.
-#[tactic(auto, unfolding(crate::specs::Operand::list_start))]
-pub fn list_start(stack: &mut Stack, at: usize, token: Token) -> Result<Mode, ParseFault>
-    ensures { Gives (λ m. (stack.new, m)) result (list_start stack.old at token) }
+/// What begins a list or an index: its end, or an operand.
+#[tactic(auto, unfolding(crate::specs::Machine::first, crate::specs::Machine::emptied))]
+pub fn first(stack: &mut Stack, at: usize, token: Token) -> Next
+    ensures { Gives (λ m. (stack.new, m)) result (first stack.old at token) }
 {
     match token {
-        Token::Sign(Sign::RightBracket) => Ok(Mode::Have(Expr::empty_list())),
-        token => {
-            stack.push(Item::List)?;
-            want(stack, at, token)
-        }
+        Token::Sign(Sign::RightBracket) => match stack.pop_front() {
+            Some(Item::Open(Opening::List)) => Ok(Mode::Have(Expr::empty_list())),
+            Some(Item::Open(Opening::Index(of))) => {
+                Ok(Mode::Have(Expr::iterate(*stack.allocator(), of)?))
+            }
+            other => refuse(other, at),
+        },
+        token => want(stack, at, token),
     }
 }
 
-/// What begins an index: its end, or an operand.
-#[tactic(auto, unfolding(crate::specs::Operand::index_start))]
-pub fn index_start(stack: &mut Stack, of: Expr, at: usize, token: Token) -> Result<Mode, ParseFault>
-    ensures { Gives (λ m. (stack.new, m)) result (index_start stack.old of at token) }
+/// A name with its arguments.
+#[tactic(auto, unfolding(crate::specs::Machine::applied, crate::specs::Machine::applied_to))]
+pub fn apply_to(
+    alloc: Global,
+    name: &Name,
+    arguments: Arguments,
+    at: usize,
+) -> Result<Expr, ParseFault>
+    ensures { Gives (λ e. e) result (applied name.now at arguments) }
 {
-    match token {
-        Token::Sign(Sign::RightBracket) => Ok(Mode::Have(Expr::iterate(stack.alloc(), of)?)),
-        token => {
-            stack.push(Item::Index(of))?;
-            want(stack, at, token)
-        }
+    match Builtin::find(name.text().as_str(), arguments.len()) {
+        Some(builtin) => Ok(Expr::apply(builtin, arguments.into_iter().collect(alloc)?)),
+        None => Err(ParseFault::UnknownName { at }),
     }
 }

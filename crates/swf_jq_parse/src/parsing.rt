@@ -1,32 +1,22 @@
 // Reading a text as an expression.
-ghost use Rattle.std.specs.Prelude.{◌≡◌, ◌+◌, ◌*◌, ◌<◌, ◌≤◌, ◌^◌, [], ◌∷◌, length, IfOk, IfErr, MatchOption};
+ghost use Rattle.std.specs.Prelude.{[], IfOk, IfErr};
 ghost use Rattle.std.specs.Str.{chars};
 ghost use Rattle.swf_jq_parse.specs.ExpressionText.{IsTextOf, IsRefused};
-ghost use Rattle.swf_jq_tokens.specs.Gives.{Fails, Gives};
-ghost use Rattle.swf_jq_tokens.specs.Lexer.{lex};
-ghost use Rattle.swf_jq_parse.specs.Parse.{read_of, parse_of};
-ghost use Rattle.swf_jq_parse.specs.Turn.{reading, name_or_fault, token_read, turned};
-ghost use Rattle.swf_jq_tokens.specs.declared.fault.ParseFault.TheVariants.{OutOfMemory};
+ghost use Rattle.swf_jq_tokens.specs.Gives.{Gives};
+ghost use Rattle.swf_jq_parse.specs.Machine.{run};
+ghost use Rattle.swf_jq_parse.specs.Parse.{parse_of};
 ghost use Rattle.swf_jq_parse.specs.declared.mode.Mode.TheVariants as mode;
 
-use crate::fault::{ParseFault, discard};
-use crate::machine::{check_called, finish, step};
+use crate::fault::{ParseFault, fail};
+use crate::machine::{finish, last_read, step};
 use crate::mode::Mode;
 use crate::stack::Stack;
-use std::alloc::{AllocError, Global};
+use std::alloc::Global;
 use swf_expr::Expr;
-use swf_jq_tokens::{Lexeme, Nest, is_blank, read_token};
+use swf_jq_tokens::{End, Token, lex};
 
 /// How many bytes an expression may have.
 const LONGEST: usize = 4096;
-
-/// What may stand after a token or blank, and the text after it with its place.
-#[derive(Drop)]
-struct Turn<'a> {
-    mode: Mode,
-    rest: &'a [char],
-    at: usize,
-}
 
 /// The expression that a text is, or the first fault in it. A text is read exactly where it has at most
 /// 4,096 bytes, is tokens to its end, and the grammar makes an expression of them.
@@ -38,128 +28,30 @@ pub fn parse(alloc: Global, text: &str) -> Result<Expr, ParseFault>
     if text.len() > LONGEST {
         return Err(ParseFault::TooLong);
     }
-    let chars = characters(alloc, text)?;
-    read(alloc, chars.as_slice())
+    let characters: Vec<char> = text.chars().collect(alloc)?;
+    let (tokens, end) = lex(alloc, characters.as_slice())?;
+    run(alloc, tokens, end)
 }
 
-/// The characters of a text.
-fn characters(alloc: Global, text: &str) -> Result<Vec<char>, AllocError>
-    ensures { IfOk result (λ v. v.items ≡ chars text.now) }
-{
-    text.chars().collect(alloc)
-}
-
-/// The expression that the characters are.
-fn read(alloc: Global, chars: &[char]) -> Result<Expr, ParseFault>
-    requires { 4 * length chars.now < 2 ^ 63 }
-    ensures { Gives (λ e. e) result (read_of [] mode.Want (lex [] 0 chars.now)) }
+/// The expression that tokens with their places are.
+fn run(alloc: Global, tokens: Vec<(usize, Token)>, end: End) -> Result<Expr, ParseFault>
+    ensures { Gives (λ e. e) result (run [] mode.Want tokens.items end) }
 {
     let mut stack = Stack::new(alloc);
-    let mut nest = Nest::new(alloc);
     let mut mode = Mode::Want;
-    let mut rest = chars;
-    let mut at = 0;
-    for _ in 0..chars.len() {
-        match first_of(rest) {
-            None => return finish(&mut stack, mode, at),
-            Some((first, tail)) => {
-                match advance(&mut stack, &mut nest, mode, first, tail, at) {
-                    Ok(next) => {
-                        mode = next.mode;
-                        rest = next.rest;
-                        at = next.at;
-                    }
-                    Err(fault) => return Err(fault),
-                }
-            }
-        }
+    for (at, token) in tokens {
+        mode = step(&mut stack, mode, at, token)?;
     }
-    finish(&mut stack, mode, at)
+    ended(&mut stack, mode, end)
 }
 
-/// The first character and those after it, if there is one.
-fn first_of(rest: &[char]) -> Option<(char, &[char])>
-    ensures { MatchOption result (rest.now ≡ []) (λ r. rest.now ≡ r.0 ∷ r.1.now) }
+/// The expression, where the tokens end. Where a fault ends them, that of the name before it goes first.
+#[tactic(auto, using(crate::proofs::Reading::fails_first), unfolding(crate::specs::Machine::run))]
+fn ended(stack: &mut Stack, mode: Mode, end: End) -> Result<Expr, ParseFault>
+    ensures { Gives (λ e. e) result (run stack.old mode [] end) }
 {
-    match rest {
-        [first, tail @ ..] => Some((*first, tail)),
-        [] => None,
-    }
-}
-
-/// One token or blank further.
-#[tactic(auto, unfolding(crate::specs::Turn::turned))]
-fn advance<'a>(
-    stack: &mut Stack,
-    nest: &mut Nest,
-    mode: Mode,
-    first: char,
-    tail: &'a [char],
-    at: usize,
-) -> Result<Turn<'a>, ParseFault>
-    requires { at + 4 + 4 * length tail.now < 2 ^ 63 }
-    ensures gives { Gives (λ t. reading stack.new nest.new t.mode t.at t.rest.now) result (turned stack.old nest.old mode at first tail.now) }
-    ensures within { IfOk result (λ t. t.at + 4 * length t.rest.now ≤ at + 4 + 4 * length tail.now) }
-{
-    if is_blank(first) {
-        Ok(Turn {
-            mode,
-            rest: tail,
-            at: at + 1,
-        })
-    } else {
-        token_turn(stack, nest, mode, first, tail, at)
-    }
-}
-
-/// One token further.
-#[tactic(auto, unfolding(crate::specs::Turn::token_read))]
-fn token_turn<'a>(
-    stack: &mut Stack,
-    nest: &mut Nest,
-    mode: Mode,
-    first: char,
-    tail: &'a [char],
-    at: usize,
-) -> Result<Turn<'a>, ParseFault>
-    requires { at + 4 + 4 * length tail.now < 2 ^ 63 }
-    ensures gives { Gives (λ t. reading stack.new nest.new t.mode t.at t.rest.now) result (token_read stack.old nest.old mode at first tail.now) }
-    ensures within { IfOk result (λ t. t.at + 4 * length t.rest.now ≤ at + 4 + 4 * length tail.now) }
-{
-    match read_token(stack.alloc(), nest, first, tail, at) {
-        Ok(nested) => {
-            let Lexeme {
-                token,
-                rest,
-                at: end,
-            } = nested.lexeme;
-            let mode = step(stack, mode, at, token)?;
-            match nested.fault {
-                Some(fault) => Err(first_fault(stack.alloc(), mode, fault)),
-                None => Ok(Turn {
-                    mode,
-                    rest,
-                    at: end,
-                }),
-            }
-        }
-        Err(fault) => Err(first_fault(stack.alloc(), mode, fault)),
-    }
-}
-
-/// The fault of a name that wants arguments and has none, or else the fault of what follows it.
-fn first_fault(alloc: Global, mode: Mode, fault: ParseFault) -> ParseFault
-    ensures memory { fault ≡ OutOfMemory → result ≡ OutOfMemory }
-    ensures first { Fails result (name_or_fault mode fault) }
-{
-    match fault {
-        ParseFault::OutOfMemory => {
-            discard(mode);
-            fault
-        }
-        _ => match check_called(alloc, mode) {
-            Ok(()) => fault,
-            Err(first) => first,
-        },
+    match end {
+        End::At(at) => finish(stack, mode, at),
+        End::Fault(fault) => fail(last_read(*stack.allocator(), mode)?, fault),
     }
 }

@@ -1,22 +1,23 @@
 // What is open at a place of the text.
-ghost use Rattle.std.specs.Prelude.{◌≡◌};
+ghost use Rattle.std.specs.Prelude.{◌≡◌, ◌∷◌, ◌++◌, [], IfOk, OnOk, option_map};
+ghost use Rattle.swf_jq_parse.specs.Machine.{opened, put};
+ghost use Rattle.swf_jq_parse.specs.Parts.{innermost};
+ghost use Rattle.swf_jq_tokens.specs.Gives.{Gives};
 
-use std::alloc::{AllocError, Global};
-use std::marker::Model;
-use swf_expr::{Builtin, Expr, ExprMember, Name, Op};
+use crate::joint::Joint;
+use crate::mode::{Mode, Next};
+use std::alloc::AllocError;
+use std::collections::LinkedList;
+use swf_expr::{Expr, ExprMember, Name};
 
-/// What stands between two operands.
-#[derive(Clone, Copy, Debug, PartialEq, Eq)]
-pub enum Joint {
-    Pipe,
-    /// The `|` in a member's value, where no `,` and no `as` belong to it.
-    ValuePipe,
-    Comma,
-    Alt,
-    Or,
-    And,
-    Op(Op),
-}
+/// All that is open, the innermost first.
+pub type Stack = LinkedList<Item>;
+
+/// The members of an object so far.
+pub type Members = LinkedList<ExprMember>;
+
+/// The arguments of a built-in so far.
+pub type Arguments = LinkedList<Expr>;
 
 /// What waits for its right operand.
 #[derive(Drop)]
@@ -26,7 +27,7 @@ pub enum Pending {
     Left(Joint, Expr),
     /// What a name stands for, up to the `|`.
     Bind(Expr, Name),
-    /// A condition and what follows if it is true, before an `elif` or `else`.
+    /// A condition and what follows if it is true, before an `elif`.
     Branch(Expr, Expr),
 }
 
@@ -40,10 +41,9 @@ pub enum Purpose {
     Key(Members),
 }
 
-/// Something open.
+/// Something that a token ends.
 #[derive(Drop)]
-pub enum Item {
-    Pending(Pending),
+pub enum Opening {
     /// `(`
     Paren,
     /// `[` of a list.
@@ -60,178 +60,53 @@ pub enum Item {
     If,
     /// `then`, with the condition.
     Then(Expr),
-    Else,
+    /// `else`, with the condition and what follows if it is true.
+    Else(Expr, Expr),
     /// The arguments so far of the name at a place.
     Arguments(Name, usize, Arguments),
 }
 
-/// The members of an object so far.
+/// Something open.
 #[derive(Drop)]
-pub struct Members {
-    all: Vec<ExprMember>,
+pub enum Item {
+    Pending(Pending),
+    Open(Opening),
 }
 
-impl Model for Members {
-    ghost use Rattle.swf_expr.specs.Expr.{Pairs};
-    ghost use Rattle.swf_expr.specs.ExprCode.{pairs_code};
-
-    ghost Value = { Pairs };
-
-    ghost coded = { pairs_code };
-
-    ghost use Rattle.swf_expr.specs.ExprNode.{pairs_of};
-
-    ghost view = { λ m. pairs_of m.all.items };
+/// The innermost.
+pub fn top(stack: &Stack) -> Option<&Item>
+    ensures { option_map (λ x. x.now) result ≡ innermost stack.now }
+{
+    stack.front()
 }
 
-impl Members {
-    ghost use Rattle.std.specs.Prelude.{◌≡◌, IfOk};
-    ghost use Rattle.swf_expr.specs.Expr.{no_pairs, object_of};
-    ghost use Rattle.swf_expr.specs.ExprNode.{value_or_here};
-    ghost use Rattle.swf_jq_parse.specs.Rows.{pair_last};
-
-    pub fn new(alloc: Global) -> Members
-        ensures { result ≡ no_pairs }
-    {
-        Members {
-            all: Vec::new(alloc),
-        }
-    }
-
-    /// These members and one more.
-    pub fn with(mut self, key: Expr, value: Option<Expr>) -> Result<Members, AllocError>
-        ensures { IfOk result (λ m. m ≡ pair_last self key (value_or_here key value)) }
-    {
-        self.all.push(ExprMember { key, value })?;
-        Ok(self)
-    }
-
-    /// The object of these members.
-    pub fn into_expr(self, alloc: Global) -> Expr
-        ensures { result ≡ object_of self }
-    {
-        Expr::object_of(alloc, self.all)
-    }
+/// Something is opened.
+pub fn push(stack: &mut Stack, item: Item) -> Result<(), AllocError>
+    ensures { OnOk result (stack.new ≡ item ∷ stack.old) }
+{
+    stack.push_front(item)?;
+    Ok(())
 }
 
-/// The arguments of a built-in so far.
-#[derive(Drop)]
-pub struct Arguments {
-    all: Vec<Expr>,
+/// Something is opened, and this may stand next.
+pub fn open(stack: &mut Stack, item: Item, next: Mode) -> Next
+    ensures { Gives (λ m. (stack.new, m)) result (put item next stack.old) }
+{
+    push(stack, item)?;
+    Ok(next)
 }
 
-impl Model for Arguments {
-    ghost use Rattle.swf_expr.specs.Expr.{Trees};
-    ghost use Rattle.swf_expr.specs.ExprCode.{trees_code};
-
-    ghost Value = { Trees };
-
-    ghost coded = { trees_code };
-
-    ghost use Rattle.swf_expr.specs.ExprNode.{trees_of};
-
-    ghost view = { λ m. trees_of m.all.items };
+/// Something is opened, in which an operand is wanted.
+pub fn begin(stack: &mut Stack, opening: Opening) -> Next
+    ensures { Gives (λ m. (stack.new, m)) result (opened opening stack.old) }
+{
+    open(stack, Item::Open(opening), Mode::Want)
 }
 
-impl Arguments {
-    ghost use Rattle.std.specs.Prelude.{◌≡◌, IfOk};
-    ghost use Rattle.swf_expr.specs.Builtin.{arity};
-    ghost use Rattle.swf_expr.specs.Expr.{no_trees, apply, count};
-    ghost use Rattle.swf_jq_parse.specs.Rows.{tree_last};
-
-    pub fn new(alloc: Global) -> Arguments
-        ensures { result ≡ no_trees }
-    {
-        Arguments {
-            all: Vec::new(alloc),
-        }
-    }
-
-    /// How many there are.
-    pub fn len(&self) -> usize
-        ensures { result ≡ count self.now }
-    {
-        self.all.as_slice().len()
-    }
-
-    /// These arguments and one more.
-    pub fn with(mut self, argument: Expr) -> Result<Arguments, AllocError>
-        ensures { IfOk result (λ m. m ≡ tree_last self argument) }
-    {
-        self.all.push(argument)?;
-        Ok(self)
-    }
-
-    /// The built-in with these arguments.
-    pub fn into_expr(self, builtin: Builtin) -> Expr
-        requires { count self ≡ arity builtin }
-        ensures { result ≡ apply builtin self }
-    {
-        Expr::apply(builtin, self.all)
-    }
-}
-
-/// All that is open, the innermost first.
-#[derive(Drop)]
-pub struct Stack {
-    alloc: Global,
-    items: Vec<Item>,
-}
-
-impl Model for Stack {
-    ghost use Rattle.std.specs.Prelude.{List, reverse};
-    ghost use Rattle.swf_jq_parse.specs.declared.stack.Item.{Item};
-
-    ghost Value = { List Item };
-
-    ghost use Rattle.std.specs.Coded.{codes};
-    ghost use Rattle.swf_expr.specs.contracts.expr.Expr as expr;
-    ghost use Rattle.swf_expr.specs.contracts.name.Name as name;
-    ghost use Rattle.swf_jq_parse.specs.contracts.stack.Members as members;
-    ghost use Rattle.swf_jq_parse.specs.contracts.stack.Arguments as arguments;
-
-    ghost coded = { Prim.hlevel (codes, expr.the_row.coded, name.the_row.coded, members.the_row.coded, arguments.the_row.coded) };
-
-    ghost view = { λ s. reverse s.items.items };
-}
-
-impl Stack {
-    ghost use Rattle.std.specs.Prelude.{◌≡◌, ◌∷◌, [], OnOk, MatchOption, option_map};
-    ghost use Rattle.swf_jq_parse.specs.Rows.{Pops, first};
-
-    pub fn new(alloc: Global) -> Stack
-        ensures { result ≡ [] }
-    {
-        Stack {
-            alloc,
-            items: Vec::new(alloc),
-        }
-    }
-
-    /// Where memory comes from.
-    pub fn alloc(&self) -> Global {
-        self.alloc
-    }
-
-    /// Something is opened.
-    pub fn push(&mut self, item: Item) -> Result<(), AllocError>
-        ensures { OnOk result (self.new ≡ item ∷ self.old) }
-    {
-        self.items.push(item)?;
-        Ok(())
-    }
-
-    /// The innermost is taken out.
-    pub fn pop(&mut self) -> Option<Item>
-        ensures { Pops self.old self.new result }
-    {
-        self.items.pop()
-    }
-
-    /// The innermost.
-    pub fn top(&self) -> Option<&Item>
-        ensures { option_map (λ x. x.now) result ≡ first self.now }
-    {
-        self.items.last()
-    }
+/// A row with one more at its end.
+pub fn with_last<T: Drop>(mut row: LinkedList<T>, last: T) -> Result<LinkedList<T>, AllocError>
+    ensures { IfOk result (λ r. r ≡ row ++ last ∷ []) }
+{
+    row.push_back(last)?;
+    Ok(row)
 }

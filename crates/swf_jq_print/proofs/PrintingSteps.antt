@@ -14,7 +14,8 @@ weight_argument [] i e h p = absurd (omega arith)
 weight_argument (x ∷ xs) zero e h p = omega (arith, ap weight p)
 weight_argument (x ∷ xs) (suc i) e h p = omega (arith, weight_argument xs i e (omega arith) p)
 
-pub weight_member : (ms : List ExprMember) (i : ℕ) (m : ExprMember) → i < length ms → m ≡ get_or ms i m → weight m.key + weight (value_or_here m.key m.value) ≤ weight_pairs (pairs_of ms)
+pub weight_member : (ms : List ExprMember) (i : ℕ) (m : ExprMember) → i < length ms → m ≡ get_or ms i m
+    → weight m.key + weight (value_or_here m.key m.value) ≤ weight_pairs (pairs_of ms)
 weight_member [] i m h p = absurd (omega arith)
 weight_member (x ∷ xs) zero m h p = omega (arith, ap (λ n. weight n.key + weight (value_or_here n.key n.value)) p)
 weight_member (x ∷ xs) (suc i) m h p = omega (arith, weight_member xs i m (omega arith) p)
@@ -30,5 +31,7 @@ pub apply_text : (f : Builtin) (es : Trees) → builtin_name f ++ arguments_text
 apply_text f no_trees = append-nil (builtin_name f)
 apply_text f (tree e es) = refl
 
-pub apply_last : (f : Builtin) (es : Trees) (whole : Tree) (old named new : List ℕ) → apply f es ≡ whole → named ≡ old ++ builtin_name f → new ≡ named ++ arguments_text es → new ≡ old ++ print_of whole
-apply_last f es whole old named new e p q = subst (λ (x : Tree). new ≡ old ++ print_of x) e (q ∙ ap (λ l. l ++ arguments_text es) p ∙ append_assoc old (builtin_name f) (arguments_text es) ∙ ap (λ l. old ++ l) (apply_text f es))
+pub apply_last : (f : Builtin) (es : Trees) (whole : Tree) (old named new : List ℕ) → apply f es ≡ whole → named ≡ old ++ builtin_name f
+    → new ≡ named ++ arguments_text es → new ≡ old ++ print_of whole
+apply_last f es whole old named new e p q = subst (λ (x : Tree). new ≡ old ++ print_of x) e
+    (q ∙ ap (λ l. l ++ arguments_text es) p ∙ append_assoc old (builtin_name f) (arguments_text es) ∙ ap (λ l. old ++ l) (apply_text f es))

@@ -1,492 +1,394 @@
--- The lexer on an expression's text gives its tokens.
-use Rattle.std.proofs.Common.{◌≡◌, ◌∙◌, ◌==◌, ◌||◌, ◌+◌, ◌≤◌, ◌<◌, ◌^◌, ◌≤ℤ◌, max, ℕ, suc, pos, negsuc, not, List, [], ◌∷◌, ◌++◌, map, length, codes, Bool, true, false, refl, ap, sym, Option, Some, None, subst, arith, append-nil, append_assoc}
+-- The text of an expression is read as tokens, and by the grammar these are the expression.
+use Rattle.std.proofs.Common.{◌≡◌, ◌∙◌, ◌==◌, ◌+◌, ◌≤◌, ◌<◌, ◌^◌, ◌≤ℤ◌, max, ℕ, suc, pos, not, nat_le, List, [], ◌∷◌, ◌++◌, map, length, codes, Bool, true, false, refl, ap, sym, Option, Some, None, subst, arith, append-nil, append_assoc}
+use Rattle.std.proofs.lemmas.Bool.{or_parts, not-true}
+use Rattle.std.proofs.lemmas.Bool.Decides.{nat_tests}
 use Rattle.std.proofs.lemmas.Int.{ints}
 use Rattle.std.specs.List.{list_all, list_any}
 use Rattle.std.specs.Cmp.Lexicographic.{pointwise}
-use Rattle.swf_expr.specs.Builtin.{builtin_name}
-use Rattle.swf_expr.specs.Expr.{Tree, Trees, no_trees, tree, Pairs, no_pairs, pair, here, lit, var, index, iterate, maybe, pipe, both, alt, or, and, binary, neg, empty_list, list_of, object_of, if_then, if_else, bind, apply, is_literal}
+use lib.Utf8.{encode}
+use Rattle.swf_expr.specs.Builtin.{arity, builtin_name, builtin_of}
+use Rattle.swf_expr.specs.Expr.{Tree, Trees, no_trees, tree, count, Pairs, no_pairs, pair, here, lit, var, index, iterate, maybe, pipe, both, alt, or, and, binary, neg, empty_list, list_of, object_of, if_then, if_else, bind, apply, is_literal}
+use Rattle.swf_expr.specs.ExprNode.{trees_of, pairs_of}
 use Rattle.swf_expr.specs.Name.{starts_name, goes_on_name, is_word, is_keyword, is_name}
-use Rattle.swf_value.specs.Value.{Value, null, boolean, int, text, list, object, IsValue, greatest}
+use Rattle.swf_value.specs.Value.{Value, null, boolean, int, text, IsValue, greatest}
 use Rattle.swf_expr.specs.declared.builtin.Builtin.{Builtin}
 use Rattle.swf_expr.specs.declared.builtin.Builtin.TheVariants as builtins
+use Rattle.swf_expr.specs.declared.expr.ExprMember.{ExprMember}
 use Rattle.swf_expr.specs.declared.op.Op.{Op}
 use Rattle.swf_expr.specs.declared.op.Op.TheVariants as ops
-use Rattle.swf_jq_parse.specs.Grammar.{Tokens}
-use Rattle.swf_jq_tokens.specs.Lexer.{word_or_name}
+use Rattle.swf_jq_parse.specs.Grammar
+use Rattle.swf_jq_parse.specs.Grammar.{Tokens, Pipe, Level, Term, ArgumentsOf, MembersOf, MemberOf}
+use Rattle.swf_jq_parse.specs.Joints.{left, right, sign_of, tree_of, fits, op_level}
+use Rattle.swf_jq_parse.specs.Parts.{named, with_value}
+use Rattle.swf_jq_parse.specs.declared.joint.Joint.{Joint}
+use Rattle.swf_jq_parse.specs.declared.joint.Joint.TheVariants as joint
+use Rattle.swf_jq_print.specs.Print.{literal_text, op_text, is_term, enclosed, print_of, print_arguments, print_members}
+use Rattle.swf_jq_print.specs.Printed.{enclosed_nesting, nesting, nesting_arguments, nesting_members, IsExpression, AreArguments, AreMembers}
+use Rattle.swf_jq_tokens.specs.Lexer.{word_or_name, spelled, plain_token, sign_at}
 use Rattle.swf_jq_tokens.specs.Nest.{Nest}
-use Rattle.swf_jq_print.specs.Print.{literal_text, op_text, var_text, is_term, enclosed, between, print_of, print_arguments, print_members}
-use Rattle.swf_jq_print.specs.Printed.{literal_tokens, enclosed_tokens, between_tokens, printed_tokens, argument_tokens, member_tokens, enclosed_nesting, nesting, nesting_arguments, nesting_members, IsExpression, AreArguments, AreMembers}
 use Rattle.swf_jq_tokens.specs.Words.{keyword_text, all_keywords, keyword_in, keyword_of}
 use Rattle.swf_jq_tokens.specs.declared.nest.Bracket.TheVariants as bracket
 use Rattle.swf_jq_tokens.specs.declared.token.Keyword.{Keyword}
 use Rattle.swf_jq_tokens.specs.declared.token.Keyword.TheVariants as keyword
 use Rattle.swf_jq_tokens.specs.declared.token.Sign.{Sign}
 use Rattle.swf_jq_tokens.specs.declared.token.Sign.TheVariants as sign
-use Rattle.swf_jq_tokens.specs.declared.token.Token.{Token}
 use Rattle.swf_jq_tokens.specs.declared.token.Token.TheVariants as token
-use Rattle.swf_jq_parse.proofs.Accepting.{other}
-use Rattle.swf_jq_tokens.proofs.Lexing.{Reads, ends_read, blank_reads, breaks, leads, and_parts, not_code, word_reads, var_reads, dot_reads, Lone, lone_reads, comma_lone, pipe_lone, semicolon_lone, colon_lone, question_lone, add_lone, subtract_lone, multiply_lone, modulo_lone, Short, short_reads, less_short, greater_short, divide_short, alternative_reads, equal_reads, not_equal_reads, at_most_reads, at_least_reads, Opens, open_reads, paren_opens, bracket_opens, brace_opens, Closes, close_reads, paren_closes, bracket_closes, brace_closes}
+use Rattle.swf_jq_tokens.proofs.Lexing.{Reads, ends_read, blank_reads, token_reads, breaks, leads, lead_parts, and_parts, word_reads, var_reads, dot_reads, lone_reads, comma_lone, pipe_lone, semicolon_lone, colon_lone, question_lone, subtract_lone, Opens, open_reads, Closes, close_reads}
 use Rattle.swf_jq_tokens.proofs.LexingNumbers.{number_reads, number_leads}
 use Rattle.swf_jq_tokens.proofs.LexingTexts.{text_reads}
 
--- ---- texts whose tokens are known, whatever follows that does not go on with them
+-- ---- words
 
--- where the brackets that are open and those in the text nest no deeper than 64
-record Prints (cs : List ℕ) (us : Tokens) (d : ℕ) : Type 0 where
-  reads : (n : Nest) (rest : List ℕ) (ws : Tokens) → length n + d ≤ 64 → breaks rest ≡ true → Reads n rest ws → Reads n (cs ++ rest) (us ++ ws)
+-- each built-in is found by its name, which makes no sign of two with what stands before it
+known_builtin : (f : Builtin) → (is_name (builtin_name f) ≡ true) × (named (builtin_name f) (arity f) ≡ Some f) × ((rest : List ℕ) → leads (builtin_name f ++ rest) ≡ true)
+unfolding builtin_of encode leads
+known_builtin builtins.Length = (refl, refl, λ rest. refl)
+known_builtin f = (refl, refl, λ rest. refl)
 
--- what stands before it does not go on with it
-abbrev Breaks : List ℕ → Type 0
-Breaks ds = (rest : List ℕ) → breaks rest ≡ true → breaks (ds ++ rest) ≡ true
-
--- it makes no sign of two with what stands before it
-abbrev Leads : List ℕ → Type 0
-Leads ds = (rest : List ℕ) → leads (ds ++ rest) ≡ true
-
-deeper : (cs : List ℕ) (us : Tokens) (d e : ℕ) → d ≤ e → Prints cs us d → Prints cs us e
-deeper cs us d e h p = record { reads = λ n rest ws room b r. p.reads n rest ws (omega arith) b r }
-
-respelled : (cs ds : List ℕ) (us ws : Tokens) (d : ℕ) → cs ≡ ds → us ≡ ws → Prints cs us d → Prints ds ws d
-respelled cs ds us ws d e g p = subst (λ (x : List ℕ). Prints x ws d) e (subst (λ (x : Tokens). Prints cs x d) g p)
-
-regrouped : (n : Nest) (cs ds rest : List ℕ) (us ws vs : Tokens) → Reads n (cs ++ (ds ++ rest)) (us ++ (ws ++ vs)) → Reads n ((cs ++ ds) ++ rest) ((us ++ ws) ++ vs)
-regrouped n cs ds rest us ws vs r =
-    subst (λ (x : List ℕ). Reads n x ((us ++ ws) ++ vs)) (sym (append_assoc cs ds rest))
-    (subst (λ (x : Tokens). Reads n (cs ++ (ds ++ rest)) x) (sym (append_assoc us ws vs)) r)
-
-nothing_prints : Prints [] [] 0
-nothing_prints = record { reads = λ n rest ws room b r. r }
-
--- one after the other
-in_turn : (cs ds : List ℕ) (us ws : Tokens) (d e : ℕ) → Breaks ds → Prints cs us d → Prints ds ws e → Prints (cs ++ ds) (us ++ ws) (max d e)
-in_turn cs ds us ws d e apart p q = record {
-  reads = λ n rest vs room b r.
-      regrouped n cs ds rest us ws vs (p.reads n (ds ++ rest) (ws ++ vs) (omega arith) (apart rest b) (q.reads n rest vs (omega arith) b r));
-}
-
--- between brackets
-in_brackets : (o c : ℕ) (g h : Sign) (cs : List ℕ) (us : Tokens) (d : ℕ) → Opens o g → Closes c h → ((rest : List ℕ) → breaks (c ∷ rest) ≡ true)
-    → Prints cs us d → Prints (o ∷ (cs ++ c ∷ [])) (token.Sign g ∷ (us ++ token.Sign h ∷ [])) (suc d)
-in_brackets o c g h cs us d opens closes apart p = record {
-  reads = λ n rest ws room b r.
-      open_reads n o g ((cs ++ c ∷ []) ++ rest) ((us ++ token.Sign h ∷ []) ++ ws) opens (omega arith)
-      (regrouped (bracket.Plain ∷ n) cs (c ∷ []) rest us (token.Sign h ∷ []) ws
-      (p.reads (bracket.Plain ∷ n) (c ∷ rest) (token.Sign h ∷ ws) (omega arith) (apart rest) (close_reads n c h rest ws closes r)));
-}
-
-in_parens : (cs : List ℕ) (us : Tokens) (d : ℕ) → Prints cs us d → Prints (40 ∷ (cs ++ 41 ∷ [])) (token.Sign sign.LeftParen ∷ (us ++ token.Sign sign.RightParen ∷ [])) (suc d)
-unfolding breaks
-in_parens cs us d p = in_brackets 40 41 sign.LeftParen sign.RightParen cs us d paren_opens paren_closes (λ rest. refl) p
-
-in_square : (cs : List ℕ) (us : Tokens) (d : ℕ) → Prints cs us d → Prints (91 ∷ (cs ++ 93 ∷ [])) (token.Sign sign.LeftBracket ∷ (us ++ token.Sign sign.RightBracket ∷ [])) (suc d)
-unfolding breaks
-in_square cs us d p = in_brackets 91 93 sign.LeftBracket sign.RightBracket cs us d bracket_opens bracket_closes (λ rest. refl) p
-
-in_braces : (cs : List ℕ) (us : Tokens) (d : ℕ) → Prints cs us d → Prints (123 ∷ (cs ++ 125 ∷ [])) (token.Sign sign.LeftBrace ∷ (us ++ token.Sign sign.RightBrace ∷ [])) (suc d)
-unfolding breaks
-in_braces cs us d p = in_brackets 123 125 sign.LeftBrace sign.RightBrace cs us d brace_opens brace_closes (λ rest. refl) p
-
--- ---- signs and keywords before a text
-
--- a text that is one token before these characters, whatever follows them
-abbrev Before : List ℕ → List ℕ → Token → Type 0
-Before ds o t = (n : Nest) (rest : List ℕ) (us : Tokens) → Reads n (ds ++ rest) us → Reads n (o ++ (ds ++ rest)) (t ∷ us)
-
-after_token : (o ds : List ℕ) (t : Token) (ws : Tokens) (d : ℕ) → Before ds o t → Prints ds ws d → Prints (o ++ ds) (t ∷ ws) d
-after_token o ds t ws d f p = record {
-  reads = λ n rest vs room b r.
-      subst (λ (x : List ℕ). Reads n x (t ∷ (ws ++ vs))) (sym (append_assoc o ds rest)) (f n rest (ws ++ vs) (p.reads n rest vs room b r));
-}
-
-after_lone : (c : ℕ) (g : Sign) (ds : List ℕ) (ws : Tokens) (d : ℕ) → Lone c g → Prints ds ws d → Prints (c ∷ ds) (token.Sign g ∷ ws) d
-after_lone c g ds ws d h p = record { reads = λ n rest vs room b r. lone_reads n c g (ds ++ rest) (ws ++ vs) h (p.reads n rest vs room b r) }
-
-lone_before : (c : ℕ) (g : Sign) (ds : List ℕ) → Lone c g → Before ds (c ∷ []) (token.Sign g)
-lone_before c g ds h = λ n rest us r. lone_reads n c g (ds ++ rest) us h r
-
-short_before : (c : ℕ) (g : Sign) (ds : List ℕ) → Short c g → Leads ds → Before ds (c ∷ []) (token.Sign g)
-short_before c g ds h lead = λ n rest us r. short_reads n c g (ds ++ rest) us h (lead rest) r
-
-op_before : (o : Op) (ds : List ℕ) → Leads ds → Before ds (op_text o) (token.Sign (sign.Op o))
-op_before ops.Equal ds lead = λ n rest us r. equal_reads n (ds ++ rest) us r
-op_before ops.NotEqual ds lead = λ n rest us r. not_equal_reads n (ds ++ rest) us r
-op_before ops.Less ds lead = short_before 60 (sign.Op ops.Less) ds less_short lead
-op_before ops.AtMost ds lead = λ n rest us r. at_most_reads n (ds ++ rest) us r
-op_before ops.Greater ds lead = short_before 62 (sign.Op ops.Greater) ds greater_short lead
-op_before ops.AtLeast ds lead = λ n rest us r. at_least_reads n (ds ++ rest) us r
-op_before ops.Add ds lead = lone_before 43 (sign.Op ops.Add) ds add_lone
-op_before ops.Subtract ds lead = lone_before 45 (sign.Op ops.Subtract) ds subtract_lone
-op_before ops.Multiply ds lead = lone_before 42 (sign.Op ops.Multiply) ds multiply_lone
-op_before ops.Divide ds lead = short_before 47 (sign.Op ops.Divide) ds divide_short lead
-op_before ops.Modulo ds lead = lone_before 37 (sign.Op ops.Modulo) ds modulo_lone
-
-op_breaks : (o : Op) (xs : List ℕ) → breaks (op_text o ++ xs) ≡ true
-unfolding breaks
-op_breaks ops.Equal xs = refl
-op_breaks ops.NotEqual xs = refl
-op_breaks ops.Less xs = refl
-op_breaks ops.AtMost xs = refl
-op_breaks ops.Greater xs = refl
-op_breaks ops.AtLeast xs = refl
-op_breaks ops.Add xs = refl
-op_breaks ops.Subtract xs = refl
-op_breaks ops.Multiply xs = refl
-op_breaks ops.Divide xs = refl
-op_breaks ops.Modulo xs = refl
-
--- a keyword between two blanks
-blank_word : (n : Nest) (c : ℕ) (ys rest : List ℕ) (us : Tokens) → starts_name c ≡ true → list_all goes_on_name ys ≡ true
-    → Reads n rest us → Reads n (32 ∷ c ∷ (ys ++ 32 ∷ rest)) (word_or_name (c ∷ ys) (keyword_of (c ∷ ys)) ∷ us)
-unfolding breaks
-blank_word n c ys rest us h g r =
-    blank_reads n (c ∷ (ys ++ 32 ∷ rest)) _ (word_reads n c ys (32 ∷ rest) us h g refl (blank_reads n rest us r))
-
-or_before : (ds : List ℕ) → Before ds (codes " or ") (token.Keyword keyword.Or)
+keyword_is : (k : Keyword) → (is_word (keyword_text k) ≡ true) × (keyword_of (keyword_text k) ≡ Some k)
 unfolding keyword_of
-or_before ds n rest us r = blank_word n 111 (114 ∷ []) (ds ++ rest) us refl refl r
-
-and_before : (ds : List ℕ) → Before ds (codes " and ") (token.Keyword keyword.And)
-unfolding keyword_of
-and_before ds n rest us r = blank_word n 97 (110 ∷ 100 ∷ []) (ds ++ rest) us refl refl r
-
-as_before : (ds : List ℕ) → Before ds (codes " as ") (token.Keyword keyword.As)
-unfolding keyword_of
-as_before ds n rest us r = blank_word n 97 (115 ∷ []) (ds ++ rest) us refl refl r
-
-then_before : (ds : List ℕ) → Before ds (codes " then ") (token.Keyword keyword.Then)
-unfolding keyword_of
-then_before ds n rest us r = blank_word n 116 (104 ∷ 101 ∷ 110 ∷ []) (ds ++ rest) us refl refl r
-
-else_before : (ds : List ℕ) → Before ds (codes " else ") (token.Keyword keyword.Else)
-unfolding keyword_of
-else_before ds n rest us r = blank_word n 101 (108 ∷ 115 ∷ 101 ∷ []) (ds ++ rest) us refl refl r
-
-if_before : (ds : List ℕ) → Before ds (codes "if ") (token.Keyword keyword.If)
-unfolding keyword_of breaks
-if_before ds n rest us r = word_reads n 105 (102 ∷ []) (32 ∷ (ds ++ rest)) us refl refl refl (blank_reads n (ds ++ rest) us r)
-
-end_prints : Prints (codes " end") (token.Keyword keyword.End ∷ []) 0
-unfolding keyword_of
-end_prints = record { reads = λ n rest ws room b r. blank_reads n (101 ∷ 110 ∷ 100 ∷ rest) _ (word_reads n 101 (110 ∷ 100 ∷ []) rest ws refl refl b r) }
-
--- two operands and what joins them
-infixed : (cs o ds : List ℕ) (us ws : Tokens) (t : Token) (d e : ℕ) → ((xs : List ℕ) → breaks (o ++ xs) ≡ true) → Before ds o t
-    → Prints cs us d → Prints ds ws e → Prints (cs ++ (o ++ ds)) (us ++ t ∷ ws) (max d e)
-infixed cs o ds us ws t d e apart f p q =
-    in_turn cs (o ++ ds) us (t ∷ ws) d e
-    (λ rest b. ap breaks (append_assoc o ds rest) ∙ apart (ds ++ rest))
-    p (after_token o ds t ws e f q)
-
--- ---- names
-
-plain_name : (f : Builtin) → is_name (builtin_name f) ≡ true
-plain_name builtins.Length = refl
-plain_name builtins.Keys = refl
-plain_name builtins.Has = refl
-plain_name builtins.Add = refl
-plain_name builtins.Any = refl
-plain_name builtins.All = refl
-plain_name builtins.AnyOf = refl
-plain_name builtins.AllOf = refl
-plain_name builtins.Map = refl
-plain_name builtins.Select = refl
-plain_name builtins.Empty = refl
-plain_name builtins.Not = refl
-plain_name builtins.Type = refl
-plain_name builtins.Error = refl
-plain_name builtins.ErrorWith = refl
-plain_name builtins.ToString = refl
-plain_name builtins.ToJson = refl
-plain_name builtins.ToNumber = refl
-plain_name builtins.ToEntries = refl
-plain_name builtins.FromEntries = refl
-plain_name builtins.WithEntries = refl
-plain_name builtins.Sort = refl
-plain_name builtins.SortBy = refl
-plain_name builtins.Unique = refl
-plain_name builtins.Min = refl
-plain_name builtins.Max = refl
-plain_name builtins.Reverse = refl
-plain_name builtins.Join = refl
-plain_name builtins.Split = refl
-plain_name builtins.StartsWith = refl
-plain_name builtins.EndsWith = refl
-plain_name builtins.AsciiDowncase = refl
-plain_name builtins.AsciiUpcase = refl
-plain_name builtins.RangeTo = refl
-plain_name builtins.RangeFrom = refl
-plain_name builtins.First = refl
-plain_name builtins.Last = refl
-plain_name builtins.FirstOf = refl
-
-name_parts : (c : ℕ) (ys : List ℕ) → is_name (c ∷ ys) ≡ true → (starts_name c ≡ true) × (list_all goes_on_name ys ≡ true) × (is_keyword (c ∷ ys) ≡ false)
-name_parts c ys h =
-    let p = and_parts (is_word (c ∷ ys)) (not (is_keyword (c ∷ ys))) h in
-    let q = and_parts (starts_name c) (list_all goes_on_name ys) p.0 in
-    (q.0, q.1, turned (is_keyword (c ∷ ys)) p.1)
-  where
-    turned : (b : Bool) → not b ≡ true → b ≡ false
-    turned true g = cc g
-    turned false g = refl
+keyword_is keyword.As = (refl, refl)
+keyword_is k = (refl, refl)
 
 no_keyword : (ks : List Keyword) (t : List ℕ) → list_any (pointwise ◌==◌ t) (map keyword_text ks) ≡ false → keyword_in ks t ≡ None
 no_keyword [] t h = refl
 no_keyword (k ∷ ks) t h =
-    let g = neither (pointwise ◌==◌ t (keyword_text k)) (list_any (pointwise ◌==◌ t) (map keyword_text ks)) h in
-    other (pointwise ◌==◌ t (keyword_text k)) (Some k) (keyword_in ks t) g.0 ∙ no_keyword ks t g.1
-  where
-    neither : (a b : Bool) → (a || b) ≡ false → (a ≡ false) × (b ≡ false)
-    neither true b g = cc g
-    neither false b g = (refl, g)
+    let g = or_parts (pointwise ◌==◌ t (keyword_text k)) (list_any (pointwise ◌==◌ t) (map keyword_text ks)) h in
+    rw g.0 (no_keyword ks t g.1)
 
-free_word : (t : List ℕ) → is_keyword t ≡ false → keyword_of t ≡ None
+name_is : (t : List ℕ) → is_name t ≡ true → (is_word t ≡ true) × (keyword_of t ≡ None)
 unfolding keyword_of
-free_word t h = no_keyword all_keywords t h
+name_is t h =
+    let p = and_parts (is_word t) (not (is_keyword t)) h in
+    (p.0, no_keyword all_keywords t (not-true (is_keyword t) p.1))
 
-name_prints : (x : List ℕ) → is_name x ≡ true → Prints x (token.Name x ∷ []) 0
-name_prints [] h = cc h
-name_prints (c ∷ ys) h = record {
-  reads = λ n rest ws room b r.
-      let p = name_parts c ys h in
-      subst (λ (o : Option Keyword). Reads n (c ∷ (ys ++ rest)) (word_or_name (c ∷ ys) o ∷ ws)) (free_word (c ∷ ys) p.2)
-      (word_reads n c ys rest ws p.0 p.1 b r);
-}
+-- a keyword or a name at the front
+word_at : (n : Nest) (t rest : List ℕ) (o : Option Keyword) (us : Tokens) → (is_word t ≡ true) × (keyword_of t ≡ o) → breaks rest ≡ true → Reads n rest us
+    → Reads n (t ++ rest) (word_or_name t o ∷ us)
+word_at n [] rest o us h b r = cc h.0
+word_at n (c ∷ ys) rest o us h b r =
+    let p = and_parts (starts_name c) (list_all goes_on_name ys) h.0 in
+    subst (λ (x : Option Keyword). Reads n (c ∷ (ys ++ rest)) (word_or_name (c ∷ ys) x ∷ us)) h.1 (word_reads n c ys rest us p.0 p.1 b r)
 
-var_prints : (x : List ℕ) → is_name x ≡ true → Prints (var_text x) (token.Var x ∷ []) 0
-var_prints [] h = cc h
-var_prints (c ∷ ys) h = record {
-  reads = λ n rest ws room b r.
-      let p = name_parts c ys h in
-      var_reads n c ys rest ws p.0 p.1 (free_word (c ∷ ys) p.2) b r;
-}
+keyword_at : (n : Nest) (k : Keyword) (rest : List ℕ) (us : Tokens) → breaks rest ≡ true → Reads n rest us → Reads n (keyword_text k ++ rest) (token.Keyword k ∷ us)
+keyword_at n k rest us b r = word_at n (keyword_text k) rest (Some k) us (keyword_is k) b r
 
-name_leads : (x rest : List ℕ) → is_name x ≡ true → leads (x ++ rest) ≡ true
-unfolding leads
-name_leads [] rest h = cc h
-name_leads (c ∷ ys) rest h =
-    let p = name_parts c ys h in
-    rw (not_code starts_name c 61 p.0 refl, not_code starts_name c 47 p.0 refl) refl
+-- a keyword before a blank, and between two
+before_blank : (n : Nest) (k : Keyword) (rest : List ℕ) (us : Tokens) → Reads n rest us → Reads n (keyword_text k ++ 32 ∷ rest) (token.Keyword k ∷ us)
+unfolding breaks
+before_blank n k rest us r = keyword_at n k (32 ∷ rest) us refl (blank_reads n rest us r)
 
--- ---- literals
+between_blanks : (n : Nest) (k : Keyword) (rest : List ℕ) (us : Tokens) → Reads n rest us → Reads n (32 ∷ (keyword_text k ++ 32 ∷ rest)) (token.Keyword k ∷ us)
+between_blanks n k rest us r = blank_reads n (keyword_text k ++ 32 ∷ rest) (token.Keyword k ∷ us) (before_blank n k rest us r)
+
+var_at : (n : Nest) (x rest : List ℕ) (us : Tokens) → is_name x ≡ true → breaks rest ≡ true → Reads n rest us → Reads n (36 ∷ (x ++ rest)) (token.Var x ∷ us)
+var_at n [] rest us h b r = cc h
+var_at n (c ∷ ys) rest us h b r =
+    let w = name_is (c ∷ ys) h in
+    let p = and_parts (starts_name c) (list_all goes_on_name ys) w.0 in
+    var_reads n c ys rest us p.0 p.1 w.1 b r
+
+-- the end of an `if`
+end_at : (n : Nest) (rest : List ℕ) (us : Tokens) → breaks rest ≡ true → Reads n rest us → Reads n (codes " end" ++ rest) (token.Keyword keyword.End ∷ us)
+end_at n rest us b r = blank_reads n (codes "end" ++ rest) (token.Keyword keyword.End ∷ us) (keyword_at n keyword.End rest us b r)
+
+-- ---- operators
+
+op_breaks : (o : Op) (xs : List ℕ) → breaks (op_text o ++ xs) ≡ true
+unfolding breaks
+op_breaks ops.Equal xs = refl
+op_breaks o xs = refl
+
+op_reads : (n : Nest) (o : Op) (ds : List ℕ) (us : Tokens) → leads ds ≡ true → Reads n ds us → Reads n (op_text o ++ ds) (token.Sign (sign.Op o) ∷ us)
+unfolding spelled plain_token sign_at
+op_reads n ops.Equal ds us lead r = token_reads n n 61 (61 ∷ ds) _ 1 us refl (λ at. refl) r
+op_reads n ops.NotEqual ds us lead r = token_reads n n 33 (61 ∷ ds) _ 1 us refl (λ at. refl) r
+op_reads n ops.Less ds us lead r = token_reads n n 60 ds _ 0 us refl (λ at. rw (lead_parts ds lead).0 refl) r
+op_reads n ops.AtMost ds us lead r = token_reads n n 60 (61 ∷ ds) _ 1 us refl (λ at. refl) r
+op_reads n ops.Greater ds us lead r = token_reads n n 62 ds _ 0 us refl (λ at. rw (lead_parts ds lead).0 refl) r
+op_reads n ops.AtLeast ds us lead r = token_reads n n 62 (61 ∷ ds) _ 1 us refl (λ at. refl) r
+op_reads n ops.Add ds us lead r = token_reads n n 43 ds _ 0 us refl (λ at. refl) r
+op_reads n ops.Subtract ds us lead r = lone_reads n 45 (sign.Op ops.Subtract) ds us subtract_lone r
+op_reads n ops.Multiply ds us lead r = token_reads n n 42 ds _ 0 us refl (λ at. refl) r
+op_reads n ops.Divide ds us lead r = token_reads n n 47 ds _ 0 us refl (λ at. rw (lead_parts ds lead).1 refl) r
+op_reads n ops.Modulo ds us lead r = token_reads n n 37 ds _ 0 us refl (λ at. refl) r
+
+alternative_reads : (n : Nest) (ds : List ℕ) (us : Tokens) → Reads n ds us → Reads n (47 ∷ 47 ∷ ds) (token.Sign sign.Alternative ∷ us)
+unfolding spelled plain_token sign_at
+alternative_reads n ds us r = token_reads n n 47 (47 ∷ ds) _ 1 us refl (λ at. refl) r
 
 below : (n : ℕ) → pos n ≤ℤ greatest → n < 2 ^ 53
 below n h = omega (arith, ints)
 
-literal_prints : (v : Value) → is_literal v ≡ true → IsValue v → Prints (literal_text v) (literal_tokens v) 0
-unfolding keyword_of
-literal_prints null h g = record { reads = λ n rest ws room b r. word_reads n 110 (117 ∷ 108 ∷ 108 ∷ []) rest ws refl refl b r }
-literal_prints (boolean true) h g = record { reads = λ n rest ws room b r. word_reads n 116 (114 ∷ 117 ∷ 101 ∷ []) rest ws refl refl b r }
-literal_prints (boolean false) h g = record { reads = λ n rest ws room b r. word_reads n 102 (97 ∷ 108 ∷ 115 ∷ 101 ∷ []) rest ws refl refl b r }
-literal_prints (int (pos m)) h g = record { reads = λ n rest ws room b r. number_reads n m rest ws (below m g.1) b r }
-literal_prints (int (negsuc m)) h g = cc h
-literal_prints (text t) h g = record { reads = λ n rest ws room b r. text_reads n t rest ws r }
-literal_prints (list ds) h g = cc h
-literal_prints (object ms) h g = cc h
-
 literal_leads : (v : Value) (rest : List ℕ) → is_literal v ≡ true → IsValue v → leads (literal_text v ++ rest) ≡ true
 unfolding leads
-literal_leads null rest h g = refl
+literal_leads (int (pos m)) rest h g = number_leads m rest (below m g.1)
 literal_leads (boolean true) rest h g = refl
 literal_leads (boolean false) rest h g = refl
-literal_leads (int (pos m)) rest h g = number_leads m rest (below m g.1)
-literal_leads (int (negsuc m)) rest h g = cc
-literal_leads (text t) rest h g = refl
-literal_leads (list ds) rest h g = cc h
-literal_leads (object ms) rest h g = cc h
+literal_leads v rest h g = cc
 
 -- an operand makes no sign of two with what stands before it
-operand_leads : (e : Tree) → IsExpression e → Leads (enclosed (is_term e) (print_of e))
+operand_leads : (e : Tree) (rest : List ℕ) → IsExpression e → leads (enclosed (is_term e) (print_of e) ++ rest) ≡ true
 unfolding leads
-operand_leads here h rest = refl
-operand_leads (lit v) h rest = literal_leads v rest h.0 h.1
-operand_leads (var x) h rest = refl
-operand_leads (index a b) h rest = refl
-operand_leads (iterate a) h rest = refl
-operand_leads (maybe a) h rest = refl
-operand_leads (pipe a b) h rest = refl
-operand_leads (both a b) h rest = refl
-operand_leads (alt a b) h rest = refl
-operand_leads (or a b) h rest = refl
-operand_leads (and a b) h rest = refl
-operand_leads (binary o a b) h rest = refl
-operand_leads (neg a) h rest = refl
-operand_leads empty_list h rest = refl
-operand_leads (list_of a) h rest = refl
-operand_leads (object_of ms) h rest = refl
-operand_leads (if_then c a) h rest = refl
-operand_leads (if_else c a b) h rest = refl
-operand_leads (bind a x b) h rest = refl
-operand_leads (apply f no_trees) h rest = name_leads (builtin_name f) rest (plain_name f)
-operand_leads (apply f (tree e es)) h rest =
+operand_leads (lit v) rest h = literal_leads v rest h.0 h.1
+operand_leads (apply f no_trees) rest h = (known_builtin f).2 rest
+operand_leads (apply f (tree e es)) rest h =
     let call = 40 ∷ (print_of e ++ (print_arguments true es ++ 41 ∷ [])) in
-    ap leads (append_assoc (builtin_name f) call rest) ∙ name_leads (builtin_name f) (call ++ rest) (plain_name f)
+    ap leads (append_assoc (builtin_name f) call rest) ∙ (known_builtin f).2 (call ++ rest)
+operand_leads e rest h = refl
+
+-- ---- texts that are read as a tree, whatever follows that does not go on with them
+
+-- a term, or any expression
+abbrev Formed : Bool → Tokens → Tree → Tokens → Type 0
+Formed true ts e us = Term ts e us
+Formed false ts e us = Level 0 ts e us
+
+-- where the brackets that are open and those in the text nest no deeper than 64
+record Prints (b : Bool) (cs : List ℕ) (d : ℕ) (e : Tree) : Type 0 where
+  reads : (n : Nest) (rest : List ℕ) (us : Tokens) → Reads n rest us → breaks rest ≡ true → length n + d ≤ 64 → (ts : Tokens) × Reads n (cs ++ rest) ts × Formed b ts e us
+
+-- a term binds however tightly
+tight : (k : ℕ) (ts us : Tokens) (a : Tree) → Term ts a us → Level k ts a us
+tight k ts us a d = Grammar.level_post k ts us a (Grammar.post_term ts us a d)
+
+whole : {cs : List ℕ} {d : ℕ} {e : Tree} (b : Bool) → Prints b cs d e → Prints false cs d e
+whole {e = e} true p = record { reads = λ n rest us r brk room. let q = p.reads n rest us r brk room in (q.0, q.1, tight 0 q.0 us e q.2) }
+whole false p = p
+
+-- brackets, which nothing goes on with
+record Brackets (o c : ℕ) (g h : Sign) : Type 0 where
+  opens : Opens o g
+  closes : Closes c h
+  apart : (rest : List ℕ) → breaks (c ∷ rest) ≡ true
+
+parens : Brackets 40 41 sign.LeftParen sign.RightParen
+unfolding breaks spelled plain_token sign_at
+parens = record { opens = (refl, λ n at cs. refl); closes = (refl, λ n at cs. refl); apart = λ rest. refl }
+
+squares : Brackets 91 93 sign.LeftBracket sign.RightBracket
+unfolding breaks spelled plain_token sign_at
+squares = record { opens = (refl, λ n at cs. refl); closes = (refl, λ n at cs. refl); apart = λ rest. refl }
+
+braces : Brackets 123 125 sign.LeftBrace sign.RightBrace
+unfolding breaks spelled plain_token sign_at
+braces = record { opens = (refl, λ n at cs. refl); closes = (refl, λ n at cs. refl); apart = λ rest. refl }
+
+-- a text that ends before others, after its first character
+under : (n : Nest) (c : ℕ) (cs ds rest : List ℕ) (us : Tokens) → Reads n (c ∷ (cs ++ (ds ++ rest))) us → Reads n ((c ∷ (cs ++ ds)) ++ rest) us
+under n c cs ds rest us r = subst (λ (x : List ℕ). Reads n (c ∷ x) us) (sym (append_assoc cs ds rest)) r
+
+-- nothing between brackets, and an expression between brackets
+empty : {o c : ℕ} {g h : Sign} → Brackets o c g h → (n : Nest) (rest : List ℕ) (us : Tokens) → Reads n rest us → length n + 1 ≤ 64
+    → Reads n (o ∷ c ∷ rest) (token.Sign g ∷ token.Sign h ∷ us)
+empty {o = o} {c = c} {g = g} {h = h} k n rest us r room =
+    open_reads n o g (c ∷ rest) (token.Sign h ∷ us) k.opens (omega arith) (close_reads n c h rest us k.closes r)
+
+inside : {b : Bool} {cs : List ℕ} {d : ℕ} {e : Tree} {o c : ℕ} {g h : Sign} → Brackets o c g h → Prints b cs d e
+    → (n : Nest) (rest : List ℕ) (us : Tokens) → Reads n rest us → length n + suc d ≤ 64
+    → (ts : Tokens) × Reads n (o ∷ (cs ++ c ∷ rest)) (token.Sign g ∷ ts) × Level 0 ts e (token.Sign h ∷ us)
+inside {b = b} {cs = cs} {o = o} {c = c} {g = g} {h = h} k p n rest us r room =
+    let q = (whole b p).reads (bracket.Plain ∷ n) (c ∷ rest) (token.Sign h ∷ us) (close_reads n c h rest us k.closes r) (k.apart rest) (omega arith) in
+    (q.0, open_reads n o g (cs ++ c ∷ rest) q.0 k.opens (omega arith) q.1, q.2)
+
+-- an operand stands in parentheses where it is no term
+operand : {cs : List ℕ} {d : ℕ} {e : Tree} (b : Bool) → Prints b cs d e → Prints true (enclosed b cs) (enclosed_nesting b d) e
+operand true p = p
+operand {e = e} false p = record {
+  reads = λ n rest us r brk room.
+      let q = inside parens p n rest us r room in
+      (token.Sign sign.LeftParen ∷ q.0, simp append_assoc q.1, Grammar.term_paren q.0 us e q.2);
+}
+
+-- two operands and what joins them
+infixed : {b c : Bool} {cs ds : List ℕ} {d e : ℕ} {x y : Tree} (j : Joint) (o : List ℕ) → fits 0 j ≡ true → ((xs : List ℕ) → breaks (o ++ xs) ≡ true)
+    → ((n : Nest) (rest : List ℕ) (us : Tokens) → Reads n (enclosed c ds ++ rest) us → Reads n (o ++ (enclosed c ds ++ rest)) (sign_of j ∷ us))
+    → Prints b cs d x → Prints c ds e y → Prints false (enclosed b cs ++ (o ++ enclosed c ds)) (max (enclosed_nesting b d) (enclosed_nesting c e)) (tree_of j x y)
+infixed {b = b} {c = c} {ds = ds} {x = x} {y = y} j o fit apart before p q = record {
+  reads = λ n rest us r brk room.
+      let v = (operand c q).reads n rest us r brk (omega arith) in
+      let u = (operand b p).reads n (o ++ (enclosed c ds ++ rest)) (sign_of j ∷ v.0) (before n rest v.0 v.1) (apart (enclosed c ds ++ rest)) (omega arith) in
+      (u.0, simp append_assoc u.1, Grammar.level_joint 0 u.0 v.0 us x y j fit (tight (left j) u.0 (sign_of j ∷ v.0) x u.2) (tight (right j) v.0 us y v.2));
+}
+
+literal_prints : (v : Value) → is_literal v ≡ true → IsValue v → Prints true (literal_text v) 0 (lit v)
+literal_prints null h g = record { reads = λ n rest us r brk room. (_, keyword_at n keyword.Null rest us brk r, Grammar.term_null us) }
+literal_prints (boolean true) h g = record { reads = λ n rest us r brk room. (_, keyword_at n keyword.True rest us brk r, Grammar.term_true us) }
+literal_prints (boolean false) h g = record { reads = λ n rest us r brk room. (_, keyword_at n keyword.False rest us brk r, Grammar.term_false us) }
+literal_prints (int (pos m)) h g = record { reads = λ n rest us r brk room. (_, number_reads n m rest us (below m g.1) brk r, Grammar.term_number us m) }
+literal_prints (text t) h g = record { reads = λ n rest us r brk room. (_, text_reads n t rest us r, Grammar.term_text _ us (lit (text t)) (Grammar.text_whole us t)) }
+literal_prints v h g = cc h
+
+zero_le : (n : ℕ) → nat_le 0 n ≡ true
+zero_le n = grind (arith, nat_tests)
+
+-- ---- rows, from the left
+
+abbrev rows : Trees → List Tree
+rows no_trees = []
+rows (tree e es) = e ∷ rows es
+
+rows_are : (es : Trees) → (trees_of (rows es) ≡ es) × (length (rows es) ≡ count es)
+rows_are no_trees = (refl, refl)
+rows_are (tree e es) = (ap (tree e) (rows_are es).0, ap suc (rows_are es).1)
+
+abbrev members_of : Pairs → List ExprMember
+members_of no_pairs = []
+members_of (pair k v ms) = with_value k v ∷ members_of ms
+
+members_are : (ms : Pairs) → pairs_of (members_of ms) ≡ ms
+members_are no_pairs = refl
+members_are (pair k v ms) = ap (pair k v) (members_are ms)
 
 -- ---- the whole text
 
--- it is read as its tokens, and so is the operand that it is
-abbrev Both : Tree → Type 0
-Both e =
-    Prints (print_of e) (printed_tokens e) (nesting e)
-    × Prints (enclosed (is_term e) (print_of e)) (enclosed_tokens (is_term e) (printed_tokens e)) (enclosed_nesting (is_term e) (nesting e))
-
-alone : (cs : List ℕ) (us : Tokens) (d : ℕ) → Prints cs us d → Prints cs us d × Prints cs us d
-alone cs us d p = (p, p)
-
-within : (cs : List ℕ) (us : Tokens) (d : ℕ) → Prints cs us d
-    → Prints cs us d × Prints (40 ∷ (cs ++ 41 ∷ [])) (token.Sign sign.LeftParen ∷ (us ++ token.Sign sign.RightParen ∷ [])) (suc d)
-within cs us d p = (p, in_parens cs us d p)
-
-here_prints : Prints (46 ∷ []) (token.Dot ∷ []) 0
-here_prints = record { reads = λ n rest ws room b r. dot_reads n rest ws b r }
-
-empty_prints : Prints (codes "[]") (token.Sign sign.LeftBracket ∷ token.Sign sign.RightBracket ∷ []) 1
-empty_prints = in_square [] [] 0 nothing_prints
-
-question_prints : Prints (codes "?") (token.Sign sign.Question ∷ []) 0
-question_prints = record { reads = λ n rest ws room b r. lone_reads n 63 sign.Question rest ws question_lone r }
-
-index_prints : (cs ds : List ℕ) (us ws : Tokens) (d e : ℕ) → Prints cs us d → Prints ds ws e
-    → Prints (cs ++ 91 ∷ (ds ++ 93 ∷ [])) (us ++ token.Sign sign.LeftBracket ∷ (ws ++ token.Sign sign.RightBracket ∷ [])) (max d (suc e))
-unfolding breaks
-index_prints cs ds us ws d e p q = in_turn cs (91 ∷ (ds ++ 93 ∷ [])) us _ d (suc e) (λ rest b. refl) p (in_square ds ws e q)
-
-iterate_prints : (cs : List ℕ) (us : Tokens) (d : ℕ) → Prints cs us d → Prints (cs ++ codes "[]") (us ++ token.Sign sign.LeftBracket ∷ token.Sign sign.RightBracket ∷ []) (max d 1)
-unfolding breaks
-iterate_prints cs us d p = in_turn cs (codes "[]") us _ d 1 (λ rest b. refl) p empty_prints
-
-maybe_prints : (cs : List ℕ) (us : Tokens) (d : ℕ) → Prints cs us d → Prints (cs ++ codes "?") (us ++ token.Sign sign.Question ∷ []) d
-unfolding breaks
-maybe_prints cs us d p = deeper (cs ++ codes "?") _ (max d 0) d (omega arith) (in_turn cs (codes "?") us _ d 0 (λ rest b. refl) p question_prints)
-
-alternative_before : (ds : List ℕ) → Before ds (codes "//") (token.Sign sign.Alternative)
-alternative_before ds n rest us r = alternative_reads n (ds ++ rest) us r
-
-pipe_prints : (cs ds : List ℕ) (us ws : Tokens) (d e : ℕ) → Prints cs us d → Prints ds ws e → Prints (cs ++ (codes "|" ++ ds)) (us ++ token.Sign sign.Pipe ∷ ws) (max d e)
-unfolding breaks
-pipe_prints cs ds us ws d e p q = infixed cs (codes "|") ds us ws _ d e (λ xs. refl) (lone_before 124 sign.Pipe ds pipe_lone) p q
-
-both_prints : (cs ds : List ℕ) (us ws : Tokens) (d e : ℕ) → Prints cs us d → Prints ds ws e → Prints (cs ++ (codes "," ++ ds)) (us ++ token.Sign sign.Comma ∷ ws) (max d e)
-unfolding breaks
-both_prints cs ds us ws d e p q = infixed cs (codes ",") ds us ws _ d e (λ xs. refl) (lone_before 44 sign.Comma ds comma_lone) p q
-
-alt_prints : (cs ds : List ℕ) (us ws : Tokens) (d e : ℕ) → Prints cs us d → Prints ds ws e → Prints (cs ++ (codes "//" ++ ds)) (us ++ token.Sign sign.Alternative ∷ ws) (max d e)
-unfolding breaks
-alt_prints cs ds us ws d e p q = infixed cs (codes "//") ds us ws _ d e (λ xs. refl) (alternative_before ds) p q
-
-or_prints : (cs ds : List ℕ) (us ws : Tokens) (d e : ℕ) → Prints cs us d → Prints ds ws e → Prints (cs ++ (codes " or " ++ ds)) (us ++ token.Keyword keyword.Or ∷ ws) (max d e)
-unfolding breaks
-or_prints cs ds us ws d e p q = infixed cs (codes " or ") ds us ws _ d e (λ xs. refl) (or_before ds) p q
-
-and_prints : (cs ds : List ℕ) (us ws : Tokens) (d e : ℕ) → Prints cs us d → Prints ds ws e → Prints (cs ++ (codes " and " ++ ds)) (us ++ token.Keyword keyword.And ∷ ws) (max d e)
-unfolding breaks
-and_prints cs ds us ws d e p q = infixed cs (codes " and ") ds us ws _ d e (λ xs. refl) (and_before ds) p q
-
-then_prints : (cs ds : List ℕ) (us ws : Tokens) (d e : ℕ) → Prints cs us d → Prints ds ws e → Prints (cs ++ (codes " then " ++ ds)) (us ++ token.Keyword keyword.Then ∷ ws) (max d e)
-unfolding breaks
-then_prints cs ds us ws d e p q = infixed cs (codes " then ") ds us ws _ d e (λ xs. refl) (then_before ds) p q
-
-else_prints : (cs ds : List ℕ) (us ws : Tokens) (d e : ℕ) → Prints cs us d → Prints ds ws e → Prints (cs ++ (codes " else " ++ ds)) (us ++ token.Keyword keyword.Else ∷ ws) (max d e)
-unfolding breaks
-else_prints cs ds us ws d e p q = infixed cs (codes " else ") ds us ws _ d e (λ xs. refl) (else_before ds) p q
-
-branch_prints : (cs : List ℕ) (us : Tokens) (d : ℕ) → Prints cs us d → Prints (cs ++ codes " end") (us ++ token.Keyword keyword.End ∷ []) d
-unfolding breaks
-branch_prints cs us d p = deeper (cs ++ codes " end") _ (max d 0) d (omega arith) (in_turn cs (codes " end") us _ d 0 (λ rest b. refl) p end_prints)
-
-if_prints : (cs : List ℕ) (us : Tokens) (d : ℕ) → Prints cs us d → Prints (codes "if " ++ cs) (token.Keyword keyword.If ∷ us) d
-if_prints cs us d p = after_token (codes "if ") cs (token.Keyword keyword.If) us d (if_before cs) p
-
-bind_prints : (cs ds x : List ℕ) (us ws : Tokens) (d e : ℕ) → is_name x ≡ true → Prints cs us d → Prints ds ws e
-    → Prints (cs ++ (codes " as " ++ (var_text x ++ (codes "|" ++ ds)))) (us ++ token.Keyword keyword.As ∷ token.Var x ∷ token.Sign sign.Pipe ∷ ws) (max d e)
-unfolding breaks
-bind_prints cs ds x us ws d e h p q =
-    infixed cs (codes " as ") (var_text x ++ (codes "|" ++ ds)) us (token.Var x ∷ token.Sign sign.Pipe ∷ ws) _ d e (λ xs. refl) (as_before (var_text x ++ (codes "|" ++ ds))) p
-    (deeper (var_text x ++ (codes "|" ++ ds)) (token.Var x ∷ token.Sign sign.Pipe ∷ ws) (max 0 e) e (omega arith)
-    (pipe_prints (var_text x) ds (token.Var x ∷ []) ws 0 e (var_prints x h) q))
-
-call_prints : (f : Builtin) (cs ds : List ℕ) (us ws : Tokens) (d e : ℕ) → Breaks ds → Prints cs us d → Prints ds ws e
-    → Prints (builtin_name f ++ 40 ∷ (cs ++ (ds ++ 41 ∷ []))) (token.Name (builtin_name f) ∷ token.Sign sign.LeftParen ∷ ((us ++ ws) ++ token.Sign sign.RightParen ∷ [])) (suc (max d e))
-unfolding breaks
-call_prints f cs ds us ws d e apart p q =
-    respelled _ _ _ _ (suc (max d e)) (ap (λ (x : List ℕ). builtin_name f ++ 40 ∷ x) (append_assoc cs ds (41 ∷ []))) refl
-    (deeper (builtin_name f ++ 40 ∷ ((cs ++ ds) ++ 41 ∷ [])) _ (max 0 (suc (max d e))) (suc (max d e)) (omega arith)
-    (in_turn (builtin_name f) (40 ∷ ((cs ++ ds) ++ 41 ∷ [])) (token.Name (builtin_name f) ∷ []) _ 0 (suc (max d e)) (λ rest b. refl)
-    (name_prints (builtin_name f) (plain_name f)) (in_parens (cs ++ ds) (us ++ ws) (max d e) (in_turn cs ds us ws d e apart p q))))
-
-arguments_break : (es : Trees) → Breaks (print_arguments true es)
-unfolding breaks
-arguments_break no_trees rest b = b
-arguments_break (tree e es) rest b = refl
-
-members_break : (ms : Pairs) → Breaks (print_members true ms)
-unfolding breaks
-members_break no_pairs rest b = b
-members_break (pair k v ms) rest b = refl
-
-argument_prints : (cs ds : List ℕ) (us ws : Tokens) (d e : ℕ) → Breaks ds → Prints cs us d → Prints ds ws e
-    → Prints (between 59 true ++ (cs ++ ds)) (between_tokens (token.Sign sign.Semicolon) true ++ (us ++ ws)) (max d e)
-argument_prints cs ds us ws d e apart p q = after_lone 59 sign.Semicolon (cs ++ ds) (us ++ ws) (max d e) semicolon_lone (in_turn cs ds us ws d e apart p q)
-
-later_prints : (later : Bool) (cs : List ℕ) (us : Tokens) (d : ℕ) → Prints cs us d → Prints (between 44 later ++ cs) (between_tokens (token.Sign sign.Comma) later ++ us) d
-later_prints true cs us d p = after_lone 44 sign.Comma cs us d comma_lone p
-later_prints false cs us d p = p
-
-member_prints : (ks cs ds : List ℕ) (us vs ws : Tokens) (k d e : ℕ) → Breaks ds → Prints ks us k → Prints cs vs d → Prints ds ws e
-    → Prints (40 ∷ (ks ++ (codes "):" ++ (cs ++ ds)))) (((token.Sign sign.LeftParen ∷ (us ++ token.Sign sign.RightParen ∷ [])) ++ token.Sign sign.Colon ∷ vs) ++ ws) (max (suc k) (max d e))
-unfolding breaks
-member_prints ks cs ds us vs ws k d e apart p q r =
-    let key = token.Sign sign.LeftParen ∷ (us ++ token.Sign sign.RightParen ∷ []) in
-    respelled ((40 ∷ (ks ++ 41 ∷ [])) ++ 58 ∷ (cs ++ ds)) _ (key ++ token.Sign sign.Colon ∷ (vs ++ ws)) _ (max (suc k) (max d e))
-    (ap (λ (x : List ℕ). 40 ∷ x) (append_assoc ks (41 ∷ []) (58 ∷ (cs ++ ds))))
-    (sym (append_assoc key (token.Sign sign.Colon ∷ vs) ws))
-    (in_turn (40 ∷ (ks ++ 41 ∷ [])) (58 ∷ (cs ++ ds)) key (token.Sign sign.Colon ∷ (vs ++ ws)) (suc k) (max d e) (λ rest b. refl)
-    (in_parens ks us k p)
-    (after_lone 58 sign.Colon (cs ++ ds) (vs ++ ws) (max d e) colon_lone (in_turn cs ds vs ws d e apart q r)))
+-- a member with its key in parentheses, before others
+member_reads : {b c : Bool} {cs ds : List ℕ} {d e : ℕ} {k v : Tree} → Prints b cs d k → Prints c ds e v
+    → (n : Nest) (ms rest : List ℕ) (us : Tokens) → Reads n (ms ++ rest) us → breaks (ms ++ rest) ≡ true → length n + max (suc d) (enclosed_nesting c e) ≤ 64
+    → (ts : Tokens) × Reads n ((40 ∷ (cs ++ (codes "):" ++ (enclosed c ds ++ ms)))) ++ rest) ts × MemberOf ts (with_value k v) us
+member_reads {c = c} {ds = ds} {k = k} {v = v} p q n ms rest us r brk room =
+    let y = (operand c q).reads n (ms ++ rest) us r brk (omega arith) in
+    let text = enclosed c ds ++ (ms ++ rest) in
+    let x = inside parens p n (58 ∷ text) (token.Sign sign.Colon ∷ y.0) (lone_reads n 58 sign.Colon text y.0 colon_lone y.1) (omega arith) in
+    (token.Sign sign.LeftParen ∷ x.0, simp append_assoc x.1, Grammar.member_value _ y.0 us k v (Grammar.key_pipe x.0 _ k x.2) (tight 2 y.0 us v y.2))
 
 mutual
-  prints : (e : Tree) → IsExpression e → Both e
-  prints here h = alone _ _ 0 here_prints
-  prints (lit v) h = alone _ _ 0 (literal_prints v h.0 h.1)
-  prints (var x) h = alone _ _ 0 (var_prints x h)
-  prints (index a b) h = within _ _ (nesting (index a b)) (index_prints _ _ _ _ _ (nesting b) (prints a h.0).1 (prints b h.1).0)
-  prints (iterate a) h = within _ _ (nesting (iterate a)) (iterate_prints _ _ _ (prints a h).1)
-  prints (maybe a) h = within _ _ (nesting (maybe a)) (maybe_prints _ _ _ (prints a h).1)
-  prints (pipe a b) h = within _ _ (nesting (pipe a b)) (pipe_prints _ _ _ _ _ _ (prints a h.0).1 (prints b h.1).1)
-  prints (both a b) h = within _ _ (nesting (both a b)) (both_prints _ _ _ _ _ _ (prints a h.0).1 (prints b h.1).1)
-  prints (alt a b) h = within _ _ (nesting (alt a b)) (alt_prints _ _ _ _ _ _ (prints a h.0).1 (prints b h.1).1)
-  prints (or a b) h = within _ _ (nesting (or a b)) (or_prints _ _ _ _ _ _ (prints a h.0).1 (prints b h.1).1)
-  prints (and a b) h = within _ _ (nesting (and a b)) (and_prints _ _ _ _ _ _ (prints a h.0).1 (prints b h.1).1)
+  unfolding breaks
+
+  prints : (e : Tree) → IsExpression e → Prints (is_term e) (print_of e) (nesting e) e
+  prints here h = record { reads = λ n rest us r brk room. (token.Dot ∷ us, dot_reads n rest us brk r, Grammar.term_here us) }
+  prints (lit v) h = literal_prints v h.0 h.1
+  prints (var x) h = record { reads = λ n rest us r brk room. (token.Var x ∷ us, var_at n x rest us h brk r, Grammar.term_var us x) }
+  prints (index a b) h = record {
+    reads = λ n rest us r brk room.
+        let q = inside squares (prints b h.1) n rest us r (omega arith) in
+        let p = (operand _ (prints a h.0)).reads n (91 ∷ (print_of b ++ 93 ∷ rest)) _ q.1 refl (omega arith) in
+        (p.0, simp append_assoc p.1, Grammar.level_post 0 p.0 us (index a b) (Grammar.post_index p.0 q.0 us a b (Grammar.post_term p.0 _ a p.2) q.2));
+  }
+  prints (iterate a) h = record {
+    reads = λ n rest us r brk room.
+        let p = (operand _ (prints a h)).reads n (91 ∷ 93 ∷ rest) _ (empty squares n rest us r (omega arith)) refl (omega arith) in
+        (p.0, simp append_assoc p.1, Grammar.level_post 0 p.0 us (iterate a) (Grammar.post_iterate p.0 us a (Grammar.post_term p.0 _ a p.2)));
+  }
+  prints (maybe a) h = record {
+    reads = λ n rest us r brk room.
+        let p = (operand _ (prints a h)).reads n (63 ∷ rest) _ (lone_reads n 63 sign.Question rest us question_lone r) refl room in
+        (p.0, simp append_assoc p.1, Grammar.level_post 0 p.0 us (maybe a) (Grammar.post_maybe p.0 us a (Grammar.post_term p.0 _ a p.2)));
+  }
+  prints (pipe a b) h = infixed joint.Pipe (codes "|") refl (λ xs. refl) (λ n rest us r. lone_reads n 124 sign.Pipe _ us pipe_lone r) (prints a h.0) (prints b h.1)
+  prints (both a b) h = infixed joint.Comma (codes ",") refl (λ xs. refl) (λ n rest us r. lone_reads n 44 sign.Comma _ us comma_lone r) (prints a h.0) (prints b h.1)
+  prints (alt a b) h = infixed joint.Alt (codes "//") refl (λ xs. refl) (λ n rest us r. alternative_reads n _ us r) (prints a h.0) (prints b h.1)
+  prints (or a b) h = infixed joint.Or (codes " or ") refl (λ xs. refl) (λ n rest us r. between_blanks n keyword.Or _ us r) (prints a h.0) (prints b h.1)
+  prints (and a b) h = infixed joint.And (codes " and ") refl (λ xs. refl) (λ n rest us r. between_blanks n keyword.And _ us r) (prints a h.0) (prints b h.1)
   prints (binary o a b) h =
-      within _ _ (nesting (binary o a b)) (infixed _ (op_text o) _ _ _ _ _ _ (op_breaks o) (op_before o (enclosed (is_term b) (print_of b)) (operand_leads b h.1)) (prints a h.0).1 (prints b h.1).1)
-  prints (neg a) h = within _ _ (nesting (neg a)) (after_lone 45 (sign.Op ops.Subtract) _ _ _ subtract_lone (prints a h).1)
-  prints empty_list h = alone _ _ 1 empty_prints
-  prints (list_of a) h = alone _ _ (nesting (list_of a)) (in_square _ _ (nesting a) (prints a h).0)
-  prints (object_of ms) h = alone _ _ (nesting (object_of ms)) (in_braces _ _ (nesting_members ms) (members_print false ms h))
-  prints (if_then c a) h =
-      alone _ _ (nesting (if_then c a)) (if_prints _ _ (nesting (if_then c a)) (then_prints _ _ _ _ (nesting c) (nesting a) (prints c h.0).0 (branch_prints _ _ (nesting a) (prints a h.1).0)))
-  prints (if_else c a b) h =
-      alone _ _ (nesting (if_else c a b)) (if_prints _ _ (nesting (if_else c a b))
-      (then_prints _ _ _ _ (nesting c) (max (nesting a) (nesting b)) (prints c h.0).0
-      (else_prints _ _ _ _ (nesting a) (nesting b) (prints a h.1).0 (branch_prints _ _ (nesting b) (prints b h.2).0))))
-  prints (bind a x b) h = within _ _ (nesting (bind a x b)) (bind_prints _ _ x _ _ _ (nesting b) h.1 (prints a h.0).1 (prints b h.2).0)
-  prints (apply f no_trees) h = alone _ _ 0 (name_prints (builtin_name f) (plain_name f))
-  prints (apply f (tree e es)) h =
-      alone _ _ (nesting (apply f (tree e es))) (call_prints f _ _ _ _ (nesting e) (nesting_arguments es) (arguments_break es) (prints e h.1.0).0 (arguments_print es h.1.1))
+      infixed (joint.Op o) (op_text o) (zero_le (op_level o)) (op_breaks o) (λ n rest us r. op_reads n o _ us (operand_leads b rest h.1) r) (prints a h.0) (prints b h.1)
+  prints (neg a) h = record {
+    reads = λ n rest us r brk room.
+        let p = (operand _ (prints a h)).reads n rest us r brk room in
+        (_, lone_reads n 45 (sign.Op ops.Subtract) _ p.0 subtract_lone p.1, Grammar.level_minus 0 p.0 us a refl (tight 9 p.0 us a p.2));
+  }
+  prints empty_list h = record { reads = λ n rest us r brk room. (_, empty squares n rest us r room, Grammar.term_empty_list us) }
+  prints (list_of a) h = record {
+    reads = λ n rest us r brk room.
+        let p = inside squares (prints a h) n rest us r room in
+        (token.Sign sign.LeftBracket ∷ p.0, under n 91 (print_of a) (93 ∷ []) rest _ p.1, Grammar.term_list p.0 us a p.2);
+  }
+  prints (object_of no_pairs) h = record { reads = λ n rest us r brk room. (_, empty braces n rest us r room, Grammar.term_empty_object us) }
+  prints (object_of (pair k v ms)) h = record {
+    reads = λ n rest us r brk room.
+        let q = members ms h.2 (bracket.Plain ∷ n) (125 ∷ rest) _ (close_reads n 125 sign.RightBrace rest us braces.closes r) refl (omega arith) in
+        let p = member_reads (prints k h.0) (prints v h.1) (bracket.Plain ∷ n) (print_members true ms) (125 ∷ rest) q.0 q.1 q.2 (omega arith) in
+        let text = print_members false (pair k v ms) in (
+          token.Sign sign.LeftBrace ∷ p.0,
+          under n 123 text (125 ∷ []) rest (token.Sign sign.LeftBrace ∷ p.0) (open_reads n 123 sign.LeftBrace (text ++ 125 ∷ rest) p.0 braces.opens (omega arith) p.1),
+          subst (λ (x : Pairs). Term (token.Sign sign.LeftBrace ∷ p.0) (object_of x) us) (members_are (pair k v ms))
+              (Grammar.term_object p.0 us (members_of (pair k v ms)) (q.3 p.0 (with_value k v ∷ []) (Grammar.one_member p.0 q.0 (with_value k v) p.2))),
+        );
+  }
+  prints (if_then c a) h = record {
+    reads = λ n rest us r brk room.
+        let q = (whole _ (prints a h.1)).reads n (codes " end" ++ rest) _ (end_at n rest us brk r) refl (omega arith) in
+        let after = codes " then " ++ (print_of a ++ (codes " end" ++ rest)) in
+        let p = (whole _ (prints c h.0)).reads n after (token.Keyword keyword.Then ∷ q.0) (between_blanks n keyword.Then _ q.0 q.1) refl (omega arith) in
+        let text = print_of c ++ (codes " then " ++ (print_of a ++ codes " end")) in (
+          token.Keyword keyword.If ∷ p.0,
+          before_blank n keyword.If (text ++ rest) p.0 (simp append_assoc p.1),
+          Grammar.term_if p.0 us (if_then c a) (Grammar.branches_end p.0 q.0 us c a p.2 q.2),
+        );
+  }
+  prints (if_else c a b) h = record {
+    reads = λ n rest us r brk room.
+        let s = (whole _ (prints b h.2)).reads n (codes " end" ++ rest) _ (end_at n rest us brk r) refl (omega arith) in
+        let last = codes " else " ++ (print_of b ++ (codes " end" ++ rest)) in
+        let q = (whole _ (prints a h.1)).reads n last (token.Keyword keyword.Else ∷ s.0) (between_blanks n keyword.Else _ s.0 s.1) refl (omega arith) in
+        let after = codes " then " ++ (print_of a ++ last) in
+        let p = (whole _ (prints c h.0)).reads n after (token.Keyword keyword.Then ∷ q.0) (between_blanks n keyword.Then _ q.0 q.1) refl (omega arith) in
+        let text = print_of c ++ (codes " then " ++ (print_of a ++ (codes " else " ++ (print_of b ++ codes " end")))) in (
+          token.Keyword keyword.If ∷ p.0,
+          before_blank n keyword.If (text ++ rest) p.0 (simp append_assoc p.1),
+          Grammar.term_if p.0 us (if_else c a b) (Grammar.branches_else p.0 q.0 s.0 us c a b p.2 q.2 s.2),
+        );
+  }
+  prints (bind a x b) h = record {
+    reads = λ n rest us r brk room.
+        let q = (whole _ (prints b h.2)).reads n rest us r brk (omega arith) in
+        let v = var_at n x (124 ∷ (print_of b ++ rest)) _ h.1 refl (lone_reads n 124 sign.Pipe _ q.0 pipe_lone q.1) in
+        let p = (operand _ (prints a h.0)).reads n (codes " as " ++ 36 ∷ (x ++ 124 ∷ (print_of b ++ rest))) _ (between_blanks n keyword.As _ _ v) refl (omega arith) in
+        (p.0, simp append_assoc p.1, Grammar.level_bind p.0 q.0 us a b x (Grammar.post_term p.0 _ a p.2) q.2);
+  }
+  prints (apply f no_trees) h = record {
+    reads = λ n rest us r brk room. (
+      _,
+      word_at n (builtin_name f) rest None us (name_is (builtin_name f) (known_builtin f).0) brk r,
+      Grammar.term_name us (builtin_name f) f (ap (named (builtin_name f)) h.0 ∙ (known_builtin f).1),
+    );
+  }
+  prints (apply f (tree e es)) h = record {
+    reads = λ n rest us r brk room.
+        let q = arguments es h.1.1 (bracket.Plain ∷ n) (41 ∷ rest) _ (close_reads n 41 sign.RightParen rest us parens.closes r) refl (omega arith) in
+        let p = (whole _ (prints e h.1.0)).reads (bracket.Plain ∷ n) (print_arguments true es ++ 41 ∷ rest) q.0 q.1 q.2 (omega arith) in
+        let o = open_reads n 40 sign.LeftParen _ p.0 parens.opens (omega arith) p.1 in
+        let text = print_of e ++ (print_arguments true es ++ 41 ∷ rest) in (
+          token.Name (builtin_name f) ∷ token.Sign sign.LeftParen ∷ p.0,
+          simp append_assoc (word_at n (builtin_name f) (40 ∷ text) None (token.Sign sign.LeftParen ∷ p.0) (name_is (builtin_name f) (known_builtin f).0) refl o),
+          subst (λ (x : Trees). Term (token.Name (builtin_name f) ∷ token.Sign sign.LeftParen ∷ p.0) (apply f x) us) (rows_are (tree e es)).0
+              (Grammar.term_call p.0 us (builtin_name f) f (rows (tree e es)) (q.3 p.0 (e ∷ []) (Grammar.one_argument p.0 q.0 e p.2))
+              (ap (named (builtin_name f)) ((rows_are (tree e es)).1 ∙ h.0) ∙ (known_builtin f).1)),
+        );
+  }
 
-  arguments_print : (es : Trees) → AreArguments es → Prints (print_arguments true es) (argument_tokens true es) (nesting_arguments es)
-  arguments_print no_trees h = nothing_prints
-  arguments_print (tree e es) h = argument_prints _ _ _ _ (nesting e) (nesting_arguments es) (arguments_break es) (prints e h.0).0 (arguments_print es h.1)
+  -- arguments after others
+  arguments : (es : Trees) → AreArguments es → (n : Nest) (rest : List ℕ) (us : Tokens) → Reads n rest us → breaks rest ≡ true → length n + nesting_arguments es ≤ 64
+      → (ts : Tokens) × Reads n (print_arguments true es ++ rest) ts × (breaks (print_arguments true es ++ rest) ≡ true)
+      × ((vs : Tokens) (fs : List Tree) → ArgumentsOf vs fs ts → ArgumentsOf vs (fs ++ rows es) us)
+  arguments no_trees h n rest us r brk room = (us, r, brk, λ vs fs d. subst (λ (x : List Tree). ArgumentsOf vs x us) (sym (append-nil fs)) d)
+  arguments (tree e es) h n rest us r brk room =
+      let q = arguments es h.1 n rest us r brk (omega arith) in
+      let p = (whole _ (prints e h.0)).reads n (print_arguments true es ++ rest) q.0 q.1 q.2 (omega arith) in (
+        token.Sign sign.Semicolon ∷ p.0,
+        lone_reads n 59 sign.Semicolon ((print_of e ++ print_arguments true es) ++ rest) p.0 semicolon_lone (simp append_assoc p.1),
+        refl,
+        λ vs fs d. subst (λ (x : List Tree). ArgumentsOf vs x us) (append_assoc fs (e ∷ []) (rows es)) (q.3 vs (fs ++ e ∷ []) (Grammar.more_arguments vs p.0 q.0 fs e d p.2)),
+      )
 
-  members_print : (later : Bool) (ms : Pairs) → AreMembers ms → Prints (print_members later ms) (member_tokens later ms) (nesting_members ms)
-  members_print later no_pairs h = nothing_prints
-  members_print later (pair k v ms) h =
-      later_prints later _ _ (nesting_members (pair k v ms))
-      (member_prints _ _ _ _ _ _ (nesting k) _ (nesting_members ms) (members_break ms) (prints k h.0).0 (prints v h.1).1 (members_print true ms h.2))
+  -- members after others
+  members : (ms : Pairs) → AreMembers ms → (n : Nest) (rest : List ℕ) (us : Tokens) → Reads n rest us → breaks rest ≡ true → length n + nesting_members ms ≤ 64
+      → (ts : Tokens) × Reads n (print_members true ms ++ rest) ts × (breaks (print_members true ms ++ rest) ≡ true)
+      × ((vs : Tokens) (ns : List ExprMember) → MembersOf vs ns ts → MembersOf vs (ns ++ members_of ms) us)
+  members no_pairs h n rest us r brk room = (us, r, brk, λ vs ns d. subst (λ (x : List ExprMember). MembersOf vs x us) (sym (append-nil ns)) d)
+  members (pair k v ms) h n rest us r brk room =
+      let q = members ms h.2 n rest us r brk (omega arith) in
+      let p = member_reads (prints k h.0) (prints v h.1) n (print_members true ms) rest q.0 q.1 q.2 (omega arith) in (
+        token.Sign sign.Comma ∷ p.0,
+        lone_reads n 44 sign.Comma (print_members false (pair k v ms) ++ rest) p.0 comma_lone p.1,
+        refl,
+        λ vs ns d. subst (λ (x : List ExprMember). MembersOf vs x us) (append_assoc ns (with_value k v ∷ []) (members_of ms))
+            (q.3 vs (ns ++ with_value k v ∷ []) (Grammar.more_members vs p.0 q.0 ns (with_value k v) d p.2)),
+      )
 
--- the tokens of an expression's text
-pub text_reads_as : (e : Tree) → IsExpression e → nesting e ≤ 64 → Reads [] (print_of e) (printed_tokens e)
+-- the tokens of an expression's text are it
+pub text_is_read : (e : Tree) → IsExpression e → nesting e ≤ 64 → (ts : Tokens) × Reads [] (print_of e) ts × Pipe ts e
 unfolding breaks
-text_reads_as e h deep =
-    subst (λ (x : List ℕ). Reads [] x (printed_tokens e)) (append-nil (print_of e))
-    (subst (λ (x : Tokens). Reads [] (print_of e ++ []) x) (append-nil (printed_tokens e))
-    ((prints e h).0.reads [] [] [] (omega arith) refl (ends_read [])))
+text_is_read e h deep =
+    let q = (whole (is_term e) (prints e h)).reads [] [] [] (ends_read []) refl (omega arith) in
+    (q.0, subst (λ (x : List ℕ). Reads [] x q.0) (append-nil (print_of e)) q.1, q.2)

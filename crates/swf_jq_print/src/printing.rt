@@ -1,7 +1,6 @@
 // Writing an expression as text, with parentheses round each operand that is no term.
 ghost use Rattle.std.specs.Prelude.{◌≡◌, ◌≤◌, ◌∷◌, ◌++◌, [], true, false, length, Ok, IfOk, OnOk, IsTrue};
-ghost use Rattle.swf_expr.specs.Builtin.{arity, builtin_name};
-ghost use Rattle.swf_expr.specs.Expr.{is_literal, index, bind, if_then, if_else};
+ghost use Rattle.swf_expr.specs.Expr.{is_literal};
 ghost use Rattle.swf_expr.specs.ExprNode.{trees_of, pairs_of, value_or_here};
 ghost use Rattle.swf_text.specs.Same.{is_ascii};
 ghost use Rattle.swf_expr.specs.Name.{is_name};
@@ -30,10 +29,8 @@ pub fn print(alloc: Global, expr: &Expr) -> Result<Text, AllocError>
     ensures kept { IfOk result (λ _. IsExpression expr.now) }
     ensures read_back { IfOk result (λ t. length (encode_utf8_all t) ≤ 4096 → nesting expr.now ≤ 64 → parse_of t ≡ Ok expr.now) }
 {
-    let mut out = Out {
-        alloc,
-        text: TextBuilder::new(alloc),
-    };
+    let text = TextBuilder::new(alloc);
+    let mut out = Out { alloc, text };
     write(expr, &mut out)?;
     out.text.into_text(alloc)
 }
@@ -48,25 +45,37 @@ fn write(expr: &Expr, out: &mut Out) -> Result<(), AllocError>
         ExprNode::Here => out.text.push('.'),
         ExprNode::Lit(value) => write_literal(value, out),
         ExprNode::Var(name) => write_var(name, out),
-        ExprNode::Index(of, key) => write_index(of, key, out),
-        ExprNode::Iterate(of) => write_around("", of, "[]", out),
-        ExprNode::Maybe(of) => write_around("", of, "?", out),
+        ExprNode::Index(of, key) => {
+            write_operand("", of, "[", out)?;
+            write_between("", key, "]", out)
+        }
+        ExprNode::Iterate(of) => write_operand("", of, "[]", out),
+        ExprNode::Maybe(of) => write_operand("", of, "?", out),
         ExprNode::Pipe(left, right) => write_both(left, "|", right, out),
         ExprNode::Both(left, right) => write_both(left, ",", right, out),
         ExprNode::Alt(left, right) => write_both(left, "//", right, out),
         ExprNode::Or(left, right) => write_both(left, " or ", right, out),
         ExprNode::And(left, right) => write_both(left, " and ", right, out),
         ExprNode::Binary(op, left, right) => write_both(left, sign_of(*op), right, out),
-        ExprNode::Neg(of) => write_around("-", of, "", out),
+        ExprNode::Neg(of) => write_operand("-", of, "", out),
         ExprNode::List(None) => out.text.push_ascii("[]"),
         ExprNode::List(Some(of)) => write_between("[", of, "]", out),
         ExprNode::Object(members) => write_object(members, out),
         ExprNode::Constant(constant) => write_object(constant.members(), out),
-        ExprNode::If(condition, then, None) => write_if_then(condition, then, out),
-        ExprNode::If(condition, then, Some(otherwise)) => {
-            write_if_else(condition, then, otherwise, out)
+        ExprNode::If(condition, then, None) => {
+            write_between("if ", condition, " then ", out)?;
+            write_between("", then, " end", out)
         }
-        ExprNode::Bind(of, name, then) => write_bind(of, name, then, out),
+        ExprNode::If(condition, then, Some(otherwise)) => {
+            write_between("if ", condition, " then ", out)?;
+            write_between("", then, " else ", out)?;
+            write_between("", otherwise, " end", out)
+        }
+        ExprNode::Bind(of, name, then) => {
+            write_operand("", of, " as ", out)?;
+            write_var(name, out)?;
+            write_between("|", then, "", out)
+        }
         ExprNode::Apply(builtin, arguments) => {
             out.text.push_ascii(builtin.name())?;
             write_arguments(arguments, out)
@@ -87,30 +96,20 @@ fn write_between(before: &str, expr: &Expr, after: &str, out: &mut Out) -> Resul
     out.text.push_ascii(after)
 }
 
-/// Appends an operand: in parentheses, where it is no term.
+/// Appends an operand between two texts: in parentheses, where it is no term.
 #[cycle(print)]
-fn write_operand(expr: &Expr, out: &mut Out) -> Result<(), AllocError>
-    ensures text { OnOk result (out.new.text ≡ out.old.text ++ enclosed (is_term expr.now) (print_of expr.now)) }
-    ensures kept { OnOk result (IsExpression expr.now) }
-{
-    if is_term(expr) {
-        write(expr, out)
-    } else {
-        write_between("(", expr, ")", out)
-    }
-}
-
-/// Appends an operand between two texts.
-#[cycle(print)]
-fn write_around(before: &str, expr: &Expr, after: &str, out: &mut Out) -> Result<(), AllocError>
+fn write_operand(before: &str, expr: &Expr, after: &str, out: &mut Out) -> Result<(), AllocError>
     requires before { IsTrue (is_ascii before.now) }
     requires after { IsTrue (is_ascii after.now) }
     ensures text { OnOk result
         (out.new.text ≡ out.old.text ++ (before.now ++ (enclosed (is_term expr.now) (print_of expr.now) ++ after.now))) }
     ensures kept { OnOk result (IsExpression expr.now) }
 {
+    if is_term(expr) {
+        return write_between(before, expr, after, out);
+    }
     out.text.push_ascii(before)?;
-    write_operand(expr, out)?;
+    write_between("(", expr, ")", out)?;
     out.text.push_ascii(after)
 }
 
@@ -123,56 +122,8 @@ fn write_both(left: &Expr, joint: &str, right: &Expr, out: &mut Out) -> Result<(
         ≡ out.old.text ++ (enclosed (is_term left.now) (print_of left.now) ++ (joint.now ++ enclosed (is_term right.now) (print_of right.now)))) }
     ensures kept { OnOk result (IsExpression left.now × IsExpression right.now) }
 {
-    write_operand(left, out)?;
-    out.text.push_ascii(joint)?;
-    write_operand(right, out)
-}
-
-/// Appends an index.
-#[cycle(print)]
-fn write_index(of: &Expr, key: &Expr, out: &mut Out) -> Result<(), AllocError>
-    ensures text { OnOk result (out.new.text ≡ out.old.text ++ print_of (index of.now key.now)) }
-    ensures kept { OnOk result (IsExpression of.now × IsExpression key.now) }
-{
-    write_operand(of, out)?;
-    write_between("[", key, "]", out)
-}
-
-/// Appends an `if` with no `else`.
-#[cycle(print)]
-fn write_if_then(condition: &Expr, then: &Expr, out: &mut Out) -> Result<(), AllocError>
-    ensures text { OnOk result (out.new.text ≡ out.old.text ++ print_of (if_then condition.now then.now)) }
-    ensures kept { OnOk result (IsExpression condition.now × IsExpression then.now) }
-{
-    write_between("if ", condition, " then ", out)?;
-    write_between("", then, " end", out)
-}
-
-/// Appends an `if` with its `else`.
-#[cycle(print)]
-fn write_if_else(
-    condition: &Expr,
-    then: &Expr,
-    otherwise: &Expr,
-    out: &mut Out,
-) -> Result<(), AllocError>
-    ensures text { OnOk result (out.new.text ≡ out.old.text ++ print_of (if_else condition.now then.now otherwise.now)) }
-    ensures kept { OnOk result (IsExpression condition.now × IsExpression then.now × IsExpression otherwise.now) }
-{
-    write_between("if ", condition, " then ", out)?;
-    write_between("", then, " else ", out)?;
-    write_between("", otherwise, " end", out)
-}
-
-/// Appends what stands under a name.
-#[cycle(print)]
-fn write_bind(of: &Expr, name: &Name, then: &Expr, out: &mut Out) -> Result<(), AllocError>
-    ensures text { OnOk result (out.new.text ≡ out.old.text ++ print_of (bind of.now name.now then.now)) }
-    ensures kept { OnOk result (IsExpression of.now × (is_name name.now ≡ true) × IsExpression then.now) }
-{
-    write_around("", of, " as ", out)?;
-    write_var(name, out)?;
-    write_between("|", then, "", out)
+    write_operand("", left, joint, out)?;
+    write_operand("", right, "", out)
 }
 
 /// Appends an object.
@@ -197,7 +148,7 @@ fn write_member(member: &ExprMember, out: &mut Out) -> Result<(), AllocError>
 {
     write_between("(", &member.key, "):", out)?;
     match &member.value {
-        Some(value) => write_operand(value, out),
+        Some(value) => write_operand("", value, "", out),
         None => write_between("(.[", &member.key, "])", out),
     }
 }
@@ -248,6 +199,7 @@ fn write_var(name: &Name, out: &mut Out) -> Result<(), AllocError>
 }
 
 /// Appends a literal.
+#[tactic(auto, using(crate::proofs::Literals::literal_written))]
 fn write_literal(value: &Json, out: &mut Out) -> Result<(), AllocError>
     requires { is_literal value.now ≡ true }
     ensures text { OnOk result (out.new.text ≡ out.old.text ++ literal_text value.now) }

@@ -1,8 +1,7 @@
 pub mod Choices
-pub mod Pieces
-pub mod Fronts
+pub mod Keywords
 pub mod Decimals
-pub mod Shorter
+pub mod Pieces
 pub mod TokenSteps
 pub mod Lexing
 pub mod LexingNumbers

@@ -1,5 +1,6 @@
--- The keywords and their spelling, and the longest front of characters of a kind.
+-- The keywords and their spelling, and words.
 use Rattle.std.specs.Prelude.{◌&&◌, ℕ, Bool, List, [], ◌∷◌, Option, Some, None, codes, nat_le, if◌then◌else◌}
+use Rattle.std.specs.List.{prefix_len, take_while}
 use Rattle.swf_expr.specs.Name.{goes_on_name}
 use Rattle.swf_text.specs.Same.{same}
 use Rattle.swf_jq_tokens.specs.declared.token.Keyword.{Keyword}
@@ -32,21 +33,13 @@ keyword_in (k ∷ ks) t = if same t (keyword_text k) then Some k else keyword_in
 unfoldable pub keyword_of : List ℕ → Option Keyword
 keyword_of t = keyword_in all_keywords t
 
--- the characters at the front that pass, and what stands after them
-abbrev pub front : (ℕ → Bool) → List ℕ → List ℕ
-front p [] = []
-front p (c ∷ cs) = if p c then c ∷ front p cs else []
+-- the word that a character begins, which goes on as far as letters, digits and `_` do
+abbrev pub word : ℕ → List ℕ → List ℕ
+word c cs = c ∷ take_while goes_on_name cs
 
-abbrev pub after : (ℕ → Bool) → List ℕ → List ℕ
-after p [] = []
-after p (c ∷ cs) = if p c then after p cs else c ∷ cs
-
--- the rest of a word, which goes on as far as letters, digits and `_` do
-abbrev pub word : List ℕ → List ℕ
-word cs = front goes_on_name cs
-
-abbrev pub after_word : List ℕ → List ℕ
-after_word cs = after goes_on_name cs
+-- how many characters it has after the first
+abbrev pub word_length : List ℕ → ℕ
+word_length cs = prefix_len goes_on_name cs
 
 abbrev pub is_digit : ℕ → Bool
 is_digit c = nat_le 48 c && nat_le c 57

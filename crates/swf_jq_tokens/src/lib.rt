@@ -1,10 +1,8 @@
 //! The tokens of an expression's text, one after another.
 #![tactic(auto)]
 
-mod digits;
 mod fault;
 mod laws;
-mod lexeme;
 mod lexer;
 mod nest;
 mod number;
@@ -15,8 +13,6 @@ mod words;
 
 pub use fault::ParseFault;
 pub use laws::lexer_laws;
-pub use lexeme::{Lexeme, Nested};
-pub use lexer::{is_blank, read_token};
-pub use nest::{Bracket, Nest};
+pub use lexer::{End, lex};
 pub use number::Number;
 pub use token::{Keyword, Sign, Token};

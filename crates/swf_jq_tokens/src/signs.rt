@@ -1,72 +1,39 @@
-// Signs that are no brackets.
-ghost use Rattle.std.specs.Prelude.{◌≡◌, ◌+◌, ◌*◌, ◌^◌, ◌<◌, ◌≤◌, length, IfOk};
-ghost use Rattle.swf_jq_tokens.specs.Gives.{Gives};
-ghost use Rattle.swf_jq_tokens.specs.Lexer.{lexeme, double_sign, single_sign, single, other_sign};
+// Tokens of signs.
+ghost use Rattle.std.specs.Prelude.{◌≡◌};
+ghost use Rattle.swf_jq_tokens.specs.Lexer.{sign_at};
 
-use crate::fault::ParseFault;
-use crate::lexeme::{Lexeme, sign};
-use crate::token::Sign;
+use crate::token::{Found, Sign, Token};
 use swf_expr::Op;
 
-/// A sign that is no bracket: of two characters, where they are one.
-#[tactic(auto, unfolding(crate::specs::Lexer::other_sign))]
-pub fn other_sign(first: char, tail: &[char], at: usize) -> Result<Lexeme<'_>, ParseFault>
-    requires { at + 4 + 4 * length tail.now < 2 ^ 63 }
-    ensures gives { Gives (λ l. lexeme l.token l.at l.rest.now) result (other_sign at first tail.now) }
-    ensures within { IfOk result (λ l. l.at + 4 * length l.rest.now ≤ at + 4 + 4 * length tail.now) }
+/// A sign, of two characters where they are one, with how many follow the first.
+#[tactic(auto, unfolding(crate::specs::Lexer::sign_at))]
+pub fn sign_at(first: char, tail: &[char]) -> Option<Found>
+    ensures { result ≡ sign_at first tail.now }
 {
-    match tail {
-        [second, after @ ..] => match double_sign(first, *second) {
-            Some(double) => Ok(sign(double, after, at + 2)),
-            None => single(first, tail, at),
-        },
-        [] => single(first, tail, at),
-    }
-}
-
-/// A sign of one character.
-fn single(first: char, tail: &[char], at: usize) -> Result<Lexeme<'_>, ParseFault>
-    requires { at + 4 + 4 * length tail.now < 2 ^ 63 }
-    ensures gives { Gives (λ l. lexeme l.token l.at l.rest.now) result (single at tail.now (single_sign first)) }
-    ensures within { IfOk result (λ l. l.at + 4 * length l.rest.now ≤ at + 4 + 4 * length tail.now) }
-{
-    match single_sign(first) {
-        Some(single) => Ok(sign(single, tail, at + 1)),
-        None => Err(ParseFault::Syntax { at }),
-    }
-}
-
-/// The sign that two characters are.
-fn double_sign(first: char, second: char) -> Option<Sign>
-    ensures { result ≡ double_sign first second }
-{
-    match (first, second) {
-        ('/', '/') => Some(Sign::Alternative),
-        ('=', '=') => Some(Sign::Op(Op::Equal)),
-        ('!', '=') => Some(Sign::Op(Op::NotEqual)),
-        ('<', '=') => Some(Sign::Op(Op::AtMost)),
-        ('>', '=') => Some(Sign::Op(Op::AtLeast)),
-        _ => None,
-    }
-}
-
-/// The sign that one character is.
-fn single_sign(c: char) -> Option<Sign>
-    ensures { result ≡ single_sign c }
-{
-    match c {
-        ',' => Some(Sign::Comma),
-        '|' => Some(Sign::Pipe),
-        ';' => Some(Sign::Semicolon),
-        ':' => Some(Sign::Colon),
-        '?' => Some(Sign::Question),
-        '<' => Some(Sign::Op(Op::Less)),
-        '>' => Some(Sign::Op(Op::Greater)),
-        '+' => Some(Sign::Op(Op::Add)),
-        '-' => Some(Sign::Op(Op::Subtract)),
-        '*' => Some(Sign::Op(Op::Multiply)),
-        '/' => Some(Sign::Op(Op::Divide)),
-        '%' => Some(Sign::Op(Op::Modulo)),
+    match (first, tail) {
+        ('/', ['/', ..]) => Some((Token::Sign(Sign::Alternative), 1)),
+        ('=', ['=', ..]) => Some((Token::Sign(Sign::Op(Op::Equal)), 1)),
+        ('!', ['=', ..]) => Some((Token::Sign(Sign::Op(Op::NotEqual)), 1)),
+        ('<', ['=', ..]) => Some((Token::Sign(Sign::Op(Op::AtMost)), 1)),
+        ('>', ['=', ..]) => Some((Token::Sign(Sign::Op(Op::AtLeast)), 1)),
+        ('(', _) => Some((Token::Sign(Sign::LeftParen), 0)),
+        (')', _) => Some((Token::Sign(Sign::RightParen), 0)),
+        ('[', _) => Some((Token::Sign(Sign::LeftBracket), 0)),
+        (']', _) => Some((Token::Sign(Sign::RightBracket), 0)),
+        ('{', _) => Some((Token::Sign(Sign::LeftBrace), 0)),
+        ('}', _) => Some((Token::Sign(Sign::RightBrace), 0)),
+        (',', _) => Some((Token::Sign(Sign::Comma), 0)),
+        ('|', _) => Some((Token::Sign(Sign::Pipe), 0)),
+        (';', _) => Some((Token::Sign(Sign::Semicolon), 0)),
+        (':', _) => Some((Token::Sign(Sign::Colon), 0)),
+        ('?', _) => Some((Token::Sign(Sign::Question), 0)),
+        ('<', _) => Some((Token::Sign(Sign::Op(Op::Less)), 0)),
+        ('>', _) => Some((Token::Sign(Sign::Op(Op::Greater)), 0)),
+        ('+', _) => Some((Token::Sign(Sign::Op(Op::Add)), 0)),
+        ('-', _) => Some((Token::Sign(Sign::Op(Op::Subtract)), 0)),
+        ('*', _) => Some((Token::Sign(Sign::Op(Op::Multiply)), 0)),
+        ('/', _) => Some((Token::Sign(Sign::Op(Op::Divide)), 0)),
+        ('%', _) => Some((Token::Sign(Sign::Op(Op::Modulo)), 0)),
         _ => None,
     }
 }

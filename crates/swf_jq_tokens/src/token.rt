@@ -31,6 +31,9 @@ pub enum Token {
     Sign(Sign),
 }
 
+/// A token, and how many characters it has after its first.
+pub type Found = (Token, usize);
+
 /// A word that is no name.
 #[derive(Clone, Copy, Debug, PartialEq, Eq)]
 pub enum Keyword {

@@ -17,4 +17,7 @@ write-returns-in_ok-push_ascii-in-Apply-clause-text t c =
     let given = trees_of c.in-Apply.arguments.items in
     let whole = sym (ap node_tree c.in-Apply.is) ∙ c.node.ensures.value in
     let named = c.in_ok-push_ascii-in-Apply.ensures ∙ ap (λ l. c.args.out.now.text ++ l) c.name.ensures in
-    on_ok c.write_arguments.result (λ e. apply_last c.in-Apply.builtin given c.args.expr.now c.args.out.now.text c.push_ascii-in-Apply.new.self c.write_arguments.new.out.text whole named (e ∙ ap (λ l. c.push_ascii-in-Apply.new.self ++ arguments_text (trees_of l)) c.deref-in-Apply.ensures.value)) c.write_arguments.ensures.text
+    on_ok c.write_arguments.result
+    (λ e. apply_last c.in-Apply.builtin given c.args.expr.now c.args.out.now.text c.push_ascii-in-Apply.new.self c.write_arguments.new.out.text whole named
+    (e ∙ ap (λ l. c.push_ascii-in-Apply.new.self ++ arguments_text (trees_of l)) c.deref-in-Apply.ensures.value))
+    c.write_arguments.ensures.text

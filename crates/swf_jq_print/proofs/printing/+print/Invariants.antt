@@ -13,23 +13,8 @@ decreases-write_between l = 4 * weight l.expr.now + 1
 abbrev pub decreases-write_operand : goal.decreases-write_operand
 decreases-write_operand l = 4 * weight l.expr.now + 2
 
-abbrev pub decreases-write_around : goal.decreases-write_around
-decreases-write_around l = 4 * weight l.expr.now + 3
-
 abbrev pub decreases-write_both : goal.decreases-write_both
 decreases-write_both l = 4 * (weight l.left.now + weight l.right.now) + 3
-
-abbrev pub decreases-write_index : goal.decreases-write_index
-decreases-write_index l = 4 * (weight l.of.now + weight l.key.now) + 3
-
-abbrev pub decreases-write_if_then : goal.decreases-write_if_then
-decreases-write_if_then l = 4 * (weight l.condition.now + weight l.then.now) + 3
-
-abbrev pub decreases-write_if_else : goal.decreases-write_if_else
-decreases-write_if_else l = 4 * (weight l.condition.now + weight l.then.now + weight l.otherwise.now) + 3
-
-abbrev pub decreases-write_bind : goal.decreases-write_bind
-decreases-write_bind l = 4 * (weight l.of.now + weight l.then.now) + 4
 
 abbrev pub decreases-write_object : goal.decreases-write_object
 decreases-write_object l = 4 * weight_pairs (pairs_of l.members.now) + 4
