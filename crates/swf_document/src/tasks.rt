@@ -19,9 +19,15 @@ use swf_text::Text;
 
 /// A list of named tasks. A copy shares them. Contracts see it as `Tasks` of specs.
 #[cycle(tasks)]
-#[derive(Drop)]
 pub struct Tasks {
     shared: Arc<Vec<Named>>,
+}
+
+impl Drop for Tasks {
+    #[cycle(tasks)]
+    fn drop(self) {
+        let Tasks { shared: _shared } = self;
+    }
 }
 
 /// A task and the name that it has in its list.

@@ -9,9 +9,15 @@ use swf_value::Json;
 
 /// A value that is filled in when a task runs. Contracts see it as a `Template` of specs.
 #[cycle(template)]
-#[derive(Drop)]
 pub struct Template {
     node: Box<TemplateNode>,
+}
+
+impl Drop for Template {
+    #[cycle(template)]
+    fn drop(self) {
+        let Template { node: _node } = self;
+    }
 }
 
 /// One level of a template.

@@ -11,9 +11,15 @@ use swf_value::Json;
 
 /// An expression. Contracts see it as a `Tree`.
 #[cycle(expr)]
-#[derive(Drop)]
 pub struct Expr {
     node: ExprNode,
+}
+
+impl Drop for Expr {
+    #[cycle(expr)]
+    fn drop(self) {
+        let Expr { node: _node } = self;
+    }
 }
 
 /// One level of an expression.
@@ -292,6 +298,7 @@ impl Expr {
         ensures value { node_tree result ≡ self }
         ensures level { IsTreeLevel self }
     {
-        self.node
+        let Expr { node } = self;
+        node
     }
 }

@@ -16,13 +16,23 @@ use swf_text::Text;
 
 /// A JSON value. Contracts see it as a `Value`.
 #[cycle(json)]
-#[derive(Drop)]
 pub struct Json {
     node: JsonNode,
     /// How deep lists and objects nest in it; the greatest number where that is greater still.
     depth: u32,
     /// How large it is; the greatest number where it is larger still.
     size: u32,
+}
+
+impl Drop for Json {
+    #[cycle(json)]
+    fn drop(self) {
+        let Json {
+            node: _node,
+            depth: _,
+            size: _,
+        } = self;
+    }
 }
 
 /// One level of a value.

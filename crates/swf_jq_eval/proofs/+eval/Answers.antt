@@ -61,8 +61,8 @@ pub call::with_argument-returns-in-RangeTo : goal.call::with_argument-returns-in
 call::with_argument-returns-in-RangeTo t c =
     let f = λ (x : Value). run c.args.of.now (names c.args.at.now) x in
     let v = c.args.at.now.input.now in
-    subst (λ s. Goes c.args.out.now s c.each_step-in-RangeTo-2.new.out c.each_step-in-RangeTo-2.result)
-    ((λ i. over (f v) (ranged (c.int.ensures i))) ∙ ap (λ b. with_argument b f v) (sym c.in-RangeTo.is)) c.each_step-in-RangeTo-2.ensures
+    subst (λ s. Goes c.args.out.now s c.each_step-in-RangeTo.new.out c.each_step-in-RangeTo.result)
+    ((λ i. over (f v) (ranged (c.int.ensures i))) ∙ ap (λ b. with_argument b f v) (sym c.in-RangeTo.is)) c.each_step-in-RangeTo.ensures
 
 pub forms::list_of-returns : goal.forms::list_of-returns
 forms::list_of-returns t c = c.gather.ensures c.args.out.now _ c.all.ensures
