@@ -14,17 +14,16 @@ use swf_engine::Engine;
 use swf_host::Host;
 
 // Takes turns until the input ends.
-fn take_turns<H: Host>(alloc: Global, words: &Words, host: &mut H, engine: Engine) -> u8
-    requires place { IsEngineOf (H.seen host.old) engine }
+fn take_turns<H: Host>(alloc: Global, words: &Words, host: &mut H, engine: &mut Engine) -> u8
+    requires place { IsEngineOf (H.seen host.old) engine.old }
     requires words { words.now.steps ≤ 1000000 }
-    ensures ran { RunsOn words.now H.moment H.left_since H.said H.may_leave H.seen H.taken host.old host.new engine result }
-    ensures sound { IsSound H.moment H.left_since H.said H.may_leave H.seen host.old engine → result ≢ 5 }
+    ensures ran { RunsOn words.now H.moment H.left_since H.said H.may_leave H.seen H.taken host.old host.new engine.old result }
+    ensures sound { IsSound H.moment H.left_since H.said H.may_leave H.seen host.old engine.old → result ≢ 5 }
     ensures blamed { IsBlamed result (H.host_faults host.old) (H.host_faults host.new) (H.store_faults host.old) (H.store_faults host.new) }
     ensures which { IsStatus Mode.Session result }
 {
-    let mut engine = engine;
     for _ in 0..u64::MAX {
-        match take_turn(alloc, words, host, &mut engine) {
+        match take_turn(alloc, words, host, engine) {
             After::GoesOn => {}
             After::Ends => return 0,
             After::Stops(status) => return status,
@@ -41,7 +40,10 @@ pub fn run_session<H: Host>(alloc: Global, words: &Words, host: &mut H) -> u8
     ensures which { IsStatus Mode.Session result }
 {
     match Engine::open_on(alloc, host) {
-        Ok(engine) => take_turns(alloc, words, host, engine),
+        Ok(engine) => {
+            let mut engine = engine;
+            take_turns(alloc, words, host, &mut engine)
+        }
         Err(fault) => not_opened(alloc, host, fault),
     }
 }

@@ -58,20 +58,19 @@ fn show_one<H: Host>(alloc: Global, host: &mut H, engine: &mut Engine, id: Text)
 }
 
 // Says the status of each instance.
-fn show_all<H: Host>(alloc: Global, host: &mut H, engine: Engine) -> u8
-    requires place { IsEngineOf (H.seen host.old) engine }
-    ensures shows { ShowsOn H.moment H.left_since H.said H.may_leave H.seen H.taken host.old host.new engine result }
+fn show_all<H: Host>(alloc: Global, host: &mut H, engine: &mut Engine) -> u8
+    requires place { IsEngineOf (H.seen host.old) engine.old }
+    ensures shows { ShowsOn H.moment H.left_since H.said H.may_leave H.seen H.taken host.old host.new engine.old result }
     ensures blamed { IsBlamed result (H.host_faults host.old) (H.host_faults host.new) (H.store_faults host.old) (H.store_faults host.new) }
     ensures which { (result ≡ 0) ⊎ (result ≡ 4) ⊎ (result ≡ 6) }
 {
-    let mut engine = engine;
     for number in 0..u64::MAX {
-        let id = match id_of(&engine, number) {
+        let id = match id_of(engine, number) {
             Ok(Some(id)) => id,
             Ok(None) => return 0,
             Err(_) => return NO_MEMORY,
         };
-        match show_one(alloc, host, &mut engine, id) {
+        match show_one(alloc, host, engine, id) {
             After::GoesOn => {}
             After::Ends => unreachable!(),
             After::Stops(status) => return status,
@@ -88,7 +87,10 @@ pub fn run_show<H: Host>(alloc: Global, host: &mut H) -> u8
     ensures which { IsStatus Mode.Show result }
 {
     match Engine::open_on(alloc, host) {
-        Ok(engine) => show_all(alloc, host, engine),
+        Ok(engine) => {
+            let mut engine = engine;
+            show_all(alloc, host, &mut engine)
+        }
         Err(fault) => not_opened(alloc, host, fault),
     }
 }

@@ -9,7 +9,7 @@ pub loop-init : goal.loop-init
 loop-init g c = record {
   place = search rules;
   so_far = λ start before first told took is stands leaves.
-      begins c.args.words.now g.H.Store.moment g.H.Store.left_since g.H.Store.said g.H.Store.may_leave g.H.Store.seen g.H.Host.taken start c.args.host.now c.args.engine before first told took is stands leaves;
+      begins c.args.words.now g.H.Store.moment g.H.Store.left_since g.H.Store.said g.H.Store.may_leave g.H.Store.seen g.H.Host.taken start c.args.host.now c.args.engine.now before first told took is stands leaves;
   sound = λ s. s;
   host_faults = refl;
   store_faults = refl;

@@ -1,4 +1,4 @@
-use Rattle.std.proofs.Common.{◌≢◌, ⊎_elim, ap, Err, ◌∙◌, arith}
+use Rattle.std.proofs.Common.{◌≢◌, ⊎_elim, inl, inr, ap, Err, ◌∙◌, arith}
 use Rattle.swf_cli.proofs.ShowLemmas.{show_opened, show_closed}
 use Rattle.swf_cli.proofs.ShowLemmas.{shown_blamed}
 use Rattle.swf_cli.proofs.show.run_show.Goals as goal
@@ -14,6 +14,9 @@ returns-in-Ok-clause-runs g c =
     show_opened H.moment H.left_since H.said H.may_leave H.seen g.H.Host.taken g.met.H.Store.only_now old opened c.show_all.new.host c.in-Ok.engine c.show_all.result
     (g.met.H.Host.beside_taken opened old c.open_on.ensures.beside) c.open_on.ensures.said
     (λ image is. c.in-Ok.ensures.opened image is) (λ image is history h. c.open_on.ensures.any_moment image is history h) c.show_all.ensures.shows five three
+
+pub returns-in-Ok-clause-which : goal.returns-in-Ok-clause-which
+returns-in-Ok-clause-which g c = ⊎_elim (λ z. inl z) (λ d. ⊎_elim (λ f. inr (inr (inl f))) (λ s. inr (inr (inr (inr s)))) d) c.show_all.ensures.which
 
 pub returns-in-Ok-clause-blamed : goal.returns-in-Ok-clause-blamed
 returns-in-Ok-clause-blamed g c =
