@@ -22,23 +22,23 @@ abbrev pub node_tree : ExprNode → Tree
 node_tree nodes.Here = here
 node_tree (nodes.Lit v) = lit v
 node_tree (nodes.Var x) = var x
-node_tree (nodes.Index a b) = index a.value b.value
-node_tree (nodes.Iterate a) = iterate a.value
-node_tree (nodes.Maybe a) = maybe a.value
-node_tree (nodes.Pipe a b) = pipe a.value b.value
-node_tree (nodes.Both a b) = both a.value b.value
-node_tree (nodes.Alt a b) = alt a.value b.value
-node_tree (nodes.Or a b) = or a.value b.value
-node_tree (nodes.And a b) = and a.value b.value
-node_tree (nodes.Binary o a b) = binary o a.value b.value
-node_tree (nodes.Neg a) = neg a.value
+node_tree (nodes.Index a b) = index a b
+node_tree (nodes.Iterate a) = iterate a
+node_tree (nodes.Maybe a) = maybe a
+node_tree (nodes.Pipe a b) = pipe a b
+node_tree (nodes.Both a b) = both a b
+node_tree (nodes.Alt a b) = alt a b
+node_tree (nodes.Or a b) = or a b
+node_tree (nodes.And a b) = and a b
+node_tree (nodes.Binary o a b) = binary o a b
+node_tree (nodes.Neg a) = neg a
 node_tree (nodes.List None) = empty_list
-node_tree (nodes.List (Some a)) = list_of a.value
+node_tree (nodes.List (Some a)) = list_of a
 node_tree (nodes.Object v) = object_of (pairs_of v.items)
 node_tree (nodes.Constant c) = object_of c
-node_tree (nodes.If c a None) = if_then c.value a.value
-node_tree (nodes.If c a (Some b)) = if_else c.value a.value b.value
-node_tree (nodes.Bind a x b) = bind a.value x b.value
+node_tree (nodes.If c a None) = if_then c a
+node_tree (nodes.If c a (Some b)) = if_else c a b
+node_tree (nodes.Bind a x b) = bind a x b
 node_tree (nodes.Apply f v) = apply f (trees_of v.items)
 
 -- a number that is greater than that of each tree inside

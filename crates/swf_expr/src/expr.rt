@@ -12,7 +12,7 @@ use swf_value::Json;
 /// An expression. Contracts see it as a `Tree`.
 #[cycle(expr)]
 pub struct Expr {
-    node: ExprNode,
+    node: Box<ExprNode>,
 }
 
 impl Drop for Expr {
@@ -32,22 +32,22 @@ pub enum ExprNode {
     Lit(Json),
     /// The value of a name.
     Var(Name),
-    Index(Box<Expr>, Box<Expr>),
-    Iterate(Box<Expr>),
-    Maybe(Box<Expr>),
-    Pipe(Box<Expr>, Box<Expr>),
-    Both(Box<Expr>, Box<Expr>),
-    Alt(Box<Expr>, Box<Expr>),
-    Or(Box<Expr>, Box<Expr>),
-    And(Box<Expr>, Box<Expr>),
-    Binary(Op, Box<Expr>, Box<Expr>),
-    Neg(Box<Expr>),
-    List(Option<Box<Expr>>),
+    Index(Expr, Expr),
+    Iterate(Expr),
+    Maybe(Expr),
+    Pipe(Expr, Expr),
+    Both(Expr, Expr),
+    Alt(Expr, Expr),
+    Or(Expr, Expr),
+    And(Expr, Expr),
+    Binary(Op, Expr, Expr),
+    Neg(Expr),
+    List(Option<Expr>),
     Object(Vec<ExprMember>),
     /// An object whose keys and values are literals.
     Constant(ConstantObject),
-    If(Box<Expr>, Box<Expr>, Option<Box<Expr>>),
-    Bind(Box<Expr>, Name, Box<Expr>),
+    If(Expr, Expr, Option<Expr>),
+    Bind(Expr, Name, Expr),
     /// A built-in, with as many arguments as it has.
     Apply(Builtin, Vec<Expr>),
 }
@@ -71,15 +71,15 @@ impl Model for Expr {
     ghost use Rattle.swf_expr.specs.Expr.{IsTreeLevel};
     ghost use Rattle.swf_expr.specs.ExprNode.{node_tree, weight};
 
-    ghost view = { λ e. node_tree e.node };
+    ghost view = { λ e. node_tree e.node.value };
 
-    ghost invariant = { λ e. IsTreeLevel (node_tree e.node) };
+    ghost invariant = { λ e. IsTreeLevel (node_tree e.node.value) };
 
     ghost size = { weight };
 
     ghost use Rattle.swf_expr.specs.ExprFalls.{falls};
 
-    ghost size_decreases = { λ a h. falls a.node };
+    ghost size_decreases = { λ a h. falls a.node.value };
 }
 
 impl Expr {
@@ -88,166 +88,122 @@ impl Expr {
     ghost use Rattle.swf_expr.specs.Builtin.{arity};
     ghost use Rattle.swf_expr.specs.ExprNode.{node_tree, trees_of, pairs_of};
 
-    /// The input.
-    pub fn here() -> Expr
-        ensures { result ≡ here }
+    // The expression of this level.
+    fn of(alloc: Global, node: ExprNode) -> Result<Expr, AllocError>
+        requires { IsTreeLevel (node_tree node) }
+        ensures { IfOk result (λ e. e ≡ node_tree node) }
     {
-        Expr {
-            node: ExprNode::Here,
-        }
+        let node = Box::new(alloc, node)?;
+        Ok(Expr { node })
+    }
+
+    /// The input.
+    pub fn here(alloc: Global) -> Result<Expr, AllocError>
+        ensures { IfOk result (λ e. e ≡ here) }
+    {
+        Expr::of(alloc, ExprNode::Here)
     }
 
     /// Null, a Boolean, a number of at least 0 or a text.
-    pub fn lit(value: Json) -> Expr
+    pub fn lit(alloc: Global, value: Json) -> Result<Expr, AllocError>
         requires { is_literal value ≡ true }
-        ensures { result ≡ lit value }
+        ensures { IfOk result (λ e. e ≡ lit value) }
     {
-        Expr {
-            node: ExprNode::Lit(value),
-        }
+        Expr::of(alloc, ExprNode::Lit(value))
     }
 
-    pub fn var(name: Name) -> Expr
-        ensures { result ≡ var name }
+    pub fn var(alloc: Global, name: Name) -> Result<Expr, AllocError>
+        ensures { IfOk result (λ e. e ≡ var name) }
     {
-        Expr {
-            node: ExprNode::Var(name),
-        }
+        Expr::of(alloc, ExprNode::Var(name))
     }
 
     pub fn index(alloc: Global, of: Expr, key: Expr) -> Result<Expr, AllocError>
         ensures { IfOk result (λ e. e ≡ index of key) }
     {
-        let of = Box::new(alloc, of)?;
-        let key = Box::new(alloc, key)?;
-        Ok(Expr {
-            node: ExprNode::Index(of, key),
-        })
+        Expr::of(alloc, ExprNode::Index(of, key))
     }
 
     pub fn iterate(alloc: Global, of: Expr) -> Result<Expr, AllocError>
         ensures { IfOk result (λ e. e ≡ iterate of) }
     {
-        let of = Box::new(alloc, of)?;
-        Ok(Expr {
-            node: ExprNode::Iterate(of),
-        })
+        Expr::of(alloc, ExprNode::Iterate(of))
     }
 
     pub fn maybe(alloc: Global, of: Expr) -> Result<Expr, AllocError>
         ensures { IfOk result (λ e. e ≡ maybe of) }
     {
-        let of = Box::new(alloc, of)?;
-        Ok(Expr {
-            node: ExprNode::Maybe(of),
-        })
+        Expr::of(alloc, ExprNode::Maybe(of))
     }
 
     pub fn pipe(alloc: Global, left: Expr, right: Expr) -> Result<Expr, AllocError>
         ensures { IfOk result (λ e. e ≡ pipe left right) }
     {
-        let left = Box::new(alloc, left)?;
-        let right = Box::new(alloc, right)?;
-        Ok(Expr {
-            node: ExprNode::Pipe(left, right),
-        })
+        Expr::of(alloc, ExprNode::Pipe(left, right))
     }
 
     pub fn both(alloc: Global, left: Expr, right: Expr) -> Result<Expr, AllocError>
         ensures { IfOk result (λ e. e ≡ both left right) }
     {
-        let left = Box::new(alloc, left)?;
-        let right = Box::new(alloc, right)?;
-        Ok(Expr {
-            node: ExprNode::Both(left, right),
-        })
+        Expr::of(alloc, ExprNode::Both(left, right))
     }
 
     pub fn alt(alloc: Global, left: Expr, right: Expr) -> Result<Expr, AllocError>
         ensures { IfOk result (λ e. e ≡ alt left right) }
     {
-        let left = Box::new(alloc, left)?;
-        let right = Box::new(alloc, right)?;
-        Ok(Expr {
-            node: ExprNode::Alt(left, right),
-        })
+        Expr::of(alloc, ExprNode::Alt(left, right))
     }
 
     pub fn or(alloc: Global, left: Expr, right: Expr) -> Result<Expr, AllocError>
         ensures { IfOk result (λ e. e ≡ or left right) }
     {
-        let left = Box::new(alloc, left)?;
-        let right = Box::new(alloc, right)?;
-        Ok(Expr {
-            node: ExprNode::Or(left, right),
-        })
+        Expr::of(alloc, ExprNode::Or(left, right))
     }
 
     pub fn and(alloc: Global, left: Expr, right: Expr) -> Result<Expr, AllocError>
         ensures { IfOk result (λ e. e ≡ and left right) }
     {
-        let left = Box::new(alloc, left)?;
-        let right = Box::new(alloc, right)?;
-        Ok(Expr {
-            node: ExprNode::And(left, right),
-        })
+        Expr::of(alloc, ExprNode::And(left, right))
     }
 
     pub fn binary(alloc: Global, op: Op, left: Expr, right: Expr) -> Result<Expr, AllocError>
         ensures { IfOk result (λ e. e ≡ binary op left right) }
     {
-        let left = Box::new(alloc, left)?;
-        let right = Box::new(alloc, right)?;
-        Ok(Expr {
-            node: ExprNode::Binary(op, left, right),
-        })
+        Expr::of(alloc, ExprNode::Binary(op, left, right))
     }
 
     pub fn neg(alloc: Global, of: Expr) -> Result<Expr, AllocError>
         ensures { IfOk result (λ e. e ≡ neg of) }
     {
-        let of = Box::new(alloc, of)?;
-        Ok(Expr {
-            node: ExprNode::Neg(of),
-        })
+        Expr::of(alloc, ExprNode::Neg(of))
     }
 
-    pub fn empty_list() -> Expr
-        ensures { result ≡ empty_list }
+    pub fn empty_list(alloc: Global) -> Result<Expr, AllocError>
+        ensures { IfOk result (λ e. e ≡ empty_list) }
     {
-        Expr {
-            node: ExprNode::List(None),
-        }
+        Expr::of(alloc, ExprNode::List(None))
     }
 
     pub fn list_of(alloc: Global, of: Expr) -> Result<Expr, AllocError>
         ensures { IfOk result (λ e. e ≡ list_of of) }
     {
-        let of = Box::new(alloc, of)?;
-        Ok(Expr {
-            node: ExprNode::List(Some(of)),
-        })
+        Expr::of(alloc, ExprNode::List(Some(of)))
     }
 
-    /// An object. Where its keys and values are literals, it keeps the object that they make, unless no memory is found.
-    pub fn object_of(alloc: Global, members: Vec<ExprMember>) -> Expr
-        ensures { result ≡ object_of (pairs_of members.items) }
+    /// An object. Where its keys and values are literals, it keeps the object that they make, unless no memory is found for that.
+    pub fn object_of(alloc: Global, members: Vec<ExprMember>) -> Result<Expr, AllocError>
+        ensures { IfOk result (λ e. e ≡ object_of (pairs_of members.items)) }
     {
-        let node = match ConstantObject::of(alloc, members) {
-            Ok(constant) => ExprNode::Constant(constant),
-            Err(members) => ExprNode::Object(members),
-        };
-        Expr { node }
+        match ConstantObject::of(alloc, members) {
+            Ok(constant) => Expr::of(alloc, ExprNode::Constant(constant)),
+            Err(members) => Expr::of(alloc, ExprNode::Object(members)),
+        }
     }
 
     pub fn if_then(alloc: Global, condition: Expr, then: Expr) -> Result<Expr, AllocError>
         ensures { IfOk result (λ e. e ≡ if_then condition then) }
     {
-        let condition = Box::new(alloc, condition)?;
-        let then = Box::new(alloc, then)?;
-        Ok(Expr {
-            node: ExprNode::If(condition, then, None),
-        })
+        Expr::of(alloc, ExprNode::If(condition, then, None))
     }
 
     pub fn if_else(
@@ -258,31 +214,20 @@ impl Expr {
     ) -> Result<Expr, AllocError>
         ensures { IfOk result (λ e. e ≡ if_else condition then otherwise) }
     {
-        let condition = Box::new(alloc, condition)?;
-        let then = Box::new(alloc, then)?;
-        let otherwise = Box::new(alloc, otherwise)?;
-        Ok(Expr {
-            node: ExprNode::If(condition, then, Some(otherwise)),
-        })
+        Expr::of(alloc, ExprNode::If(condition, then, Some(otherwise)))
     }
 
     pub fn bind(alloc: Global, of: Expr, name: Name, then: Expr) -> Result<Expr, AllocError>
         ensures { IfOk result (λ e. e ≡ bind of name then) }
     {
-        let of = Box::new(alloc, of)?;
-        let then = Box::new(alloc, then)?;
-        Ok(Expr {
-            node: ExprNode::Bind(of, name, then),
-        })
+        Expr::of(alloc, ExprNode::Bind(of, name, then))
     }
 
-    pub fn apply(builtin: Builtin, arguments: Vec<Expr>) -> Expr
+    pub fn apply(alloc: Global, builtin: Builtin, arguments: Vec<Expr>) -> Result<Expr, AllocError>
         requires { length arguments.items ≡ arity builtin }
-        ensures { result ≡ apply builtin (trees_of arguments.items) }
+        ensures { IfOk result (λ e. e ≡ apply builtin (trees_of arguments.items)) }
     {
-        Expr {
-            node: ExprNode::Apply(builtin, arguments),
-        }
+        Expr::of(alloc, ExprNode::Apply(builtin, arguments))
     }
 
     /// The level at the top.
@@ -291,14 +236,5 @@ impl Expr {
         ensures level { IsTreeLevel self.now }
     {
         &self.node
-    }
-
-    /// The level at the top, taken out. It takes no memory.
-    pub fn into_node(self) -> ExprNode
-        ensures value { node_tree result ≡ self }
-        ensures level { IsTreeLevel self }
-    {
-        let Expr { node } = self;
-        node
     }
 }

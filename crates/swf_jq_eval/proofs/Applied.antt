@@ -1,14 +1,13 @@
 -- What applications of built-ins take.
-use Rattle.std.proofs.Common.{◌≡◌, ◌∙◌, ◌⊎◌, inl, inr, ◌-◌, ◌≤◌, ◌++◌, ◌∷◌, [], List, ℕ, zero, suc, length, map, refl, sym, ap, arith, Bool, true, false, cond, if◌then◌else◌, Result, Ok, Err}
-use Rattle.std.specs.Prelude.{zip, nat_le, Option, Some, None, option_map}
+use Rattle.std.proofs.Common.{◌≡◌, ◌-◌, ◌≤◌, ◌++◌, ◌∷◌, [], List, ℕ, zero, suc, length, refl, sym, ap, arith, Bool, true, false, if◌then◌else◌, Result, Ok, Err}
+use Rattle.std.specs.Prelude.{nat_le, Option, Some, None, option_map}
 use Rattle.std.specs.List.{join_by}
 use Rattle.swf_value.specs.Size.{size}
 use Rattle.swf_value.specs.Node.{items_of}
-use Rattle.swf_value.specs.Order.{value_cmp}
-use Rattle.swf_value.specs.Value.{Value, null, boolean, int, text, list, object, depth_items}
+use Rattle.swf_value.specs.Value.{Value, int, text, list, object, depth_items}
 use Rattle.swf_expr.specs.declared.builtin.Builtin.{Builtin}
 use Rattle.swf_expr.specs.declared.builtin.Builtin.TheVariants as builtins
-use Rattle.swf_jq_builtins.specs.Builtins.{with_one, has, join, split, text_begins, text_ends, text_or, cannot, pieces_of, range_of, characters, split_from, parts_between, begins_with, inserted, sorted}
+use Rattle.swf_jq_builtins.specs.Builtins.{with_one, has, join, split, text_begins, text_ends, text_or, cannot, pieces_of, range_of, characters, split_from, parts_between, begins_with}
 use Rattle.swf_value.specs.Members.{values_of}
 use Rattle.swf_jq_builtins.specs.Outcome.{answer_size, count_of}
 use Rattle.swf_jq_eval.specs.Outputs.{ranged}

@@ -1,5 +1,6 @@
 -- Built-ins by their number of arguments.
-use Rattle.std.proofs.Common.{◌≡◌, ◌∙◌, ◌<◌, ◌+◌, ℕ, Bool, true, zero, if◌then◌else◌, List, [], ◌∷◌, length, get_or, drop, suc, refl, sym, ap, arith, Ok, Option, Some, None, Result, subst}
+use mathlib.Core.Bool.{beq}
+use Rattle.std.proofs.Common.{◌≡◌, ◌∙◌, ◌<◌, ◌+◌, ℕ, Bool, true, false, zero, if◌then◌else◌, List, [], ◌∷◌, length, get_or, drop, suc, refl, sym, ap, arith, Ok, Some, None, Result, subst}
 use Rattle.swf_expr.specs.declared.builtin.Builtin.{Builtin}
 use Rattle.swf_expr.specs.declared.builtin.Builtin.TheVariants as builtins
 use Rattle.swf_expr.specs.Expr.{Tree}
@@ -8,11 +9,11 @@ use Rattle.swf_expr.specs.declared.expr.ExprNode.TheVariants as nodes
 use Rattle.std.specs.Option.{option_map_or}
 use Rattle.swf_expr.specs.declared.expr.ExprMember.{ExprMember}
 use Rattle.swf_value.specs.Node.{items_of}
-use Rattle.swf_value.specs.Value.{Value, Items, boolean, list}
+use Rattle.swf_value.specs.Value.{Value, boolean, list}
 use Rattle.swf_expr.specs.Expr.{pair}
 use Rattle.swf_jq_builtins.proofs.Lists.{values_of_items_of}
 use Rattle.swf_jq_builtins.specs.Builtins.{plain, with_one}
-use Rattle.swf_jq_eval.specs.Run.{Ending, Run, gives, made, made_of, over, across, each, spread, spend, clean, gave, same_truth, until, decided, ended}
+use Rattle.swf_jq_eval.specs.Run.{Ending, Run, gives, made, made_of, over, across, each, clean, gave, same_truth, until, decided, decides, ended}
 use Rattle.swf_jq_eval.specs.Goes.{ahead, Comes, Goes, ending_of}
 use Rattle.swf_jq_eval.specs.declared.outputs.Ending.{Ending as Ends}
 use Rattle.swf_jq_eval.specs.declared.outputs.Stop.{Stop}
@@ -76,15 +77,22 @@ until_found want f (y ∷ xs) (suc i) x mid new o l q h b = until_found want f x
 
 -- a second expression, or the input where there is none
 pub choose_is : (c a : _) (o : _) (r : Scope) (v : Value)
-    → over (run c.value r v) (λ x. if is_true x then run a.value r v else option_map_or (λ e. run e.value r v) o (gives v)) ≡ node (node_tree (nodes.If c a o)) r v
+    → over (run c r v) (λ x. if is_true x then run a r v else option_map_or (λ e. run e r v) o (gives v)) ≡ node (node_tree (nodes.If c a o)) r v
 choose_is c a None r v = refl
 choose_is c a (Some b) r v = refl
 
-pub choose_goes : (old new : Out) (g : Result Ends Stop) (n : ExprNode) (c a : _) (o : _) (d e : Tree) (r : Scope) (v : Value) → n ≡ nodes.If c a o → d ≡ c.value → e ≡ a.value
-    → Goes old (over (run d r v) (λ x. if is_true x then run e r v else option_map_or (λ e. run e.value r v) o (gives v))) new g → Goes old (node (node_tree n) r v) new g
+-- where a Boolean is not as wanted, it is what the second gives
+pub other_truth : (b : Bool) (y : Value) (t : Bool) (s : Run) → is_true y ≡ t → beq t b ≡ false → decides b y s ≡ s
+other_truth true y true s i h = absurd (cc)
+other_truth true y false s i h = ap (λ t. if t then made (boolean true) else s) i
+other_truth false y true s i h = ap (λ t. if t then s else made (boolean false)) i
+other_truth false y false s i h = absurd (cc)
+
+pub choose_goes : (old new : Out) (g : Result Ends Stop) (n : ExprNode) (c a : _) (o : _) (d e : Tree) (r : Scope) (v : Value) → n ≡ nodes.If c a o → d ≡ c → e ≡ a
+    → Goes old (over (run d r v) (λ x. if is_true x then run e r v else option_map_or (λ e. run e r v) o (gives v))) new g → Goes old (node (node_tree n) r v) new g
 choose_goes old new g n c a o d e r v is p q h =
     subst (λ s. Goes old s new g)
-    ((λ i. over (run (p i) r v) (λ x. if is_true x then run (q i) r v else option_map_or (λ e. run e.value r v) o (gives v))) ∙ choose_is c a o r v ∙ sym (ap (λ m. node (node_tree m) r v) is)) h
+    ((λ i. over (run (p i) r v) (λ x. if is_true x then run (q i) r v else option_map_or (λ e. run e r v) o (gives v))) ∙ choose_is c a o r v ∙ sym (ap (λ m. node (node_tree m) r v) is)) h
 
 pub objects_goes : (old new : Out) (g : Result Ends Stop) (ms : List ExprMember) (m : ExprMember) (o : Value) (r : Scope) (v : Value) → 0 < length ms → m ≡ get_or ms 0 m
     → Goes old (objects (pair m.key (value_or_here m.key m.value) (pairs_of (drop 1 ms))) o r v) new g → Goes old (objects (pairs_of ms) o r v) new g

@@ -7,7 +7,7 @@ use Rattle.swf_jq_eval.specs.declared.outputs.Stop.TheVariants as stops
 use Rattle.swf_jq_eval.specs.declared.outputs.Out.{Out}
 use Rattle.swf_jq_eval.specs.declared.outputs.Outputs.{Outputs}
 use Rattle.swf_jq_eval.specs.Run.{Ending, clean, raised, Run, gave, gives, spend, turn, after, followed_by, each, over}
-use Rattle.swf_value.specs.Value.{Value, null}
+use Rattle.swf_value.specs.Value.{Value}
 use Rattle.swf_jq_eval.specs.Goes.{ending_of, limit, ahead, Goes, Comes}
 
 -- a run that ended clean goes on with the next

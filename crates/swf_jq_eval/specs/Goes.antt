@@ -1,8 +1,5 @@
 -- What a part of an evaluation has done to its outputs and to its turns.
-use Rattle.std.specs.Prelude.{◌≡◌, ◌+◌, ◌<◌, ◌≤◌, ℕ, List, [], ◌∷◌, map, reverse, Result, Ok, Err}
-use Rattle.swf_value.specs.Members.{put}
-use Rattle.swf_value.specs.Value.{Value, Members, no_members}
-use Rattle.swf_jq_eval.specs.declared.vars.Variable.{Variable}
+use Rattle.std.specs.Prelude.{◌≡◌, ◌+◌, ◌<◌, ◌≤◌, ℕ, [], Result, Ok, Err}
 use Rattle.swf_jq_eval.specs.declared.outputs.Ending.{Ending as Ends}
 use Rattle.swf_jq_eval.specs.declared.outputs.Ending.TheVariants as endings
 use Rattle.swf_jq_eval.specs.declared.outputs.Stop.{Stop}

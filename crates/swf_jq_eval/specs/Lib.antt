@@ -4,5 +4,6 @@ pub mod VariableCode
 pub mod Goes
 pub mod Names
 pub mod Steps
+pub mod Inner
 pub mod Chosen
 pub mod Evaluate

@@ -1,8 +1,6 @@
 -- The names that stand where an expression is evaluated.
-use Rattle.std.specs.Prelude.{List, [], ◌∷◌, map, reverse}
+use Rattle.std.specs.Prelude.{List, ◌∷◌, map, reverse}
 use Rattle.swf_expr.specs.Expr.{Tree}
-use Rattle.swf_value.specs.Members.{put}
-use Rattle.swf_value.specs.Value.{Members, no_members}
 use Rattle.swf_jq_eval.specs.declared.vars.Variable.{Variable}
 use Rattle.swf_jq_eval.specs.declared.scope.Scope.{Scope as Names}
 use Rattle.swf_jq_eval.specs.declared.scope.Scope.TheVariants.{Given, Bind'}

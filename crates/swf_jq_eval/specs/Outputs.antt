@@ -1,5 +1,5 @@
 -- What an expression gives for an input (jq 1.7 manual, from «Basic filters» on).
-use Rattle.std.specs.Prelude.{ℕ, pos, List, [], ◌∷◌, true, false, length, map, zip, codes, if◌then◌else◌, Result, Ok, Err}
+use Rattle.std.specs.Prelude.{ℕ, pos, List, [], ◌∷◌, true, false, length, codes, if◌then◌else◌, Result, Ok, Err}
 use Rattle.swf_expr.specs.declared.builtin.Builtin.{Builtin}
 use Rattle.swf_expr.specs.declared.builtin.Builtin.TheVariants as builtins
 use Rattle.swf_expr.specs.Expr.{Tree, here, lit, var, index, iterate, maybe, pipe, both, alt, or, and, binary, neg, empty_list, list_of, object_of, if_then, if_else, bind, apply, Trees, no_trees, tree, Pairs, no_pairs, pair}

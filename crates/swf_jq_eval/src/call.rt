@@ -5,12 +5,13 @@ ghost use Rattle.swf_jq_builtins.specs.Builtins.{plain};
 ghost use Rattle.swf_jq_builtins.specs.Operations.{parts_of};
 ghost use Rattle.swf_jq_builtins.specs.Outcome.{several_of};
 ghost use Rattle.swf_jq_eval.specs.Run.{made, list_with, spread, over, firsts, gathered, across, until};
-ghost use Rattle.swf_jq_eval.specs.Outputs.{run, runs, applied, alone, with_argument, array_of, ranged, parts_of_made, rebuilt, rebuilt_from, sorted_by};
+ghost use Rattle.swf_jq_eval.specs.Outputs.{run, runs, applied, alone, with_argument, array_of, parts_of_made, rebuilt, rebuilt_from, sorted_by};
 ghost use Rattle.swf_jq_eval.specs.Names.{names, run_at};
 ghost use Rattle.swf_jq_eval.specs.Goes.{Goes, Comes};
 
 use crate::forms::{all, gather};
-use crate::outputs::{Ending, Out, Outputs, Stop, make, make_of, over, raise};
+use crate::inner::{Inner, each_inner};
+use crate::outputs::{Ending, Out, Outputs, Stop, make, make_of, raise};
 use crate::scope::Context;
 use crate::search::{each_of, sorted, until};
 use crate::steps::{Step, each_step};
@@ -35,7 +36,7 @@ pub fn call(
     match arguments {
         [] => alone(builtin, at, out),
         [of] => with_argument(builtin, of, at, out),
-        [from, to, ..] => ranges(from, to, at, out),
+        [from, to, ..] => each_inner(from, Inner::RangeTo(to), at, out),
     }
 }
 
@@ -169,21 +170,6 @@ fn sort_by(of: &Expr, at: &Context<'_>, out: &mut Out) -> Result<Ending, Stop>
         JsonNode::List(items) => sorted(items.as_slice(), of, at, out),
         _ => raise(at.alloc, "cannot sort_by", out),
     }
-}
-
-/// The numbers from each output of the first to below each of the second.
-#[cycle(eval)]
-#[inline(never)]
-fn ranges(from: &Expr, to: &Expr, at: &Context<'_>, out: &mut Out) -> Result<Ending, Stop>
-    ensures { Goes out.old (over (run_at from.now at.now) (λ x. over (run_at to.now at.now) (λ y. ranged x y))) out.new result }
-{
-    over(
-        all(from, at, out),
-        out,
-        |x, out|
-            ensures { Goes out.old (over (run_at to.entry.now at.entry.now) (λ y. ranged x.now y)) out.new result }
-        { each_step(to, Step::RangeFrom(x), at, out) },
-    )
 }
 
 /// The first output, which is made.

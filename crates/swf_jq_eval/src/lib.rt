@@ -4,6 +4,7 @@
 mod answer;
 mod call;
 mod forms;
+mod inner;
 mod object;
 mod outputs;
 mod scope;

@@ -111,9 +111,13 @@ pub fn dotted(stack: &mut Stack, of: Expr, alone: bool, at: usize, token: Token)
 {
     let alloc = *stack.allocator();
     match token {
-        Token::Text(text) => Ok(Mode::Have(Expr::index(alloc, of, text_expr(text))?)),
+        Token::Text(text) => {
+            let key = text_expr(alloc, text)?;
+            Ok(Mode::Have(Expr::index(alloc, of, key)?))
+        }
         Token::TextOpen(text) => {
-            begin(stack, Opening::Text(Purpose::Index(of), first_piece(text)))
+            let first = first_piece(alloc, text)?;
+            begin(stack, Opening::Text(Purpose::Index(of), first))
         }
         token if alone => have(stack, of, at, token),
         Token::Sign(Sign::LeftBracket) => open(stack, Item::Open(Opening::Index(of)), Mode::First),

@@ -28,7 +28,7 @@ pub fn object(alloc: Global, members: Members) -> Result<Expr, AllocError>
     ensures { IfOk result (λ e. e ≡ object_of (pairs_of members)) }
 {
     let members = members.into_iter().collect(alloc)?;
-    Ok(Expr::object_of(alloc, members))
+    Expr::object_of(alloc, members)
 }
 
 /// A member after these, or the end where there is none yet.
@@ -38,21 +38,23 @@ pub fn member(stack: &mut Stack, members: Members, first: bool, at: usize, token
 {
     let alloc = *stack.allocator();
     match token {
-        Token::Name(name) => Ok(Mode::AfterKey(members, text_expr(name.into_text()), true)),
-        Token::Keyword(keyword) => {
-            let word = Text::copy_of(alloc, keyword.word())?;
-            Ok(Mode::AfterKey(members, text_expr(word), false))
+        Token::Name(name) => {
+            let key = text_expr(alloc, name.into_text())?;
+            Ok(Mode::AfterKey(members, key, true))
         }
-        Token::Text(text) => Ok(Mode::AfterKey(members, text_expr(text), true)),
+        Token::Keyword(keyword) => {
+            let key = text_expr(alloc, Text::copy_of(alloc, keyword.word())?)?;
+            Ok(Mode::AfterKey(members, key, false))
+        }
+        Token::Text(text) => Ok(Mode::AfterKey(members, text_expr(alloc, text)?, true)),
         Token::TextOpen(text) => {
-            begin(
-                stack,
-                Opening::Text(Purpose::Key(members), first_piece(text)),
-            )
+            let first = first_piece(alloc, text)?;
+            begin(stack, Opening::Text(Purpose::Key(members), first))
         }
         Token::Var(name) => {
-            let key = text_expr(name.text().copy()?);
-            Ok(Mode::MemberEnd(with_value(members, key, Expr::var(name))?))
+            let key = text_expr(alloc, name.text().copy()?)?;
+            let value = Expr::var(alloc, name)?;
+            Ok(Mode::MemberEnd(with_value(members, key, value)?))
         }
         Token::Sign(Sign::LeftParen) => begin(stack, Opening::Key(members)),
         Token::Sign(Sign::RightBrace) if first => Ok(Mode::Have(object(alloc, members)?)),

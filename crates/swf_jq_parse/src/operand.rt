@@ -21,15 +21,19 @@ use swf_value::Json;
 pub fn want(stack: &mut Stack, at: usize, token: Token) -> Next
     ensures { Gives (λ m. (stack.new, m)) result (want stack.old at token) }
 {
+    let alloc = *stack.allocator();
     match token {
-        Token::Dot => Ok(Mode::Dotted(Expr::here(), true)),
-        Token::Field(name) => Ok(Mode::Have(field(*stack.allocator(), Expr::here(), name)?)),
-        Token::Var(name) => Ok(Mode::Have(Expr::var(name))),
+        Token::Dot => Ok(Mode::Dotted(Expr::here(alloc)?, true)),
+        Token::Field(name) => Ok(Mode::Have(field(alloc, Expr::here(alloc)?, name)?)),
+        Token::Var(name) => Ok(Mode::Have(Expr::var(alloc, name)?)),
         Token::Name(name) => want_name(name, at),
         Token::Keyword(keyword) => want_keyword(stack, at, keyword),
-        Token::Number(number) => Ok(Mode::Have(number.into_expr())),
-        Token::Text(text) => Ok(Mode::Have(text_expr(text))),
-        Token::TextOpen(text) => begin(stack, Opening::Text(Purpose::Operand, first_piece(text))),
+        Token::Number(number) => Ok(Mode::Have(number.into_expr(alloc)?)),
+        Token::Text(text) => Ok(Mode::Have(text_expr(alloc, text)?)),
+        Token::TextOpen(text) => {
+            let first = first_piece(alloc, text)?;
+            begin(stack, Opening::Text(Purpose::Operand, first))
+        }
         Token::Sign(sign) => want_sign(stack, at, sign),
         other => refuse_token(other, at),
     }
@@ -39,7 +43,8 @@ pub fn want(stack: &mut Stack, at: usize, token: Token) -> Next
 pub fn field(alloc: Global, of: Expr, name: Text) -> Result<Expr, AllocError>
     ensures { IfOk result (λ e. e ≡ index of (lit (text_value name))) }
 {
-    Expr::index(alloc, of, text_expr(name))
+    let name = text_expr(alloc, name)?;
+    Expr::index(alloc, of, name)
 }
 
 /// Whether some built-in has this name.
@@ -69,10 +74,11 @@ fn want_name(name: Name, at: usize) -> Next
 fn want_keyword(stack: &mut Stack, at: usize, keyword: Keyword) -> Next
     ensures { Gives (λ m. (stack.new, m)) result (want_keyword stack.old at keyword) }
 {
+    let alloc = *stack.allocator();
     match keyword {
-        Keyword::Null => Ok(Mode::Have(Expr::lit(Json::null()))),
-        Keyword::True => Ok(Mode::Have(Expr::lit(Json::boolean(true)))),
-        Keyword::False => Ok(Mode::Have(Expr::lit(Json::boolean(false)))),
+        Keyword::Null => Ok(Mode::Have(Expr::lit(alloc, Json::null())?)),
+        Keyword::True => Ok(Mode::Have(Expr::lit(alloc, Json::boolean(true))?)),
+        Keyword::False => Ok(Mode::Have(Expr::lit(alloc, Json::boolean(false))?)),
         Keyword::If => begin(stack, Opening::If),
         other => refuse(other, at),
     }
@@ -96,12 +102,11 @@ fn want_sign(stack: &mut Stack, at: usize, sign: Sign) -> Next
 pub fn first(stack: &mut Stack, at: usize, token: Token) -> Next
     ensures { Gives (λ m. (stack.new, m)) result (first stack.old at token) }
 {
+    let alloc = *stack.allocator();
     match token {
         Token::Sign(Sign::RightBracket) => match stack.pop_front() {
-            Some(Item::Open(Opening::List)) => Ok(Mode::Have(Expr::empty_list())),
-            Some(Item::Open(Opening::Index(of))) => {
-                Ok(Mode::Have(Expr::iterate(*stack.allocator(), of)?))
-            }
+            Some(Item::Open(Opening::List)) => Ok(Mode::Have(Expr::empty_list(alloc)?)),
+            Some(Item::Open(Opening::Index(of))) => Ok(Mode::Have(Expr::iterate(alloc, of)?)),
             other => refuse(other, at),
         },
         token => want(stack, at, token),
@@ -119,7 +124,10 @@ pub fn apply_to(
     ensures { Gives (λ e. e) result (applied name.now at arguments) }
 {
     match Builtin::find(name.text().as_str(), arguments.len()) {
-        Some(builtin) => Ok(Expr::apply(builtin, arguments.into_iter().collect(alloc)?)),
+        Some(builtin) => {
+            let arguments = arguments.into_iter().collect(alloc)?;
+            Ok(Expr::apply(alloc, builtin, arguments)?)
+        }
         None => Err(ParseFault::UnknownName { at }),
     }
 }

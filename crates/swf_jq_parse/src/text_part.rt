@@ -9,22 +9,22 @@ use swf_expr::{Builtin, Expr, Op};
 use swf_text::Text;
 use swf_value::Json;
 
-/// The expression that gives a text. It takes no memory.
-pub fn text_expr(text: Text) -> Expr
-    ensures { result ≡ lit (text_value text) }
+/// The expression that gives a text.
+pub fn text_expr(alloc: Global, text: Text) -> Result<Expr, AllocError>
+    ensures { IfOk result (λ e. e ≡ lit (text_value text)) }
 {
-    Expr::lit(Json::text(text))
+    Expr::lit(alloc, Json::text(text))
 }
 
 /// The first piece, where it is not empty.
 #[tactic(auto, unfolding(crate::specs::Parts::first_text))]
-pub fn first_piece(text: Text) -> Option<Expr>
-    ensures { result ≡ first_text text }
+pub fn first_piece(alloc: Global, text: Text) -> Result<Option<Expr>, AllocError>
+    ensures { IfOk result (λ o. o ≡ first_text text) }
 {
     if text.as_str().is_empty() {
-        None
+        Ok(None)
     } else {
-        Some(text_expr(text))
+        Ok(Some(text_expr(alloc, text)?))
     }
 }
 
@@ -48,10 +48,10 @@ pub fn text_sum(
 ) -> Result<Expr, AllocError>
     ensures { IfOk result (λ e. e ≡ text_sum sum inner text) }
 {
-    let to_string = Expr::apply(Builtin::ToString, Vec::new(alloc));
+    let to_string = Expr::apply(alloc, Builtin::ToString, Vec::new(alloc))?;
     let piece = Expr::pipe(alloc, inner, to_string)?;
     let sum = plus(alloc, sum, piece)?;
-    match first_piece(text) {
+    match first_piece(alloc, text)? {
         Some(text) => Expr::binary(alloc, Op::Add, sum, text),
         None => Ok(sum),
     }

@@ -5,6 +5,7 @@ ghost use Rattle.swf_jq_tokens.specs.Lexer.{goes_on, more_digits, number};
 ghost use Rattle.swf_jq_tokens.specs.Words.{is_digit};
 
 use crate::token::{Found, Token};
+use std::alloc::{AllocError, Global};
 use std::marker::Model;
 use swf_expr::Expr;
 use swf_value::Json;
@@ -24,15 +25,15 @@ impl Model for Number {
 }
 
 impl Number {
-    ghost use Rattle.std.specs.Prelude.{◌≡◌, pos};
+    ghost use Rattle.std.specs.Prelude.{◌≡◌, pos, IfOk};
     ghost use Rattle.swf_value.specs.Value.{int};
     ghost use Rattle.swf_expr.specs.Expr.{lit};
 
-    /// The expression that gives it. It takes no memory.
-    pub fn into_expr(self) -> Expr
-        ensures { result ≡ lit (int (pos self)) }
+    /// The expression that gives it.
+    pub fn into_expr(self, alloc: Global) -> Result<Expr, AllocError>
+        ensures { IfOk result (λ e. e ≡ lit (int (pos self))) }
     {
-        Expr::lit(Json::int(self.0 as i64))
+        Expr::lit(alloc, Json::int(self.0 as i64))
     }
 }
 

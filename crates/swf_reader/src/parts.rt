@@ -90,7 +90,7 @@ pub fn tree_of(alloc: Global, characters: &[char]) -> Result<Expr, AllocError>
 {
     match expression_of(alloc, characters)? {
         Some(expression) => Ok(expression),
-        None => Ok(Expr::here()),
+        None => Expr::here(alloc),
     }
 }
 

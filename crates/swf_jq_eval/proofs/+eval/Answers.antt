@@ -1,21 +1,18 @@
 -- What each form does with each output.
-use Rattle.std.proofs.Common.{◌≡◌, ◌∙◌, ◌∷◌, List, if◌then◌else◌, ap, sym, subst, refl, rules, true, false, codes, Some, None, arith}
+use Rattle.std.proofs.Common.{◌≡◌, ◌∙◌, ◌∷◌, List, ap, sym, subst, refl, rules, true, false, codes, arith}
 use Rattle.swf_value.specs.Node.{node_value, items_of}
-use Rattle.swf_value.specs.Value.{Value, boolean, list, object}
+use Rattle.swf_value.specs.Value.{Value, boolean, list}
 use Rattle.swf_expr.specs.ExprNode.{node_tree, value_or_here}
-use Rattle.swf_expr.specs.declared.expr.ExprNode.TheVariants as nodes
-use Rattle.swf_jq_builtins.specs.Builtins.{with_one}
-use Rattle.swf_jq_builtins.specs.Operations.{is_true, index_of, operate, parts_of, negated}
+use Rattle.swf_jq_builtins.specs.Operations.{is_true, index_of}
 use Rattle.swf_jq_builtins.specs.Outcome.{several_of}
-use Rattle.swf_jq_eval.specs.Run.{Run, clean, gave, turn, gives, made, made_of, answered, over, spread, same_truth, until}
+use Rattle.swf_jq_eval.specs.Run.{clean, gave, turn, made, answered, over, spread, same_truth, until}
 use Rattle.swf_jq_eval.specs.Outputs.{run, node, with_argument, ranged, sorted_by, key_by}
 use Rattle.swf_jq_eval.specs.Names.{names}
-use Rattle.swf_jq_eval.specs.Chosen.{members_so_far}
 use Rattle.swf_jq_eval.specs.Goes.{Goes, Comes}
 use Rattle.std.specs.List.{list_any}
-use Rattle.std.specs.Option.{option_map_or}
 use Rattle.swf_jq_eval.proofs.Runs.{over_one, goes_from}
-use Rattle.swf_jq_eval.proofs.Calls.{call_two, across_list, each_is_over, objects_first, with_other, until_found, choose_goes}
+use Rattle.swf_jq_eval.proofs.Calls.{call_two, across_list, each_is_over, with_other, until_found, choose_goes, other_truth}
+use Rattle.swf_jq_eval.specs.Inner.{inside}
 use Rattle.swf_jq_eval.proofs.Weights.{positive}
 use Rattle.swf_jq_eval.proofs.+eval.Goals as goal
 
@@ -39,9 +36,9 @@ call::sort_by-returns-in-List t c =
 
 pub call::call-returns-in-len2-up : goal.call::call-returns-in-len2-up
 call::call-returns-in-len2-up t c =
-    subst (λ s. Goes c.args.out.now s c.ranges-in-len2-up.new.out c.ranges-in-len2-up.result)
+    subst (λ s. Goes c.args.out.now s c.each_inner.new.out c.each_inner.result)
     (call_two c.args.builtin c.args.arguments.now c.from-item.result c.to-item.result c.args.at.now.input.now (names c.args.at.now) (omega (arith, c.in-len2-up.len_at_least)) c.from-item.is c.to-item.is)
-    c.ranges-in-len2-up.ensures
+    c.each_inner.ensures
 
 pub call::map-returns : goal.call::map-returns
 call::map-returns t c = c.gather.ensures c.args.out.now _ (c.each_of-mapped.ensures _ c.parts.ensures)
@@ -87,54 +84,6 @@ search::each_key-returns t c =
     subst (λ s. Goes c.args.out.now s c.each.new.out c.each.result) (each_is_over _ g ∙ ap (λ vs. over (gave vs clean) g) c.in_ok-copies.ensures)
     (c.each.ensures g (λ x o r o' h. h))
 
-pub forms::level-returns-in-Index : goal.forms::level-returns-in-Index
-forms::level-returns-in-Index t c =
-    let r = names c.args.at.now in
-    let v = c.args.at.now.input.now in
-    subst (λ s. Goes c.args.out.now s c.index_by.new.out c.index_by.result) ((λ i. over (run (c.deref-in-Index.ensures i) r v) (λ y. over (run (c.deref.ensures i) r v) (λ x. answered (index_of x y)))) ∙ sym (ap (λ n. node (node_tree n) r v) (c.in-Index.is))) c.index_by.ensures
-
-pub forms::level-returns-in-Iterate : goal.forms::level-returns-in-Iterate
-forms::level-returns-in-Iterate t c =
-    let r = names c.args.at.now in
-    let v = c.args.at.now.input.now in
-    subst (λ s. Goes c.args.out.now s c.each_step.new.out c.each_step.result) ((λ i. over (run (c.deref-in-Iterate.ensures i) r v) (λ x. spread (parts_of x))) ∙ sym (ap (λ n. node (node_tree n) r v) (c.in-Iterate.is))) c.each_step.ensures
-
-pub forms::level-returns-in-Neg : goal.forms::level-returns-in-Neg
-forms::level-returns-in-Neg t c =
-    let r = names c.args.at.now in
-    let v = c.args.at.now.input.now in
-    subst (λ s. Goes c.args.out.now s c.each_step-in-Neg.new.out c.each_step-in-Neg.result) ((λ i. over (run (c.deref-in-Neg.ensures i) r v) (λ x. made_of (negated x))) ∙ sym (ap (λ n. node (node_tree n) r v) (c.in-Neg.is))) c.each_step-in-Neg.ensures
-
-pub forms::level-returns-in-Pipe : goal.forms::level-returns-in-Pipe
-forms::level-returns-in-Pipe t c =
-    let r = names c.args.at.now in
-    let v = c.args.at.now.input.now in
-    subst (λ s. Goes c.args.out.now s c.pipe.new.out c.pipe.result) ((λ i. over (run (c.deref-in-Pipe.ensures i) r v) (λ x. run (c.deref-in-Pipe-2.ensures i) r x)) ∙ sym (ap (λ n. node (node_tree n) r v) (c.in-Pipe.is))) c.pipe.ensures
-
-pub forms::level-returns-in-Or : goal.forms::level-returns-in-Or
-forms::level-returns-in-Or t c =
-    let r = names c.args.at.now in
-    let v = c.args.at.now.input.now in
-    subst (λ s. Goes c.args.out.now s c.decide.new.out c.decide.result) ((λ i. over (run (c.deref-in-Or.ensures i) r v) (λ x. if is_true x then made (boolean true) else over (run (c.deref-in-Or-2.ensures i) r v) (λ y. made (boolean (is_true y))))) ∙ sym (ap (λ n. node (node_tree n) r v) (c.in-Or.is))) c.decide.ensures
-
-pub forms::level-returns-in-And : goal.forms::level-returns-in-And
-forms::level-returns-in-And t c =
-    let r = names c.args.at.now in
-    let v = c.args.at.now.input.now in
-    subst (λ s. Goes c.args.out.now s c.decide-in-And.new.out c.decide-in-And.result) ((λ i. over (run (c.deref-in-And.ensures i) r v) (λ x. if is_true x then over (run (c.deref-in-And-2.ensures i) r v) (λ y. made (boolean (is_true y))) else made (boolean false))) ∙ sym (ap (λ n. node (node_tree n) r v) (c.in-And.is))) c.decide-in-And.ensures
-
-pub forms::level-returns-in-Binary : goal.forms::level-returns-in-Binary
-forms::level-returns-in-Binary t c =
-    let r = names c.args.at.now in
-    let v = c.args.at.now.input.now in
-    subst (λ s. Goes c.args.out.now s c.binary.new.out c.binary.result) ((λ i. over (run (c.deref-in-Binary-2.ensures i) r v) (λ y. over (run (c.deref-in-Binary.ensures i) r v) (λ x. made_of (operate c.in-Binary.op x y)))) ∙ sym (ap (λ n. node (node_tree n) r v) (c.in-Binary.is))) c.binary.ensures
-
-pub forms::level-returns-in-Bind : goal.forms::level-returns-in-Bind
-forms::level-returns-in-Bind t c =
-    let r = names c.args.at.now in
-    let v = c.args.at.now.input.now in
-    subst (λ s. Goes c.args.out.now s c.bind.new.out c.bind.result) ((λ i. over (run (c.deref-in-Bind.ensures i) r v) (λ y. run (c.deref-in-Bind-2.ensures i) ((c.text-in-Bind.ensures.text i, y) ∷ r) v)) ∙ sym (ap (λ n. node (node_tree n) r v) (c.in-Bind.is))) c.bind.ensures
-
 pub object::keyed-over-over-requires : goal.object::keyed-over-over-requires
 object::keyed-over-over-requires t c = search (rules, positive)
 
@@ -148,6 +97,52 @@ search::until-returns-then-has_truth t c =
     (until_found c.args.want f c.args.values.now c.loop-x.x-index c.x-item.result c.loop-x.out c.all.new.out o c.loop-x-test.true c.x-item.is c.in_ok-values.ensures seen ∙ c.loop-x.invariant)
     c.make_truth.ensures
 
+pub forms::level-returns-in-Index : goal.forms::level-returns-in-Index
+forms::level-returns-in-Index t c =
+    let r = names c.args.at.now in
+    let v = c.args.at.now.input.now in
+    subst (λ s. Goes c.args.out.now s c.each_inner.new.out c.each_inner.result) (sym (ap (λ n. node (node_tree n) r v) c.in-Index.is)) c.each_inner.ensures
+
+pub forms::level-returns-in-Pipe : goal.forms::level-returns-in-Pipe
+forms::level-returns-in-Pipe t c =
+    let r = names c.args.at.now in
+    let v = c.args.at.now.input.now in
+    subst (λ s. Goes c.args.out.now s c.each_inner-in-Pipe.new.out c.each_inner-in-Pipe.result) (sym (ap (λ n. node (node_tree n) r v) c.in-Pipe.is)) c.each_inner-in-Pipe.ensures
+
+pub forms::level-returns-in-Or : goal.forms::level-returns-in-Or
+forms::level-returns-in-Or t c =
+    let r = names c.args.at.now in
+    let v = c.args.at.now.input.now in
+    subst (λ s. Goes c.args.out.now s c.each_inner-in-Or.new.out c.each_inner-in-Or.result) (sym (ap (λ n. node (node_tree n) r v) c.in-Or.is)) c.each_inner-in-Or.ensures
+
+pub forms::level-returns-in-And : goal.forms::level-returns-in-And
+forms::level-returns-in-And t c =
+    let r = names c.args.at.now in
+    let v = c.args.at.now.input.now in
+    subst (λ s. Goes c.args.out.now s c.each_inner-in-And.new.out c.each_inner-in-And.result) (sym (ap (λ n. node (node_tree n) r v) c.in-And.is)) c.each_inner-in-And.ensures
+
+pub forms::level-returns-in-Binary : goal.forms::level-returns-in-Binary
+forms::level-returns-in-Binary t c =
+    let r = names c.args.at.now in
+    let v = c.args.at.now.input.now in
+    subst (λ s. Goes c.args.out.now s c.each_inner-in-Binary.new.out c.each_inner-in-Binary.result) (sym (ap (λ n. node (node_tree n) r v) c.in-Binary.is)) c.each_inner-in-Binary.ensures
+
+pub forms::level-returns-in-Bind : goal.forms::level-returns-in-Bind
+forms::level-returns-in-Bind t c =
+    let r = names c.args.at.now in
+    let v = c.args.at.now.input.now in
+    subst (λ s. Goes c.args.out.now s c.each_inner-in-Bind.new.out c.each_inner-in-Bind.result)
+    ((λ i. over (run c.in-Bind.of r v) (λ y. run c.in-Bind.inside ((c.text-in-Bind.ensures.text i, y) ∷ r) v)) ∙ sym (ap (λ n. node (node_tree n) r v) c.in-Bind.is)) c.each_inner-in-Bind.ensures
+
 pub forms::level-returns-in-If : goal.forms::level-returns-in-If
 forms::level-returns-in-If t c =
-    choose_goes c.args.out.now c.choose.new.out c.choose.result c.args.level.now c.in-If.condition c.in-If.first c.in-If.second _ _ _ _ c.in-If.is c.deref-in-If.ensures c.deref-in-If-2.ensures c.choose.ensures
+    choose_goes c.args.out.now c.each_inner-in-If.new.out c.each_inner-in-If.result c.args.level.now c.in-If.condition c.in-If.first c.in-If.second _ _ _ _ c.in-If.is refl refl c.each_inner-in-If.ensures
+
+pub inner::take-returns-else-is_true-want : goal.inner::take-returns-else-is_true-want
+inner::take-returns-else-is_true-want t c =
+    subst (λ s. Goes c.args.out.now s c.each_step-else-is_true-want.new.out c.each_step-else-is_true-want.result)
+    (sym (ap (λ n. inside n c.args.at.now c.args.y.now) c.in-Decide.is ∙ other_truth c.in-Decide.want c.args.y.now c.is_true.result _ (sym c.is_true.ensures) c.if-is_true-want.false)) c.each_step-else-is_true-want.ensures
+
+pub inner::take-returns-in-Operate : goal.inner::take-returns-in-Operate
+inner::take-returns-in-Operate t c =
+    subst (λ s. Goes c.args.out.now s c.each_step-in-Operate.new.out c.each_step-in-Operate.result) (sym (ap (λ n. inside n c.args.at.now c.args.y.now) c.in-Operate.is)) c.each_step-in-Operate.ensures

@@ -6,6 +6,7 @@ use Rattle.swf_jq_eval.specs.Run.{until}
 use Rattle.swf_jq_eval.specs.Outputs.{run}
 use Rattle.swf_jq_eval.specs.Names.{names}
 use Rattle.swf_jq_eval.specs.Goes.{ahead}
+use Rattle.swf_jq_eval.proofs.Weights.{weight_inner}
 use Rattle.swf_jq_eval.proofs.+eval.Given as goal
 
 abbrev pub decreases-forms::level : goal.decreases-forms::level
@@ -17,14 +18,8 @@ decreases-forms::eval l = 16 * weight l.expr.now + 1
 abbrev pub decreases-forms::all : goal.decreases-forms::all
 decreases-forms::all l = 16 * weight l.expr.now + 2
 
-abbrev pub decreases-forms::index_by : goal.decreases-forms::index_by
-decreases-forms::index_by l = 16 * (weight l.of.now + weight l.key.now) + 20
-
 abbrev pub decreases-forms::maybe : goal.decreases-forms::maybe
 decreases-forms::maybe l = 16 * (weight l.of.now) + 20
-
-abbrev pub decreases-forms::pipe : goal.decreases-forms::pipe
-decreases-forms::pipe l = 16 * (weight l.left.now + weight l.right.now) + 20
 
 abbrev pub decreases-forms::both : goal.decreases-forms::both
 decreases-forms::both l = 16 * (weight l.left.now + weight l.right.now) + 20
@@ -32,29 +27,8 @@ decreases-forms::both l = 16 * (weight l.left.now + weight l.right.now) + 20
 abbrev pub decreases-forms::alternative : goal.decreases-forms::alternative
 decreases-forms::alternative l = 16 * (weight l.left.now + weight l.right.now) + 20
 
-abbrev pub decreases-forms::binary : goal.decreases-forms::binary
-decreases-forms::binary l = 16 * (weight l.left.now + weight l.right.now) + 20
-
 abbrev pub decreases-forms::list_of : goal.decreases-forms::list_of
 decreases-forms::list_of l = 16 * (weight l.of.now) + 20
-
-abbrev pub decreases-forms::choose : goal.decreases-forms::choose
-decreases-forms::choose l = 16 * (weight l.condition.now + weight l.first.now + option_map_or (λ e. weight e.value) l.second.now 0) + 22
-
-abbrev pub decreases-forms::bind : goal.decreases-forms::bind
-decreases-forms::bind l = 16 * (weight l.of.now + weight l.inside.now) + 20
-
-abbrev pub decreases-forms::index_by-over : goal.decreases-forms::index_by-over
-decreases-forms::index_by-over l = 16 * (weight l.of.now) + 6
-
-abbrev pub decreases-forms::pipe-over : goal.decreases-forms::pipe-over
-decreases-forms::pipe-over l = 16 * (weight l.right.now) + 6
-
-abbrev pub decreases-forms::binary-over : goal.decreases-forms::binary-over
-decreases-forms::binary-over l = 16 * (weight l.left.now) + 6
-
-abbrev pub decreases-forms::bind-over : goal.decreases-forms::bind-over
-decreases-forms::bind-over l = 16 * (weight l.inside.now) + 6
 
 abbrev pub decreases-call::call : goal.decreases-call::call
 decreases-call::call l = 16 * weight_trees (trees_of l.arguments.now) + 50
@@ -79,12 +53,6 @@ decreases-call::sort_by l = 16 * weight l.of.now + 30
 
 abbrev pub decreases-call::first_of : goal.decreases-call::first_of
 decreases-call::first_of l = 16 * weight l.of.now + 30
-
-abbrev pub decreases-call::ranges : goal.decreases-call::ranges
-decreases-call::ranges l = 16 * (weight l.from.now + weight l.to.now) + 30
-
-abbrev pub decreases-call::ranges-over : goal.decreases-call::ranges-over
-decreases-call::ranges-over l = 16 * weight l.to.now + 5
 
 abbrev pub decreases-search::until : goal.decreases-search::until
 decreases-search::until l = 16 * weight l.expr.now + 10
@@ -137,17 +105,17 @@ decreases-object::members_of_input l = 16 * weight l.key.now + 53
 abbrev pub decreases-object::member_of_input : goal.decreases-object::member_of_input
 decreases-object::member_of_input l = 16 * weight l.key.now + 40
 
-abbrev pub decreases-forms::decide : goal.decreases-forms::decide
-decreases-forms::decide l = 16 * (weight l.left.now + weight l.right.now) + 20
+abbrev pub decreases-inner::otherwise : goal.decreases-inner::otherwise
+decreases-inner::otherwise l = 16 * option_map_or (λ e. weight e) l.second.now 0 + 8
 
-abbrev pub decreases-forms::decide-over : goal.decreases-forms::decide-over
-decreases-forms::decide-over l = 16 * weight l.right.now + 10
+abbrev pub decreases-inner::each_inner : goal.decreases-inner::each_inner
+decreases-inner::each_inner l = 16 * (weight l.of.now + weight_inner l.inner) + 20
 
-abbrev pub decreases-forms::choose-over : goal.decreases-forms::choose-over
-decreases-forms::choose-over l = 16 * (weight l.first.now + option_map_or (λ e. weight e.value) l.second.now 0) + 10
+abbrev pub decreases-inner::each_inner-over : goal.decreases-inner::each_inner-over
+decreases-inner::each_inner-over l = 16 * weight_inner l.inner + 12
 
-abbrev pub decreases-forms::otherwise : goal.decreases-forms::otherwise
-decreases-forms::otherwise l = 16 * option_map_or (λ e. weight e.value) l.second.now 0 + 8
+abbrev pub decreases-inner::take : goal.decreases-inner::take
+decreases-inner::take l = 16 * weight_inner l.inner.now + 10
 
 abbrev pub decreases-steps::each_step : goal.decreases-steps::each_step
 decreases-steps::each_step l = 16 * weight l.of.now + 4

@@ -1,4 +1,4 @@
-use Rattle.std.proofs.Common.{rules, ◌≡◌, ◌∙◌, ◌<◌, ◌+◌, ℕ, List, suc, drop, ap, sym, subst, Ok, get_or, length, arith}
+use Rattle.std.proofs.Common.{rules, ◌≡◌, ◌∙◌, ◌<◌, ◌+◌, ℕ, List, suc, drop, ap, subst, Ok, get_or, length, arith}
 use Rattle.swf_value.specs.Value.{Value}
 use Rattle.swf_jq_eval.specs.Run.{each}
 use Rattle.swf_jq_eval.specs.Goes.{Goes, ending_of, ahead}

@@ -1,4 +1,4 @@
-use Rattle.std.proofs.Common.{◌≡◌, ◌∙◌, ◌+◌, ap, sym, subst}
+use Rattle.std.proofs.Common.{◌≡◌, ◌∙◌, ◌+◌, ap, subst}
 use Rattle.swf_jq_builtins.specs.Builtins.{range_of}
 use Rattle.swf_jq_builtins.specs.Outcome.{count_of}
 use Rattle.swf_jq_eval.specs.declared.outputs.Out.{Out}
