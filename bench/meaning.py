@@ -20,7 +20,7 @@ that begins with `! not modelled` ends it. Of the lines that begin with `!` it k
 
 Usage: bench/meaning.py < sessions.txt, the blocks of crates/swf_cases/data; `bench/meaning.py stops < stops.txt` tells what
 comes of stops: how many calls of the store the session takes, and how many of its stops came to another end; and
-`bench/meaning.py orders < rows.txt`, the rows of crates/swf_order_cases/data, what every order of the steps of a workflow's strands
+`bench/meaning.py orders < orders.txt`, the rows there, what every order of the steps of a workflow's strands
 comes to. JQ names another
 program than `jq`.
 """
@@ -977,7 +977,7 @@ def orders(row):
 def main():
     if sys.argv[1:] == ["orders"]:
         for row in sys.stdin.read().splitlines():
-            orders(row)
+            print(row) if row.startswith("#") else orders(row)
         return
     for block in sys.stdin.read().split("\n\n"):
         lines = [line for line in block.split("\n") if line]

@@ -86,6 +86,15 @@ fn reached(alloc: Global, image: &Image) -> Result<usize, AllocError> {
     let script = script(alloc, &["status i", LOAD, "quit"])?;
     let none = Failing::none(alloc);
     let ran = run(alloc, "session", image.copy(alloc)?, none, script)?;
+    Ok(if ran.status == 0 {
+        place_of(&ran.host)
+    } else {
+        OTHER
+    })
+}
+
+// The place of the replies that were said.
+fn place_of(host: &MemoryHost) -> usize {
     let cases = [
         [UNKNOWN, LOADED, QUIT],
         [UNKNOWN, DUPLICATE, QUIT],
@@ -93,11 +102,11 @@ fn reached(alloc: Global, image: &Image) -> Result<usize, AllocError> {
         [COMPLETED, DUPLICATE, QUIT],
     ];
     for (place, wanted) in cases.iter().enumerate() {
-        if ran.status == 0 && replies(&ran.host, wanted) == wanted.len() {
-            return Ok(place);
+        if replies(host, wanted) == wanted.len() {
+            return place;
         }
     }
-    Ok(OTHER)
+    OTHER
 }
 
 /// How many images a stop may leave; in how many all that was answered stands and the line behind it too; and how many have
@@ -107,6 +116,18 @@ struct Tried {
     images: u64,
     ahead: u64,
     wrong: u64,
+}
+
+impl Tried {
+    // One image more, whose history has come so far where so much had been said.
+    fn count(&mut self, found: usize, said: usize) {
+        self.images = self.images.saturating_add(1);
+        if found == said.saturating_add(1) && found <= KEPT_REPLIES {
+            self.ahead = self.ahead.saturating_add(1);
+        } else if found != said {
+            self.wrong = self.wrong.saturating_add(1);
+        }
+    }
 }
 
 // Runs a session over each image that a stop after so many calls may leave, when so many replies had been said.
@@ -126,13 +147,7 @@ fn try_stop(
     };
     let said = said.min(KEPT_REPLIES);
     for image in images.iter() {
-        let found = reached(alloc, image)?;
-        tried.images = tried.images.saturating_add(1);
-        if found == said.saturating_add(1) && found <= KEPT_REPLIES {
-            tried.ahead = tried.ahead.saturating_add(1);
-        } else if found != said {
-            tried.wrong = tried.wrong.saturating_add(1);
-        }
+        tried.count(reached(alloc, image)?, said);
     }
     Ok(tried)
 }

@@ -5,13 +5,19 @@
 //! events-read.txt and script.txt have empty lines between them; each line is a command, followed by its reply, or begins with
 //! `!` (`src/session.rt` has the words), and `! reopen` ends the input and opens the store again. A line of faults.txt names a
 //! call that fails or the calls before a stop (`src/faults.rt`). A session of stops.txt is stopped after each call of its store,
-//! and given once more.
+//! and given once more. A line of orders.txt names the tasks whose strands step in every order (`src/orders.rt`), and one of
+//! values.txt a value or a label (`src/rows.rt`).
 //! A line that begins with `#` names what follows, and stands in the transcript as it is.
 #![tactic(auto)]
 
 mod faults;
+mod labels;
+mod orders;
+mod rows;
 mod session;
 mod stops;
+mod values;
+mod words;
 
 use std::alloc::{AllocError, Global};
 use std::fs;
@@ -101,16 +107,22 @@ fn add_line(transcript: &mut Vec<u8>, before: &str, line: &str) -> Result<(), Al
     transcript.extend_from_slice(b"\n")
 }
 
+// All that a host was given to say.
+fn printed(alloc: Global, host: &MemoryHost) -> Result<Vec<u8>, AllocError> {
+    let mut printed = Vec::new(alloc);
+    for piece in host.said() {
+        printed.extend_from_slice(piece.bytes.as_slice())?;
+    }
+    Ok(printed)
+}
+
 // Adds what is printed for a document, whose status is 0 exactly where that is the word `accepted`.
 fn add_document(alloc: Global, transcript: &mut Vec<u8>, document: &str) -> Result<(), AllocError> {
     let mut script = Vec::new(alloc);
     script.push(ask(0, document.as_bytes().to_vec(alloc)?))?;
     let image = Image::empty(alloc);
     let ran = run(alloc, "check", image, Failing::none(alloc), script)?;
-    let mut printed = Vec::new(alloc);
-    for piece in ran.host.said() {
-        printed.extend_from_slice(piece.bytes.as_slice())?;
-    }
+    let printed = printed(alloc, &ran.host)?;
     transcript.extend_from_slice(printed.as_slice())?;
     let expected = if printed.as_slice() == b"accepted\n".as_slice() {
         0
@@ -159,6 +171,10 @@ fn main(rt: HostRuntime) -> io::Result<()> {
     faults::add_faults(alloc, &mut transcript, faults.as_str())?;
     let stops = fs::read_to_string(&rt, "stops.txt")?;
     stops::add_stops(alloc, &mut transcript, stops.as_str())?;
+    let orders = fs::read_to_string(&rt, "orders.txt")?;
+    orders::add_orders(alloc, &mut transcript, orders.as_str())?;
+    let rows = fs::read_to_string(&rt, "values.txt")?;
+    rows::add_rows(alloc, &rt, &mut transcript, rows.as_str())?;
     match String::from_utf8(transcript) {
         Ok(text) => print!(rt; "{text}"),
         Err(_) => Err(io::Error::from(ErrorKind::InvalidData)),

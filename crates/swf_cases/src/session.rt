@@ -4,9 +4,10 @@
 // `! journal A5` a journal of these bytes, and `! fail say 1` a call that fails. Some are inputs: `! too-long`, `! bytes 3 FF`
 // of a line of three such bytes, and `! many 9 start i@ t a 1.0.0 {}` of nine lines with their numbers for the `@`, of which
 // the last three replies are told. The others tell what came of the run: `! inputs`, `! replies`, `! calls` and `! sizes`.
+use crate::words::{bytes_of, no_meaning, number_of, split};
 use crate::{Failing, REOPEN, Ran, add_line, add_status, ask, run};
 use std::alloc::{AllocError, Global};
-use std::io::{self, ErrorKind};
+use std::io;
 use swf_host::{Input, Turn};
 use swf_store::{File, Image};
 use swf_text::Bytes;
@@ -74,30 +75,6 @@ impl<'a> Part<'a> {
     }
 }
 
-// An order that has no meaning.
-fn no_order() -> io::Error {
-    ErrorKind::InvalidInput.into()
-}
-
-fn number_of(text: &str) -> io::Result<u64> {
-    match text.parse::<u64>() {
-        Ok(number) => Ok(number),
-        Err(_) => Err(no_order()),
-    }
-}
-
-fn split(text: &str) -> io::Result<(&str, &str)> {
-    text.split_once(' ').ok_or(no_order())
-}
-
-// The bytes that a text tells in hex.
-fn bytes_of(alloc: Global, hex: &str) -> io::Result<Vec<u8>> {
-    match hex::decode(alloc, hex) {
-        Ok(bytes) => Ok(bytes),
-        Err(_) => Err(no_order()),
-    }
-}
-
 /// Has a call of a kind fail.
 pub(crate) fn fail(failing: &mut Failing, order: &str) -> io::Result<()> {
     let (kind, number) = split(order)?;
@@ -106,7 +83,7 @@ pub(crate) fn fail(failing: &mut Failing, order: &str) -> io::Result<()> {
         "store" => failing.store.push(number)?,
         "next" => failing.next.push(number)?,
         "say" => failing.say.push(number)?,
-        _ => return Err(no_order()),
+        _ => return Err(no_meaning()),
     }
     Ok(())
 }
@@ -126,7 +103,7 @@ fn add_bytes(alloc: Global, script: &mut Vec<Turn>, order: &str) -> io::Result<(
 // So many lines, each with its number in the place of an `@`.
 fn add_many(alloc: Global, script: &mut Vec<Turn>, order: &str) -> io::Result<()> {
     let (count, line) = split(order)?;
-    let (before, after) = line.split_once('@').ok_or(no_order())?;
+    let (before, after) = line.split_once('@').ok_or(no_meaning())?;
     for number in 0..number_of(count)? {
         let line = format!(in alloc; "{before}{number}{after}")?;
         script.push(ask(0, line.into_bytes()))?;
@@ -200,6 +177,35 @@ fn add_part(alloc: Global, transcript: &mut Vec<u8>, part: Part<'_>) -> Result<I
     ran.host.store().image().copy(alloc)
 }
 
+// Adds the names among some lines, and the other lines to a part.
+fn read_lines<'a>(
+    alloc: Global,
+    transcript: &mut Vec<u8>,
+    text: &'a str,
+    part: &mut Part<'a>,
+) -> io::Result<()> {
+    for line in text.split('\n') {
+        if line.starts_with('#') {
+            add_line(transcript, "", line)?;
+        } else if !line.is_empty() {
+            part.add(alloc, line)?;
+        }
+    }
+    Ok(())
+}
+
+// Adds the part of these lines over some files. Answers the files that it left.
+fn add_lines(
+    alloc: Global,
+    transcript: &mut Vec<u8>,
+    text: &str,
+    image: Image,
+) -> io::Result<Image> {
+    let mut part = Part::new(alloc, image);
+    read_lines(alloc, transcript, text, &mut part)?;
+    Ok(add_part(alloc, transcript, part)?)
+}
+
 /// Adds a session: its name and its lines, which fall into parts between which it is opened again.
 pub(crate) fn add_session(alloc: Global, transcript: &mut Vec<u8>, block: &str) -> io::Result<()> {
     let mut image = Image::empty(alloc);
@@ -207,15 +213,7 @@ pub(crate) fn add_session(alloc: Global, transcript: &mut Vec<u8>, block: &str) 
         if number > 0 {
             transcript.extend_from_slice(REOPEN.as_bytes())?;
         }
-        let mut part = Part::new(alloc, image);
-        for line in text.split('\n') {
-            if line.starts_with('#') {
-                add_line(transcript, "", line)?;
-            } else if !line.is_empty() {
-                part.add(alloc, line)?;
-            }
-        }
-        image = add_part(alloc, transcript, part)?;
+        image = add_lines(alloc, transcript, text, image)?;
     }
     Ok(())
 }

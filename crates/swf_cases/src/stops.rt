@@ -74,16 +74,28 @@ impl<'a> Session<'a> {
         let calls = whole.store().calls().len() as u64;
         let mut wrong = 0u64;
         for stop in 0..=calls {
-            let Ok(images) = whole.store().images(alloc, stop) else {
-                return Err(AllocError);
-            };
-            for image in images.iter() {
-                if !self.ends_the_same(alloc, image, &whole)? {
-                    wrong = wrong.saturating_add(1);
-                }
-            }
+            self.count_wrong(alloc, &whole, stop, &mut wrong)?;
         }
         format!(in alloc; "{calls} calls, {wrong} wrong")
+    }
+
+    // Counts the images that a stop after so many calls may leave and that come to another end.
+    fn count_wrong(
+        &self,
+        alloc: Global,
+        whole: &MemoryHost,
+        calls: u64,
+        wrong: &mut u64,
+    ) -> Result<(), AllocError> {
+        let Ok(images) = whole.store().images(alloc, calls) else {
+            return Err(AllocError);
+        };
+        for image in images.iter() {
+            if !self.ends_the_same(alloc, image, whole)? {
+                *wrong = wrong.saturating_add(1);
+            }
+        }
+        Ok(())
     }
 }
 
@@ -113,10 +125,14 @@ fn has_same_reply(one: &MemoryHost, other: &MemoryHost, place: usize) -> bool {
 /// Adds the name of each session, and under it what comes of its stops.
 pub(crate) fn add_stops(alloc: Global, transcript: &mut Vec<u8>, text: &str) -> io::Result<()> {
     for block in text.split("\n\n") {
-        let session = Session::new(alloc, block)?;
-        let outcome = session.outcome(alloc)?;
-        add_line(transcript, "", session.name)?;
-        add_line(transcript, "", outcome.as_str())?;
+        add_stop(alloc, transcript, block)?;
     }
     Ok(())
+}
+
+fn add_stop(alloc: Global, transcript: &mut Vec<u8>, block: &str) -> Result<(), AllocError> {
+    let session = Session::new(alloc, block)?;
+    let outcome = session.outcome(alloc)?;
+    add_line(transcript, "", session.name)?;
+    add_line(transcript, "", outcome.as_str())
 }

@@ -333,23 +333,34 @@ fn each_failure(rt: HostRuntime) -> io::Result<String> {
     Err(no_row())
 }
 
+// A row with what came of it, on a line of its own.
+fn add_row(work: &mut Work, row: &str, all: &mut String) -> io::Result<()> {
+    if let Some(order) = row.strip_prefix("! ") {
+        work.follow(order)?;
+    }
+    if row.starts_with('#') || row.starts_with('!') {
+        all.push_str(row)?;
+        all.push_str("\n")?;
+    } else if !row.is_empty() {
+        let answer = work.answer(row)?;
+        let line = format!(in work.rt.alloc(); "{row} => {answer}\n")?;
+        all.push_str(line.as_str())?;
+    }
+    Ok(())
+}
+
+fn add_rows(work: &mut Work, block: &str, all: &mut String) -> io::Result<()> {
+    for row in block.split('\n') {
+        add_row(work, row, all)?;
+    }
+    Ok(())
+}
+
 /// The rows of a block, each with what came of it.
 pub(crate) fn told(rt: HostRuntime, block: &str) -> io::Result<String> {
     let mut work = Work::new(rt)?;
     let mut all = String::new(rt.alloc());
-    for row in block.split('\n') {
-        if let Some(order) = row.strip_prefix("! ") {
-            work.follow(order)?;
-        }
-        if row.starts_with('#') || row.starts_with('!') {
-            all.push_str(row)?;
-            all.push_str("\n")?;
-        } else if !row.is_empty() {
-            let answer = work.answer(row)?;
-            let line = format!(in rt.alloc(); "{row} => {answer}\n")?;
-            all.push_str(line.as_str())?;
-        }
-    }
+    add_rows(&mut work, block, &mut all)?;
     Ok(all)
 }
 

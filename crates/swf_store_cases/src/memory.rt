@@ -173,6 +173,21 @@ impl Tried {
     }
 }
 
+// Opens what a stop after each call of a store leaves, which had so many frames before its last append.
+fn count_stops(
+    alloc: Global,
+    store: &MemoryStore,
+    frames: u64,
+    tried: &mut Tried,
+) -> Result<(), AllocError> {
+    for calls in 0..store.calls().len() {
+        for left in images_after(alloc, store, calls as u64)?.iter() {
+            tried.count(frames_in(alloc, left)?, frames);
+        }
+    }
+    Ok(())
+}
+
 // Opens an image of two frames or three, appends one, and opens what each stop of that leaves.
 fn stop_again(alloc: Global, image: &Image, tried: &mut Tried) -> Result<(), AllocError> {
     let mut store = store_over(alloc, image)?;
@@ -181,12 +196,7 @@ fn stop_again(alloc: Global, image: &Image, tried: &mut Tried) -> Result<(), All
         return Ok(());
     };
     tried.count(session.found, 2);
-    for calls in 0..store.calls().len() {
-        for left in images_after(alloc, &store, calls as u64)?.iter() {
-            tried.count(frames_in(alloc, left)?, session.found);
-        }
-    }
-    Ok(())
+    count_stops(alloc, &store, session.found, tried)
 }
 
 // The same of each image that a stop after so many calls, or after more, leaves.
@@ -226,19 +236,30 @@ fn answer(alloc: Global, host: &mut MemoryHost, row: &str) -> io::Result<String>
     }
 }
 
+// A row with what came of it, on a line of its own.
+fn add_row(alloc: Global, host: &mut MemoryHost, row: &str, all: &mut String) -> io::Result<()> {
+    if row.starts_with('#') || row.starts_with('!') {
+        all.push_str(row)?;
+        all.push_str("\n")?;
+    } else if !row.is_empty() {
+        let answer = answer(alloc, host, row)?;
+        let line = format!(in alloc; "{row} => {answer}\n")?;
+        all.push_str(line.as_str())?;
+    }
+    Ok(())
+}
+
+fn add_rows(alloc: Global, host: &mut MemoryHost, block: &str, all: &mut String) -> io::Result<()> {
+    for row in block.split('\n') {
+        add_row(alloc, host, row, all)?;
+    }
+    Ok(())
+}
+
 /// The rows of a block, each with what came of it.
 pub(crate) fn told(alloc: Global, block: &str) -> io::Result<String> {
     let mut host = host_of(alloc, block)?;
     let mut all = String::new(alloc);
-    for row in block.split('\n') {
-        if row.starts_with('#') || row.starts_with('!') {
-            all.push_str(row)?;
-            all.push_str("\n")?;
-        } else if !row.is_empty() {
-            let answer = answer(alloc, &mut host, row)?;
-            let line = format!(in alloc; "{row} => {answer}\n")?;
-            all.push_str(line.as_str())?;
-        }
-    }
+    add_rows(alloc, &mut host, block, &mut all)?;
     Ok(all)
 }

@@ -1,5 +1,5 @@
 // Rows on values: what is read and written, and what is made of them.
-use crate::{bytes_of, no_row, number_of, split};
+use crate::words::{bytes_of, no_meaning, number_of, split};
 use std::alloc::{AllocError, Global};
 use std::io;
 use swf_text::Text;
@@ -19,7 +19,7 @@ pub(crate) fn told(alloc: Global, word: &str, rest: &str) -> io::Result<String> 
         "names" => names(alloc, rest),
         "lists" => Ok(lists(alloc)?),
         "objects" => Ok(objects(alloc)?),
-        _ => Err(no_row()),
+        _ => Err(no_meaning()),
     }
 }
 
@@ -45,7 +45,7 @@ fn outcome(alloc: Global, read: Result<Json, ValueFault>) -> Result<String, Allo
 /// answers the same.
 fn read(alloc: Global, text: &[u8], most: u32) -> io::Result<String> {
     if most > 127 {
-        return Err(no_row());
+        return Err(no_meaning());
     }
     let within = outcome(alloc, read_json_within(alloc, text, most))?;
     if most != 64 {
@@ -60,7 +60,7 @@ fn read(alloc: Global, text: &[u8], most: u32) -> io::Result<String> {
 }
 
 /// Lists in one another, round an inner text.
-pub(crate) fn lists_round(alloc: Global, levels: u32, inner: &str) -> Result<Vec<u8>, AllocError> {
+pub(crate) fn lists_round(alloc: Global, levels: u64, inner: &str) -> Result<Vec<u8>, AllocError> {
     let mut text = Vec::new(alloc);
     for _ in 0..levels {
         text.extend_from_slice(b"[")?;
@@ -77,7 +77,10 @@ fn nested(alloc: Global, row: &str) -> io::Result<String> {
     let (levels, rest) = split(row)?;
     let (most, inner) = rest.split_once(' ').unwrap_or((rest, ""));
     let text = lists_round(alloc, number_of(levels)?, inner)?;
-    let told = read(alloc, &text, number_of(most)?)?;
+    let Ok(most) = u32::try_from(number_of(most)?) else {
+        return Err(no_meaning());
+    };
+    let told = read(alloc, &text, most)?;
     if told.as_str().as_bytes() == text.as_slice() {
         Ok(String::from_str(alloc, "read")?)
     } else {
@@ -92,14 +95,14 @@ fn written_text(alloc: Global, hex: &str) -> io::Result<String> {
             let value = Json::text(Text::from_string(alloc, text)?);
             Ok(text_of(alloc, &value)?)
         }
-        Err(_) => Err(no_row()),
+        Err(_) => Err(no_meaning()),
     }
 }
 
 fn value_of(alloc: Global, text: &str) -> io::Result<Json> {
     match read_json(alloc, text.as_bytes()) {
         Ok(value) => Ok(value),
-        Err(_) => Err(no_row()),
+        Err(_) => Err(no_meaning()),
     }
 }
 
@@ -117,7 +120,7 @@ fn copied(alloc: Global, text: &str) -> io::Result<String> {
 fn member(alloc: Global, row: &str) -> io::Result<String> {
     let (name, text) = split(row)?;
     let Ok(name) = String::from_utf8(bytes_of(alloc, name)?) else {
-        return Err(no_row());
+        return Err(no_meaning());
     };
     let value = value_of(alloc, text)?;
     match value.member(name.as_str()) {
@@ -130,7 +133,7 @@ fn member(alloc: Global, row: &str) -> io::Result<String> {
 fn names(alloc: Global, text: &str) -> io::Result<String> {
     let value = value_of(alloc, text)?;
     let JsonNode::Object(members) = value.node() else {
-        return Err(no_row());
+        return Err(no_meaning());
     };
     let mut names = String::new(alloc);
     for member in members.as_slice() {

@@ -4,7 +4,7 @@ ghost use Rattle.swf_value.specs.Value.{IsValue, depth};
 ghost use Rattle.swf_record.specs.Encodes.{Nests};
 
 use crate::values::{lists_round, text_of};
-use crate::{bytes_of, no_row, number_of, split};
+use crate::words::{bytes_of, no_meaning, number_of, split};
 use std::alloc::{AllocError, Global};
 use std::io;
 use swf_calls::{CallReply, read_reply, reply_json};
@@ -28,7 +28,7 @@ pub(crate) fn told(alloc: Global, word: &str, rest: &str) -> io::Result<String> 
         "again" => again(alloc, &bytes_of(alloc, rest)?),
         "decode" => Ok(decoded(alloc, &bytes_of(alloc, rest)?)?),
         "levels" => levels(alloc, number_of(rest)?),
-        _ => Err(no_row()),
+        _ => Err(no_meaning()),
     }
 }
 
@@ -47,7 +47,7 @@ fn value_of(alloc: Global, text: &str) -> io::Result<Json>
 {
     match read_json(alloc, text.as_bytes()) {
         Ok(value) => Ok(value),
-        Err(_) => Err(no_row()),
+        Err(_) => Err(no_meaning()),
     }
 }
 
@@ -76,7 +76,7 @@ fn event(alloc: Global, row: &str) -> io::Result<Label>
     let value = value_of(alloc, row)?;
     match read_event(alloc, &value) {
         Ok(event) => Ok(Label::Event(event)),
-        Err(_) => Err(no_row()),
+        Err(_) => Err(no_meaning()),
     }
 }
 
@@ -86,10 +86,10 @@ fn reply(alloc: Global, row: &str) -> io::Result<Label>
 {
     let (activity, text) = split(row)?;
     let Ok(value) = read_json_within(alloc, text.as_bytes(), 65) else {
-        return Err(no_row());
+        return Err(no_meaning());
     };
     let Some(reply) = read_reply(alloc, &value)? else {
-        return Err(no_row());
+        return Err(no_meaning());
     };
     let activity = Text::copy_of(alloc, activity)?;
     Ok(Label::Reply { activity, reply })
@@ -103,7 +103,7 @@ fn moment(row: &str) -> io::Result<Label>
         Ok(milliseconds) if milliseconds <= Moment::LAST => {
             Ok(Label::Moment(Moment::new(milliseconds)))
         }
-        _ => Err(no_row()),
+        _ => Err(no_meaning()),
     }
 }
 
@@ -126,7 +126,7 @@ fn step(alloc: Global, row: &str) -> io::Result<Label>
 /// Whether some bytes are those of the labels that are read in them.
 fn again(alloc: Global, bytes: &[u8]) -> io::Result<String> {
     let Ok(labels) = decode_labels(alloc, bytes) else {
-        return Err(no_row());
+        return Err(no_meaning());
     };
     let written = encode_labels(alloc, labels.as_slice())?;
     let is_again = written.as_slice() == bytes;
@@ -178,10 +178,10 @@ fn decoded(alloc: Global, bytes: &[u8]) -> Result<String, AllocError> {
 }
 
 /// Reads the load of so many lists in one another.
-fn levels(alloc: Global, levels: u32) -> io::Result<String> {
+fn levels(alloc: Global, levels: u64) -> io::Result<String> {
     let text = lists_round(alloc, levels, "")?;
     let Ok(length) = u32::try_from(text.len()) else {
-        return Err(no_row());
+        return Err(no_meaning());
     };
     let mut bytes = Vec::new(alloc);
     bytes.extend_from_slice(b"\0\0\0\x01\x01")?;

@@ -1,15 +1,14 @@
-//! Reads the lines of a table, each with a name and the tasks of a workflow, and prints for each what every order of the steps of its
-//! strands comes to: how many orders there are, and each output that one of them gives.
-#![tactic(auto)]
-
+// What every order of the steps of a workflow's strands comes to: how many orders there are, and each output that one of them
+// gives.
+use crate::words::{no_meaning, split};
+use crate::{add_line, values};
 use std::alloc::Global;
-use std::fs;
-use std::io::{self, ErrorKind};
+use std::io;
 use swf_duration::Moment;
 use swf_tasks::{Machine, Site, Words};
 use swf_text::{Strand, Text};
 use swf_validate::{Accepted, accept};
-use swf_value::{Json, read_json, write_json};
+use swf_value::{Json, read_json};
 
 /// How many steps an order may have.
 const MOST_STEPS: u32 = 40;
@@ -34,21 +33,16 @@ impl Outcome {
     }
 }
 
-/// A row that has no meaning.
-fn no_row() -> io::Error {
-    ErrorKind::InvalidInput.into()
-}
-
 // The workflow of these tasks.
 fn document_of(alloc: Global, tasks: &str) -> io::Result<Accepted> {
     let head = "{\"dsl\":\"1.0.0\",\"namespace\":\"t\",\"name\":\"a\",\"version\":\"1.0.0\"}";
     let text = format!(in alloc; "{{\"document\":{head},\"do\":{tasks}}}")?;
     let Ok(value) = read_json(alloc, text.as_str().as_bytes()) else {
-        return Err(no_row());
+        return Err(no_meaning());
     };
     match accept(alloc, &value) {
         Ok(document) => Ok(document),
-        Err(_) => Err(no_row()),
+        Err(_) => Err(no_meaning()),
     }
 }
 
@@ -57,12 +51,7 @@ fn output_of(alloc: Global, machine: &Machine) -> io::Result<String> {
     let Some(output) = machine.output() else {
         return Ok(format!(in alloc; "none")?);
     };
-    let mut bytes = Vec::new(alloc);
-    write_json(output, &mut bytes)?;
-    match String::from_utf8(bytes) {
-        Ok(text) => Ok(text),
-        Err(_) => Err(no_row()),
-    }
+    Ok(values::text_of(alloc, output)?)
 }
 
 // What an instance is after the step of a strand.
@@ -70,7 +59,7 @@ fn stepped(alloc: Global, machine: &Machine, strand: &Strand, site: &Site) -> io
     let mut next = machine.copy(alloc)?;
     match next.step(alloc, strand, site) {
         Ok(_) => Ok(next),
-        Err(_) => Err(no_row()),
+        Err(_) => Err(no_meaning()),
     }
 }
 
@@ -122,7 +111,7 @@ fn explored(alloc: Global, machine: Machine, site: &Site) -> io::Result<Outcome>
     if machines.is_empty() {
         Ok(outcome)
     } else {
-        Err(no_row())
+        Err(no_meaning())
     }
 }
 
@@ -154,13 +143,17 @@ fn told(alloc: Global, tasks: &str) -> io::Result<String> {
     text_of(alloc, &outcome)
 }
 
-fn main(rt: HostRuntime) -> io::Result<()> {
-    let alloc = rt.alloc();
-    let rows = fs::read_to_string(&rt, "rows.txt")?;
-    for row in rows.as_str().lines() {
-        let (name, tasks) = row.split_once(' ').ok_or(no_row())?;
-        let told = told(alloc, tasks)?;
-        println!(rt; "{name} => {told}")?;
+/// Adds what comes of each row, which has a name and the tasks of a workflow. A row that begins with `#` stands as it is.
+pub(crate) fn add_orders(alloc: Global, transcript: &mut Vec<u8>, rows: &str) -> io::Result<()> {
+    for row in rows.lines() {
+        if row.starts_with('#') {
+            add_line(transcript, "", row)?;
+        } else {
+            let (name, tasks) = split(row)?;
+            let told = told(alloc, tasks)?;
+            let line = format!(in alloc; "{name} => {told}")?;
+            add_line(transcript, "", line.as_str())?;
+        }
     }
     Ok(())
 }
