@@ -45,11 +45,20 @@ pub struct Settled {
 }
 
 /// An engine over a store that each call names. Contracts see its world and the place of the journal's next gate.
-#[derive(Drop)]
 pub struct Engine {
     alloc: Global,
     world: World,
     journal: Journal,
+}
+
+impl Drop for Engine {
+    fn drop(self) {
+        let Engine {
+            alloc: _alloc,
+            world: _world,
+            journal: _journal,
+        } = self;
+    }
 }
 
 impl Model for Engine {

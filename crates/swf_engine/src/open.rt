@@ -1,5 +1,5 @@
 // How an engine is opened: the frames of its journal are read, and their labels replayed.
-ghost use Rattle.std.specs.Prelude.{◌≡◌, ℕ, true, false, List, Ok, Err, IfOk, is_some};
+ghost use Rattle.std.specs.Prelude.{◌≡◌, ℕ, true, false, List, Ok, Err, IfOk, IfErr, is_some};
 ghost use Rattle.std.specs.Option.{ForSome};
 ghost use Rattle.swf_store.specs.declared.image.File.TheVariants.{Journal as JournalFile};
 ghost use Rattle.swf_store.specs.Disk.{NothingNew};
@@ -11,7 +11,7 @@ ghost use Rattle.swf_engine.specs.Core.{IsEngineOf, most_bytes};
 ghost use Rattle.swf_engine.specs.Damage.{IsDamaged};
 ghost use Rattle.swf_engine.specs.History.{IsHistory};
 ghost use Rattle.swf_engine.specs.Opening.{OpensHistory, IsOpened};
-ghost use Rattle.swf_engine.specs.Reading.{HasReplayed, Reads, ReadsAll};
+ghost use Rattle.swf_engine.specs.Reading.{HasReplayed, HasReadAll, Reads, ReadsAll};
 ghost use Rattle.swf_meaning.specs.World.{empty};
 
 use crate::replay::replay;
@@ -63,10 +63,39 @@ fn read_all<S: Store>(alloc: Global, store: &mut S, reading: Reading) -> Result<
 {
     let mut reading = reading;
     let mut world = World::new(alloc);
+    match read_frames(alloc, store, &mut reading, &mut world) {
+        Ok(()) => Ok(Engine::of(alloc, world, reading.finish())),
+        Err(fault) => Err(fault),
+    }
+}
+
+// Reads the frames that are left and replays their labels.
+fn read_frames<S: Store>(
+    alloc: Global,
+    store: &mut S,
+    reading: &mut Reading,
+    world: &mut World,
+) -> Result<(), EngineFault>
+    requires place { IsReadingOf (S.seen store.old) reading.old }
+    requires file { reading.old.file ≡ JournalFile }
+    ensures place { IsReadingOf (S.seen store.new) reading.new }
+    ensures file { reading.new.file ≡ JournalFile }
+    ensures limit { reading.new.limit ≡ reading.old.limit }
+    ensures ended { IfOk result (λ _. reading.new.ended ≡ true) }
+    ensures read { ForSome (S.seen store.old) (λ image. HasReplayed image.journal reading.old world.old.world → IfOk result (λ _. HasReadAll image.journal reading.new world.new.world)) }
+    ensures stays { ForSome (S.seen store.old) (λ image. HasReplayed image.journal reading.old world.old.world → IfErr result (λ fault. Reads image.journal reading.new world.new.world (Err fault))) }
+    ensures full { (size : ℕ) → result ≡ Err (EngineFault.Full size) → ⊥ }
+    ensures seen { S.seen store.new ≡ S.seen store.old }
+    ensures stop { NothingNew (S.may_leave store.old) (S.may_leave store.new) }
+    ensures any_moment { LeavesOnly S.moment S.left_since S.said store.old store.new (S.may_leave store.old) }
+    ensures said { S.said store.new ≡ S.said store.old }
+    ensures beside { S.beside store.new ≡ S.beside store.old }
+    ensures cause { EngineCause (S.store_faults store.old) (S.store_faults store.new) result }
+{
     for _ in 0..MOST_FRAMES {
-        match read_one(alloc, store, &mut reading, &mut world) {
+        match read_one(alloc, store, reading, world) {
             Ok(true) => {}
-            Ok(false) => return Ok(Engine::of(alloc, world, reading.finish())),
+            Ok(false) => return Ok(()),
             Err(fault) => return Err(fault),
         }
     }

@@ -1,5 +1,5 @@
 -- Lists as far as a reader has come.
-use Rattle.std.proofs.Common.{◌≡◌, ◌∙◌, ap, sym, refl, arith, get_or, ℕ, List, [], ◌∷◌, ◌++◌, length, Option, Some, None}
+use Rattle.std.proofs.Common.{◌≡◌, ap, refl, arith, get_or, List, [], ◌∷◌, ◌++◌, length, Some, None}
 use Rattle.swf_value.specs.Node.{members_of}
 use Rattle.swf_value.specs.declared.value.Member.{Member}
 use Rattle.swf_document.specs.Template.{Template, Templates, no_templates, template, Fields, no_fields, field}

@@ -1,6 +1,6 @@
 -- The parts of a document that hold no tasks, as a value gives them (DSL 1.0.0, reference). What a value without faults
 -- cannot lack is something plain where it is lacking.
-use Rattle.std.specs.Prelude.{◌&&◌, ℕ, pos, List, [], ◌∷◌, Bool, true, false, not, codes, nat_le, Option, Some, None, option_map, option_and_then, unwrap_or, is_some, if◌then◌else◌}
+use Rattle.std.specs.Prelude.{◌&&◌, ℕ, pos, List, [], ◌∷◌, Bool, true, false, not, codes, nat_le, Option, Some, None, option_map, option_and_then, unwrap_or, if◌then◌else◌}
 use Rattle.std.specs.Option.{option_map_or}
 use Rattle.std.specs.Result.{result_unwrap_or}
 use Rattle.swf_text.specs.Same.{same}
@@ -27,7 +27,6 @@ use Rattle.swf_document.specs.declared.error.ErrorRef.TheVariants as error
 use Rattle.swf_document.specs.declared.error.ErrorSpec.{ErrorSpec}
 use Rattle.swf_document.specs.declared.event.Correlation.{Correlation}
 use Rattle.swf_document.specs.declared.event.Filter.{Filter}
-use Rattle.swf_document.specs.declared.event.ListenMode.{ListenMode}
 use Rattle.swf_document.specs.declared.event.ListenMode.TheVariants as mode
 use Rattle.swf_document.specs.declared.event.ListenSpec.{ListenSpec}
 use Rattle.swf_document.specs.declared.retry.RetryPolicy.{RetryPolicy}

@@ -2,7 +2,7 @@
 use Rattle.std.specs.Prelude.{◌≡◌, ◌+◌, ◌++◌, ℕ, List, [], ◌∷◌, codes, Bool, Option, Some, None, option_map, unwrap_or, is_some, if◌then◌else◌}
 use Rattle.std.specs.Fmt.{decimal}
 use Rattle.swf_text.specs.Same.{same}
-use Rattle.swf_value.specs.Value.{Value, null, boolean, int, text, list, object, Items, no_items, item, Members, no_members, member}
+use Rattle.swf_value.specs.Value.{Value, null, list, object, Items, no_items, item, Members, no_members, member}
 use Rattle.swf_value.specs.Members.{at, member_at}
 use Rattle.swf_document.specs.Task.{Tasks, no_tasks, named, Task, task, Kind, call, do_all, emit, for, fork, listen, raise, run, set, switch, try, wait, Handler, no_handler, handler, Loop, Catch}
 use Rattle.swf_document.specs.Template.{constant}

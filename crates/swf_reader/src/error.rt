@@ -141,14 +141,21 @@ pub fn errors_in(alloc: Global, value: &Json) -> Result<ErrorFilter, AllocError>
     })
 }
 
+fn error_named(alloc: Global, member: &Member) -> Result<NamedError, AllocError>
+    ensures { IfOk result (λ e. e ≡ record { name = member.now.name; error = error_in member.now.value }) }
+{
+    let name = member.name.copy()?;
+    let error = error_in(alloc, &member.value)?;
+    Ok(NamedError { name, error })
+}
+
 fn errors_named(alloc: Global, members: &[Member]) -> Result<Vec<NamedError>, AllocError>
     ensures { IfOk result (λ v. v.items ≡ errors_named (members_of members.now)) }
 {
     let mut errors = Vec::new(alloc);
     for member in members {
-        let name = member.name.copy()?;
-        let error = error_in(alloc, &member.value)?;
-        errors.push(NamedError { name, error })?;
+        let error = error_named(alloc, member)?;
+        errors.push(error)?;
     }
     Ok(errors)
 }
@@ -164,14 +171,21 @@ pub fn errors_of(alloc: Global, value: &Json) -> Result<Listing<NamedError>, All
     Listing::of(alloc, errors)
 }
 
+fn retry_named(alloc: Global, member: &Member) -> Result<NamedRetry, AllocError>
+    ensures { IfOk result (λ r. r ≡ record { name = member.now.name; policy = policy_in member.now.value }) }
+{
+    let name = member.name.copy()?;
+    let policy = policy_in(alloc, &member.value)?;
+    Ok(NamedRetry { name, policy })
+}
+
 fn retries_named(alloc: Global, members: &[Member]) -> Result<Vec<NamedRetry>, AllocError>
     ensures { IfOk result (λ v. v.items ≡ retries_named (members_of members.now)) }
 {
     let mut retries = Vec::new(alloc);
     for member in members {
-        let name = member.name.copy()?;
-        let policy = policy_in(alloc, &member.value)?;
-        retries.push(NamedRetry { name, policy })?;
+        let retry = retry_named(alloc, member)?;
+        retries.push(retry)?;
     }
     Ok(retries)
 }

@@ -1,12 +1,12 @@
 // Tasks, which hold lists of tasks.
-ghost use Rattle.std.specs.Prelude.{◌≡◌, IfOk, codes, IsTrue, option_map, unwrap_or};
+ghost use Rattle.std.specs.Prelude.{◌≡◌, ◌∷◌, ◌++◌, [], IfOk, codes, IsTrue, option_map, unwrap_or};
 ghost use Rattle.swf_text.specs.Same.{is_ascii};
 ghost use Rattle.swf_value.specs.Value.{object};
 ghost use Rattle.swf_value.specs.Node.{items_of, members_of};
 ghost use Rattle.swf_document.specs.declared.common.Flow.TheVariants.{Continue};
 ghost use Rattle.swf_shapes.specs.declared.shape.Task.TheVariants.{For, Fork, Try};
 ghost use Rattle.swf_document.specs.TaskNode.{handler_of as held_handler, kind_of, task_of, tasks_of};
-ghost use Rattle.swf_reader.specs.Parts.{common_in, flow_at};
+ghost use Rattle.swf_reader.specs.Parts.{common_in, flow_at, transform_at};
 ghost use Rattle.swf_reader.specs.Reads.{keyword_in, task_of_seen, handler_of, named_of, added, variable_at, loop_in, caught_kind, plain_kind, tasks_in, items_in, item_in, task_in, kind_in, tasks_at, tasks_under, tasks_inside, functions_in, functions_of};
 
 use crate::call::{callee_in, run_in};
@@ -22,15 +22,40 @@ use swf_shapes::{Seen, Task as Word, child, field, has, keyword_task, position, 
 use swf_text::{Place, Text, word};
 use swf_value::{Json, JsonNode, Member};
 
-fn common_in(alloc: Global, place: &Place, value: &Json) -> Result<Common, AllocError>
-    ensures { IfOk result (λ c. c ≡ common_in place.now value.now) }
+// What a task makes of its input, its output and its context.
+#[derive(Drop)]
+struct Transforms {
+    input_from: Option<Template>,
+    output_as: Option<Template>,
+    export_as: Option<Template>,
+}
+
+fn transforms_in(alloc: Global, value: &Json) -> Result<Transforms, AllocError>
+    ensures input { IfOk result (λ t. t.input_from ≡ transform_at (codes "input") (codes "from") value.now) }
+    ensures output { IfOk result (λ t. t.output_as ≡ transform_at (codes "output") (codes "as") value.now) }
+    ensures export { IfOk result (λ t. t.export_as ≡ transform_at (codes "export") (codes "as") value.now) }
 {
-    let cond = expression_at(alloc, value, "if")?;
     let input_from = transform_at(alloc, value, "input", "from")?;
     let output_as = transform_at(alloc, value, "output", "as")?;
     let export_as = transform_at(alloc, value, "export", "as")?;
-    let flow = flow_or_next(alloc, value)?;
+    Ok(Transforms {
+        input_from,
+        output_as,
+        export_as,
+    })
+}
+
+fn common_in(alloc: Global, place: &Place, value: &Json) -> Result<Common, AllocError>
+    ensures { IfOk result (λ c. c ≡ common_in place.now value.now) }
+{
     let place = place.pointed(alloc)?;
+    let cond = expression_at(alloc, value, "if")?;
+    let flow = flow_or_next(alloc, value)?;
+    let Transforms {
+        input_from,
+        output_as,
+        export_as,
+    } = transforms_in(alloc, value)?;
     Ok(Common {
         cond,
         input_from,
@@ -389,16 +414,24 @@ fn tasks_inside(alloc: Global, place: &Place, value: &Json, name: &str) -> Resul
     }
 }
 
+fn function_in(alloc: Global, place: &Place, member: &Member) -> Result<Named, AllocError>
+    ensures name { IfOk result (λ n. n.name ≡ member.now.name) }
+    ensures task { IfOk result (λ n. task_of n.task ≡ task_in (place.now ++ member.now.name ∷ []) member.now.value) }
+{
+    let name = member.name.copy()?;
+    let place = child(alloc, place, member.name.copy()?)?;
+    let task = task_in(alloc, &place, &member.value)?;
+    Ok(Named { name, task })
+}
+
 #[tactic(auto, using(std::proofs::lemmas::Grind::common_steps, crate::proofs::TaskLemmas::tasks_push, crate::proofs::TaskLemmas::tasks_all))]
 fn functions_in(alloc: Global, place: &Place, members: &[Member]) -> Result<Vec<Named>, AllocError>
     ensures { IfOk result (λ v. tasks_of v.items ≡ functions_in place.now (members_of members.now)) }
 {
     let mut functions = Vec::new(alloc);
     for member in members {
-        let name = member.name.copy()?;
-        let place = child(alloc, place, member.name.copy()?)?;
-        let task = task_in(alloc, &place, &member.value)?;
-        functions.push(Named { name, task })?;
+        let function = function_in(alloc, place, member)?;
+        functions.push(function)?;
     }
     Ok(functions)
 }

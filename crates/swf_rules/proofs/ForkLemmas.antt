@@ -1,5 +1,5 @@
 -- Whether a `fork` has room for its branches.
-use Rattle.std.proofs.Common.{◌≡◌, ◌∙◌, ◌+◌, ◌<◌, ◌≤◌, List, [], ◌∷◌, length, None, refl, ap, sym, arith}
+use Rattle.std.proofs.Common.{◌≡◌, ◌∙◌, ◌+◌, ◌<◌, ◌≤◌, List, [], ◌∷◌, length, refl, ap, sym, arith}
 use Rattle.std.proofs.lemmas.Bool.{le-leb, lt-leb}
 use Rattle.std.specs.Prelude.{Bool, codes, if◌then◌else◌}
 use Rattle.swf_value.specs.Value.{Value}
@@ -12,8 +12,6 @@ use Rattle.swf_meaning.specs.Fork.{branches_in_kind, branches_of, count, fresh, 
 use Rattle.swf_meaning.specs.Node.{Live, Forked}
 use Rattle.swf_meaning.specs.Parts.{kind_of}
 use Rattle.swf_meaning.specs.Sight.{Sight}
-use Rattle.swf_scene.specs.Stack.{stepped_of}
-use Rattle.swf_scene.specs.declared.made.Top.TheVariants as tops
 
 -- as many branches as tasks
 pub count-fresh : (ns : List Named) (u : Value) → count (fresh (tasks_of ns) u) ≡ length ns
@@ -46,8 +44,3 @@ forking-begins s t v u compete ns ts e k some few =
     ∙ ap (λ x. becomes s (Live t v u (Forked (fresh x u)))) (sym e)
     ∙ sym (split-some s t v u ns some)
     ∙ sym (forking-room s t v u ns ts e few)
-
--- what is made of a task, its input and the context
-pub forked-made : (s : Sight) (t x : Task) (v y u z w : Value) → x ≡ t → y ≡ v → z ≡ u → w ≡ s.context
-    → stepped_of (record { frame = None; top = tops.Forked x y z; context = w; emitted = None }) ≡ becomes s (Live t v u (Forked (fresh (branches_of t) u)))
-forked-made s t x v y u z w p q k h = cc

@@ -17,7 +17,7 @@ use Rattle.swf_meaning.specs.Node.{Node, Live, At, Round}
 use Rattle.swf_meaning.specs.Sight.{Sight, within}
 use Rattle.swf_scene.proofs.HaltLemmas.{Gives-got, Gives-passed}
 use Rattle.swf_scene.specs.Halts.{Gives, IsGot}
-use Rattle.swf_scene.specs.Stack.{plug, made_node, round_of, stepped_of}
+use Rattle.swf_scene.specs.Stack.{plug, made_node, stepped_of}
 use Rattle.swf_scene.specs.declared.made.Frame.{Frame}
 use Rattle.swf_scene.specs.declared.halt.Halt.{Halt}
 use Rattle.swf_scene.specs.declared.made.Made.{Made}

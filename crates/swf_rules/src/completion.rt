@@ -1,11 +1,11 @@
 // How a task ends (DSL 1.0.0, "Data flow").
-ghost use Rattle.std.specs.Prelude.{◌≡◌};
+ghost use Rattle.std.specs.Prelude.{◌≡◌, None};
 ghost use Rattle.swf_transform.specs.Fill.{transformed};
 ghost use Rattle.swf_meaning.specs.Parts.{common_of};
 ghost use Rattle.swf_meaning.specs.Sight.{before, within, behind};
 ghost use Rattle.swf_meaning.specs.Complete.{exported, finished, complete_by, complete};
 ghost use Rattle.swf_scene.specs.Halts.{Gives, IsGot};
-ghost use Rattle.swf_scene.specs.Stack.{sight_of, stepped_of};
+ghost use Rattle.swf_scene.specs.Stack.{sight_of, made_node, stepped_of};
 
 use std::alloc::Global;
 use swf_document::{ErrorKind, Flow};
@@ -50,9 +50,16 @@ pub fn output_of(
 pub fn finished(output: Json, flow: Flow, context: Json) -> Made
     ensures { stepped_of result ≡ finished output flow context }
 {
+    becoming(Top::Done { output, flow }, context)
+}
+
+/// What a task comes to in which nothing runs, with this context.
+pub fn becoming(top: Top, context: Json) -> Made
+    ensures { stepped_of result ≡ record { node = made_node top; context = context; emitted = None } }
+{
     Made {
         frame: None,
-        top: Top::Done { output, flow },
+        top,
         context,
         emitted: None,
     }

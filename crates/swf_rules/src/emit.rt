@@ -1,16 +1,15 @@
 // An `emit` (DSL 1.0.0, reference, "Emit").
 ghost use Rattle.std.specs.Prelude.{◌≡◌, IfOk, decimal};
-ghost use Rattle.swf_meaning.specs.Complete.{becomes, complete};
+ghost use Rattle.swf_meaning.specs.Complete.{complete};
 ghost use Rattle.swf_meaning.specs.Emit.{next_id, with_own, sending, emits, emitting};
 ghost use Rattle.swf_cloudevents.specs.Event.{event_of};
 ghost use Rattle.swf_scene.specs.Halts.{Gives};
 ghost use Rattle.swf_scene.specs.Stack.{sight_of, stepped_of};
-ghost use Rattle.swf_meaning.specs.Node.{Fault};
 
-use crate::completion::complete;
+use crate::completion::{becoming, complete};
 use std::alloc::{AllocError, Global};
 use swf_cloudevents::{EventFault, read_event};
-use swf_document::{ErrorKind, Problem, Template};
+use swf_document::{ErrorKind, Template};
 use swf_scene::{Halt, Made, Scene, SentEvent, TaskRef, Top, fails, value_of, within};
 use swf_text::{Text, TextBuilder, word};
 use swf_transform::fill;
@@ -77,21 +76,12 @@ fn completed(
 {
     match complete(alloc, scene, task, raw, input, input.copy()?) {
         Ok(made) => Ok(made),
-        Err(Halt::Fault(problem)) => faulted(scene, problem),
+        Err(Halt::Fault(problem)) => {
+            let context = scene.context.copy()?;
+            Ok(becoming(Top::Fault(problem), context))
+        }
         Err(Halt::OutOfMemory) => Err(AllocError),
     }
-}
-
-// A task that has ended in an error.
-fn faulted(scene: &Scene, problem: Problem) -> Result<Made, AllocError>
-    ensures { IfOk result (λ m. stepped_of m ≡ becomes (sight_of scene.entry.now) (Fault problem)) }
-{
-    Ok(Made {
-        context: scene.context.copy()?,
-        frame: None,
-        top: Top::Fault(problem),
-        emitted: None,
-    })
 }
 
 // With the event that goes out.

@@ -7,7 +7,7 @@ ghost use Rattle.swf_rules.specs.Settles.{Settles};
 ghost use Rattle.swf_scene.specs.Halts.{Gives};
 ghost use Rattle.swf_scene.specs.Stack.{sight_of};
 
-use crate::completion::{complete, finished};
+use crate::completion::{becoming, complete, finished};
 use std::alloc::Global;
 use swf_document::{ErrorKind, Flow, ForkSpec};
 use swf_scene::{Halt, Made, Scene, TaskRef, Top, fails};
@@ -36,16 +36,13 @@ pub fn forking(
         let outputs = Json::list(alloc, Vec::new(alloc))?;
         return complete(alloc, scene, task, raw, input, outputs);
     }
-    Ok(Made {
-        frame: None,
-        top: Top::Forked {
-            task: task.copy()?,
-            raw: raw.copy()?,
-            input: input.copy()?,
-        },
-        context: scene.context.copy()?,
-        emitted: None,
-    })
+    let context = scene.context.copy()?;
+    let top = Top::Forked {
+        task: task.copy()?,
+        raw: raw.copy()?,
+        input: input.copy()?,
+    };
+    Ok(becoming(top, context))
 }
 
 /// What becomes of a `fork` one of whose branches ended, with the outputs of all once all are done; none where the others go on.

@@ -14,7 +14,7 @@ ghost use Rattle.swf_jq_builtins.specs.Operations.{is_same};
 ghost use Rattle.swf_scene.specs.Halts.{Gives};
 ghost use Rattle.swf_scene.specs.Stack.{sight_of};
 
-use crate::completion::complete;
+use crate::completion::{becoming, complete};
 use std::alloc::{AllocError, Global};
 use swf_cloudevents::{Event, NamedValues, Payload, event_json};
 use swf_document::{Correlation, ErrorKind, Filter, ListenSpec, Listing};
@@ -112,18 +112,16 @@ pub fn listening(
 {
     let vars = within(alloc, scene, task, raw, input)?;
     let bound = bound_of(alloc, task, &vars, input, spec.filters.as_slice())?;
-    Ok(Made {
-        frame: None,
-        top: Top::Hearing {
-            task: task.copy()?,
-            raw: raw.copy()?,
-            input: input.copy()?,
-            bound,
-            heard: Listing::of(alloc, Vec::new(alloc))?,
-        },
-        context: scene.context.copy()?,
-        emitted: None,
-    })
+    let context = scene.context.copy()?;
+    let heard = Listing::of(alloc, Vec::new(alloc))?;
+    let top = Top::Hearing {
+        task: task.copy()?,
+        raw: raw.copy()?,
+        input: input.copy()?,
+        bound,
+        heard,
+    };
+    Ok(becoming(top, context))
 }
 
 // Whether the filter of a place has an event.

@@ -1,5 +1,5 @@
 // How a list of tasks runs (DSL 1.0.0, "Do" and "Flow directives"; reference, "For").
-ghost use Rattle.std.specs.Prelude.{◌≡◌, ◌∷◌, [], IfOk, Some, None, if◌then◌else◌};
+ghost use Rattle.std.specs.Prelude.{◌≡◌, ◌<◌, ◌-◌, ◌^◌, ◌∷◌, [], IfOk, Some, None, if◌then◌else◌};
 ghost use Rattle.swf_meaning.specs.Lists.{comes_to, list_ended, turn, turn_guarded, turn_begins, begins_with, guard_in, list_of};
 ghost use Rattle.swf_meaning.specs.Next.{task_at};
 ghost use Rattle.swf_meaning.specs.Node.{Node, Live, At};
@@ -37,23 +37,13 @@ pub fn comes_to(
     let Some(child) = task.child(&round, place)? else {
         return list_ended(alloc, scene, task, raw, input, round, value);
     };
-    let frame = Frame {
-        task: task.copy()?,
-        raw: raw.copy()?,
-        input: input.copy()?,
-        round,
-        place,
+    let context = scene.context.copy()?;
+    let frame = in_round(alloc, task, raw, input, round, place)?;
+    let top = Top::Fresh {
+        task: child,
+        raw: value,
     };
-    let frame = SharedFrame::new(alloc, frame)?;
-    Ok(Made {
-        frame: Some(frame),
-        top: Top::Fresh {
-            task: child,
-            raw: value,
-        },
-        context: scene.context.copy()?,
-        emitted: None,
-    })
+    Ok(running(frame, top, context))
 }
 
 /// A task's list has ended with a value: a `for` goes on to its next turn, and any other task is complete.
@@ -161,9 +151,9 @@ fn turn_begins(
     ensures { Gives (sight_of scene.entry.now) (turn_begins (sight_of scene.entry.now) task.now raw.now input.now (round_of round) value) result }
 {
     let context = scene.context.copy()?;
-    let top = begins_with(task, &round, value)?;
-    let frame = in_round(alloc, task, raw, input, round)?;
-    Ok(running(frame, top, context))
+    let child = task.child(&round, 0)?;
+    let frame = in_round(alloc, task, raw, input, round, 0)?;
+    Ok(running(frame, begins_with(child, value), context))
 }
 
 // A task that runs, with what stands in it.
@@ -178,31 +168,33 @@ fn running(frame: SharedFrame, top: Top, context: Json) -> Made
     }
 }
 
-// The task as it runs in a round, at the first place of its list.
+// The task as it runs in a round, at a place of its list.
 fn in_round(
     alloc: Global,
     task: &TaskRef,
     raw: &Json,
     input: &Json,
     round: Round,
+    place: usize,
 ) -> Result<SharedFrame, AllocError>
-    ensures { IfOk result (λ f. (n : Node) → plug (f ∷ []) n ≡ Live task.now raw.now input.now (At (round_of round) 0 n)) }
+    requires { place < 2 ^ 64 - 1 }
+    ensures { IfOk result (λ f. (n : Node) → plug (f ∷ []) n ≡ Live task.now raw.now input.now (At (round_of round) place n)) }
 {
     let frame = Frame {
         task: task.copy()?,
         raw: raw.copy()?,
         input: input.copy()?,
         round,
-        place: 0,
+        place,
     };
     SharedFrame::new(alloc, frame)
 }
 
 // The first task of the list begins with a value; a list without tasks gives that value.
-fn begins_with(task: &TaskRef, round: &Round, value: Json) -> Result<Top, AllocError>
-    ensures { IfOk result (λ t. made_node t ≡ begins_with value (task_at (list_of task.now (round_of round.now)) 0)) }
+fn begins_with(child: Option<TaskRef>, value: Json) -> Top
+    ensures { made_node result ≡ begins_with value child }
 {
-    Ok(match task.child(round, 0)? {
+    match child {
         Some(child) => Top::Fresh {
             task: child,
             raw: value,
@@ -211,5 +203,5 @@ fn begins_with(task: &TaskRef, round: &Round, value: Json) -> Result<Top, AllocE
             output: value,
             flow: Flow::Continue,
         },
-    })
+    }
 }

@@ -9,6 +9,7 @@ ghost use Rattle.swf_scene.specs.TaskRef.{catch_of};
 
 use crate::completion::complete;
 use crate::lists::comes_to;
+use crate::wait::waiting_until;
 use std::alloc::Global;
 use swf_document::{
     ErrorKind, NamedRetry, Problem, RetryPolicy, RetryRef, TrySpec, matches_filter, unboxed,
@@ -16,7 +17,7 @@ use swf_document::{
 use swf_expr::Expr;
 use swf_jq_builtins::is_true;
 use swf_jq_eval::Vars;
-use swf_scene::{Halt, Made, Round, Scene, TaskRef, Top, catching, fails, retrying, value_of};
+use swf_scene::{Halt, Made, Round, Scene, TaskRef, catching, fails, retrying, value_of};
 use swf_text::{Text, same_texts};
 use swf_transform::first;
 use swf_value::Json;
@@ -124,18 +125,7 @@ fn later(
     ) else {
         return Err(Halt::OutOfMemory);
     };
-    Ok(Made {
-        frame: None,
-        top: Top::Waiting {
-            task: task.copy()?,
-            raw: raw.copy()?,
-            input: input.copy()?,
-            retries: Some(retry),
-            until,
-        },
-        context: scene.context.copy()?,
-        emitted: None,
-    })
+    waiting_until(scene, task, raw, input, Some(retry), until)
 }
 
 // A `try` is made again by a policy where it allows that, or its error is handled.

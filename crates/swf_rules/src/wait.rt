@@ -1,15 +1,39 @@
 // Waiting until a moment (DSL 1.0.0, reference, "Wait" and "Retry").
 ghost use Rattle.swf_document.specs.Task.{wait};
+ghost use Rattle.swf_meaning.specs.Complete.{becomes};
 ghost use Rattle.swf_meaning.specs.Enter.{begun};
+ghost use Rattle.swf_meaning.specs.Node.{Live};
 ghost use Rattle.swf_scene.specs.Halts.{Gives};
-ghost use Rattle.swf_scene.specs.Stack.{sight_of};
+ghost use Rattle.swf_scene.specs.Stack.{sight_of, waiting};
 ghost use Rattle.swf_rules.specs.Woken.{woken_to};
 
-use crate::completion::complete;
+use crate::completion::{becoming, complete};
 use crate::lists::comes_to;
 use std::alloc::Global;
 use swf_scene::{Halt, Made, Round, Scene, TaskRef, Top};
 use swf_value::Json;
+
+/// A task waits until a moment, a `try` for the retry of this number.
+pub fn waiting_until(
+    scene: &Scene,
+    task: &TaskRef,
+    raw: &Json,
+    input: &Json,
+    retries: Option<u64>,
+    until: u64,
+) -> Result<Made, Halt>
+    ensures { Gives (sight_of scene.entry.now) (becomes (sight_of scene.entry.now) (Live task.now raw.now input.now (waiting retries until))) result }
+{
+    let context = scene.context.copy()?;
+    let top = Top::Waiting {
+        task: task.copy()?,
+        raw: raw.copy()?,
+        input: input.copy()?,
+        retries,
+        until,
+    };
+    Ok(becoming(top, context))
+}
 
 /// A `wait` begins.
 pub fn waiting(
@@ -24,18 +48,7 @@ pub fn waiting(
     let Some(until) = scene.now.milliseconds().checked_add(duration) else {
         return Err(Halt::OutOfMemory);
     };
-    Ok(Made {
-        frame: None,
-        top: Top::Waiting {
-            task: task.copy()?,
-            raw: raw.copy()?,
-            input: input.copy()?,
-            retries: None,
-            until,
-        },
-        context: scene.context.copy()?,
-        emitted: None,
-    })
+    waiting_until(scene, task, raw, input, None, until)
 }
 
 /// The moment has come: a `wait` is complete, and a `try` is made again.

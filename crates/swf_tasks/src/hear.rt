@@ -77,12 +77,13 @@ pub fn offered(alloc: Global, top: &Top, event: &Event) -> Result<Option<Top>, A
     let Some((bound, one)) = taken(alloc, task, bound, heard, event)? else {
         return Ok(None);
     };
+    let heard = with_heard(alloc, heard, one)?;
     Ok(Some(Top::Hearing {
         task: task.copy()?,
         raw: raw.copy()?,
         input: input.copy()?,
         bound,
-        heard: with_heard(alloc, heard, one)?,
+        heard,
     }))
 }
 

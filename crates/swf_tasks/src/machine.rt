@@ -228,14 +228,17 @@ impl Machine {
             number,
             ..
         } = &self.setting;
-        let node = Node::of(self.forest.copy(alloc)?);
+        let (input, context) = (input.copy()?, context.copy()?);
+        let id = id.copy()?;
+        let forest = self.forest.copy(alloc)?;
+        let key = document.document().key.copy()?;
         Ok(InstanceView {
-            id: id.copy()?,
-            key: document.document().key.copy()?,
-            input: input.copy()?,
+            id,
+            key,
+            input,
             started: *started,
-            context: context.copy()?,
-            node,
+            context,
+            node: Node::of(forest),
             number: *number,
         })
     }

@@ -4,7 +4,7 @@ ghost use Rattle.swf_document.specs.TaskNode.{tasks_of};
 ghost use Rattle.swf_document.specs.declared.fault.FaultKind.TheVariants.{TooMany};
 ghost use Rattle.swf_validate.specs.Calls.{calls_of};
 ghost use Rattle.swf_validate.specs.Count.{count_tasks};
-ghost use Rattle.swf_validate.specs.DocumentFaults.{known_in, most_tasks, workflow_variables, output_variables, errors_faults, retries_faults, functions_faults, use_faults, scope_faults};
+ghost use Rattle.swf_validate.specs.DocumentFaults.{known_in, outermost, most_tasks, workflow_variables, output_variables, errors_faults, retries_faults, functions_faults, use_faults, scope_faults};
 ghost use Rattle.swf_scope.specs.Names.{nowhere};
 ghost use Rattle.swf_scope.specs.Scope.{fault_unless, filled_faults};
 ghost use Rattle.swf_scope.specs.ScopeView.{known_of, scope_of};
@@ -146,6 +146,38 @@ fn functions(
     Ok(())
 }
 
+/// The faults of what tasks use by name.
+fn used(
+    alloc: Global,
+    document: &Document,
+    scope: &Scope<'_>,
+    out: &mut Faults,
+) -> Result<(), AllocError>
+    requires { scope_of scope.now ≡ outermost document.now }
+    ensures { OnOk result (out.new ≡ out.old ++ use_faults document.now) }
+{
+    errors(alloc, document.errors.as_slice(), out)?;
+    functions(alloc, scope, document.functions.as_slice(), out)?;
+    retries(alloc, document.retries.as_slice(), out)
+}
+
+/// The faults of all members of a document.
+fn whole(
+    alloc: Global,
+    document: &Document,
+    scope: &Scope<'_>,
+    out: &mut Faults,
+) -> Result<(), AllocError>
+    requires { scope_of scope.now ≡ outermost document.now }
+    ensures { OnOk result (out.new ≡ out.old ++ scope_faults document.now) }
+{
+    size(alloc, document, out)?;
+    list(alloc, scope, &document.tasks, out)?;
+    input(alloc, document, out)?;
+    output(alloc, document, out)?;
+    used(alloc, document, scope, out)
+}
+
 /// All faults of scope of a document.
 pub fn scope_faults(alloc: Global, document: &Document) -> Result<Faults, AllocError>
     ensures { IfOk result (λ faults. faults ≡ scope_faults document.now) }
@@ -163,12 +195,6 @@ pub fn scope_faults(alloc: Global, document: &Document) -> Result<Faults, AllocE
         around: &around,
     };
     let mut out = Faults::new(alloc);
-    size(alloc, document, &mut out)?;
-    list(alloc, &scope, &document.tasks, &mut out)?;
-    input(alloc, document, &mut out)?;
-    output(alloc, document, &mut out)?;
-    errors(alloc, document.errors.as_slice(), &mut out)?;
-    functions(alloc, &scope, document.functions.as_slice(), &mut out)?;
-    retries(alloc, document.retries.as_slice(), &mut out)?;
+    whole(alloc, document, &scope, &mut out)?;
     Ok(out)
 }

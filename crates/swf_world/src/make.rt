@@ -52,12 +52,11 @@ impl World {
         let (alloc, now) = (self.alloc, self.moment);
         let words = self.words.as_ref().ok_or(AllocError)?;
         let site = Site { now, words };
-        let instance = Machine::begin(alloc, id.copy()?, document.copy()?, input.copy()?, &site)?;
-        Ok(untold(ChangeKind::Start {
-            id: id.copy()?,
-            used: Key::Instance(id.copy()?),
-            instance: BoxedMachine::new(alloc, instance)?,
-        }))
+        let begun = Machine::begin(alloc, id.copy()?, document.copy()?, input.copy()?, &site)?;
+        let instance = BoxedMachine::new(alloc, begun)?;
+        let used = Key::Instance(id.copy()?);
+        let id = id.copy()?;
+        Ok(untold(ChangeKind::Start { id, used, instance }))
     }
 }
 

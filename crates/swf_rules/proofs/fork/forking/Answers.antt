@@ -1,9 +1,10 @@
-use Rattle.std.proofs.Common.{◌∙◌, ◌<◌, ◌+◌, ◌≤◌, length, Err, sym, arith}
+use Rattle.std.proofs.Common.{◌∙◌, ◌<◌, ◌+◌, ◌≤◌, length, Err, None, sym, arith}
 use Rattle.std.specs.Prelude.{codes}
 use Rattle.swf_document.specs.declared.error.ErrorKind.TheVariants as kinds
-use Rattle.swf_scene.specs.Stack.{sight_of}
+use Rattle.swf_scene.specs.Stack.{sight_of, made_node}
 use Rattle.swf_scene.proofs.HaltLemmas.{Gives-fails, Gives-same}
-use Rattle.swf_rules.proofs.ForkLemmas.{forking-full, forking-begins, forked-made}
+use Rattle.swf_scene.specs.declared.made.Top.TheVariants as tops
+use Rattle.swf_rules.proofs.ForkLemmas.{forking-full, forking-begins}
 use Rattle.swf_rules.proofs.fork.forking.Goals as goal
 use Rattle.swf_rules.proofs.fork.forking.Goals.{then-more-gt-MOST_BRANCHES-via-then-more-gt-MOST_BRANCHES, then-more-gt-MOST_BRANCHES-via-else-more-gt-MOST_BRANCHES+then-scene-more}
 
@@ -21,5 +22,6 @@ returns c =
     let ns = c.as_slice-more.result.now in
     let some : 0 < length ns = omega arith in
     let few : c.args.scene.now.branches + length ns ≤ 256 = omega arith in
-    forked-made s c.args.task.now c.in_ok-copy.field-0 c.args.raw.now c.in_ok-copy-2.field-0 c.args.input.now c.in_ok-copy-3.field-0 c.in_ok-copy-4.field-0 c.in_ok-copy.ensures c.in_ok-copy-2.ensures c.in_ok-copy-3.ensures c.in_ok-copy-4.ensures
+    c.becoming.ensures
+    ∙ (λ i. record { node = made_node (tops.Forked (c.in_ok-copy.ensures i) (c.in_ok-copy-2.ensures i) (c.in_ok-copy-3.ensures i)); context = c.in_ok-context.ensures i; emitted = None })
     ∙ forking-begins s c.args.task.now c.args.raw.now c.args.input.now c.args.spec.now.compete ns c.args.spec.now.branches c.as_slice-more.ensures c.requires some few

@@ -1,12 +1,11 @@
-use Rattle.std.proofs.Common.{◌≡◌, ◌∙◌, sym, subst, List, [], Ok, Err, None, Result}
+use Rattle.std.proofs.Common.{◌∙◌, sym, subst, List, Ok, Err, None, Result}
 use Rattle.swf_document.specs.declared.event.Filter.{Filter}
 use Rattle.swf_jq_eval.specs.declared.vars.Variable.{Variable}
 use Rattle.swf_value.specs.Value.{Members, no_members}
-use Rattle.swf_meaning.specs.Complete.{Stepped, becomes}
 use Rattle.swf_meaning.specs.Listen.{correlations}
-use Rattle.swf_meaning.specs.Node.{Live, Hear}
 use Rattle.swf_meaning.specs.Sight.{within}
-use Rattle.swf_scene.specs.Stack.{sight_of}
+use Rattle.swf_scene.specs.Stack.{sight_of, made_node}
+use Rattle.swf_scene.specs.declared.made.Top.TheVariants as tops
 use Rattle.swf_scene.specs.declared.halt.Halt.{Halt}
 use Rattle.swf_rules.specs.Sends.{AreExpected}
 use Rattle.swf_rules.proofs.ListenLemmas.{listening-ended, listening-bound}
@@ -34,7 +33,5 @@ returns c =
     let o : Result Members Halt = Ok b in
     let e = subst (λ (r : List Variable). AreExpected t r u (correlations c.as_slice.result.now) no_members o) c.in_ok-vars.ensures c.in_ok-bound.ensures in
     let begins = listening-bound s t v u c.args.spec.now b (subst (λ (fs : List Filter). AreExpected t (within s t v u) u (correlations fs) no_members o) c.as_slice.ensures e) in
-    let empty = c.in_ok-of.ensures ∙ c.new.ensures.items in
-    let made : ◌≡◌ {A = Stepped} (record { node = Live c.in_ok-copy.field-0 c.in_ok-copy-2.field-0 c.in_ok-copy-3.field-0 (Hear c.bound.inside.members c.in_ok-of.field-0); context = c.in_ok-copy-4.field-0; emitted = None }) (becomes s (Live t v u (Hear b []))) =
-    λ i. record { node = Live (c.in_ok-copy.ensures i) (c.in_ok-copy-2.ensures i) (c.in_ok-copy-3.ensures i) (Hear (c.bound.view_is i) (empty i)); context = c.in_ok-copy-4.ensures i; emitted = None }
-    in made ∙ sym begins
+    let empty = c.in_ok-heard.ensures ∙ c.new.ensures.items in
+    c.becoming.ensures ∙ (λ i. record { node = made_node (tops.Hearing (c.in_ok-copy.ensures i) (c.in_ok-copy-2.ensures i) (c.in_ok-copy-3.ensures i) b (empty i)); context = c.in_ok-context.ensures i; emitted = None }) ∙ sym begins

@@ -4,10 +4,8 @@ use Rattle.swf_store.specs.declared.image.File.TheVariants.{Journal}
 use Rattle.swf_store.specs.Disk.{NothingNew}
 use Rattle.swf_store.specs.Stops.{LeavesOnly}
 use Rattle.swf_journal.specs.Place.{IsReadingOf}
-use Rattle.swf_meaning.specs.World.{empty}
-use Rattle.swf_engine.specs.Core.{most_bytes}
 use Rattle.swf_engine.specs.Reading.{HasReplayed}
-use Rattle.swf_engine.proofs.open.read_all.Given as goal
+use Rattle.swf_engine.proofs.open.read_frames.Given as goal
 
 -- how far the frames are read, and what stays
 abbrev pub invariant-loop : goal.invariant-loop
@@ -16,8 +14,8 @@ invariant-loop g l =
     record {
       place : IsReadingOf (S.seen l.store) l.reading;
       file : l.reading.file ≡ Journal;
-      limit : l.reading.limit ≡ most_bytes;
-      reads : ForSome (S.seen l.fn.store) (λ image. HasReplayed image.journal l.fn.reading empty → HasReplayed image.journal l.reading l.world.world);
+      limit : l.reading.limit ≡ l.fn.reading.limit;
+      reads : ForSome (S.seen l.fn.store) (λ image. HasReplayed image.journal l.fn.reading l.fn.world.world → HasReplayed image.journal l.reading l.world.world);
       seen : S.seen l.store ≡ S.seen l.fn.store;
       stop : NothingNew (S.may_leave l.fn.store) (S.may_leave l.store);
       any_moment : LeavesOnly S.moment S.left_since S.said l.fn.store l.store (S.may_leave l.fn.store);
