@@ -16,6 +16,7 @@ use Rattle.swf_jq_builtins.specs.Builtins.{plain, with_one}
 use Rattle.swf_jq_eval.specs.Run.{Ending, Run, gives, made, made_of, over, across, each, clean, gave, same_truth, until, decided, decides, ended}
 use Rattle.swf_jq_eval.specs.Goes.{ahead, Comes, Goes, ending_of}
 use Rattle.swf_jq_eval.specs.declared.outputs.Ending.{Ending as Ends}
+use Rattle.swf_jq_eval.specs.declared.outputs.Ending.TheVariants as ends
 use Rattle.swf_jq_eval.specs.declared.outputs.Stop.{Stop}
 use Rattle.swf_expr.specs.declared.expr.ExprNode.{ExprNode}
 use Rattle.swf_jq_eval.specs.declared.outputs.Out.{Out}
@@ -74,6 +75,16 @@ until_found want f (y ∷ xs) zero x mid new o l q h b =
     ap (λ (c : Bool). ahead new (if c then made (boolean want) else ended (ending_of o.end) (until want f xs))) (sym b)
     ∙ made_from F mid new (f x) o h ∙ ap (λ z. ahead mid (decided want (f z) (until want f xs))) q
 until_found want f (y ∷ xs) (suc i) x mid new o l q h b = until_found want f xs i x mid new o (omega (arith, l)) q h b
+
+pub until_on : (want : Bool) (f : Value → Run) (xs : List Value) (i : ℕ) (x : Value) (mid new : Out) (o : Outputs) → i < length xs → x ≡ get_or xs i x
+    → Comes mid (f x) new (Ok o) → list_any (λ v. same_truth (is_true v) want) o.values.items ≡ false → o.end ≡ ends.Clean → ahead new (until want f (drop (suc i) xs)) ≡ ahead mid (until want f (drop i xs))
+until_on want f [] i x mid new o l q h b e = absurd (omega (arith, l))
+until_on want f (y ∷ xs) zero x mid new o l q h b e =
+    let F = λ (vs : List Value) (e : Ending). if list_any (λ v. same_truth (is_true v) want) vs then made (boolean want) else ended e (until want f xs) in
+    ap (λ (e : Ends). ahead new (ended (ending_of e) (until want f xs))) (sym e)
+    ∙ ap (λ (c : Bool). ahead new (if c then made (boolean want) else ended (ending_of o.end) (until want f xs))) (sym b)
+    ∙ made_from F mid new (f x) o h ∙ ap (λ z. ahead mid (decided want (f z) (until want f xs))) q
+until_on want f (y ∷ xs) (suc i) x mid new o l q h b e = until_on want f xs i x mid new o (omega (arith, l)) q h b e
 
 -- a second expression, or the input where there is none
 pub choose_is : (c a : _) (o : _) (r : Scope) (v : Value)

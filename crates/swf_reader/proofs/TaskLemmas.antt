@@ -1,14 +1,15 @@
 -- Members by their names, as the tasks in them are found.
-use Rattle.std.proofs.Common.{◌≡◌, ◌∙◌, ◌+◌, ◌≤◌, ap, sym, subst, refl, Result, IfOk, ℕ, List, [], ◌∷◌, ◌++◌, length, Bool, true, false, Option, Some, None, cond, get_or, option_map, arith}
+use Rattle.std.proofs.Common.{◌≡◌, ◌∙◌, ◌+◌, ◌≤◌, ap, sym, subst, refl, Result, IfOk, ℕ, List, [], ◌∷◌, ◌++◌, length, Bool, true, false, Option, Some, None, cond, get_or, option_map, drop, arith}
+use Rattle.std.specs.Prelude.{decimal}
 use Rattle.swf_text.specs.Same.{same}
 use Rattle.swf_value.specs.Value.{Value, null, boolean, int, text, list, object, Members, no_members, member}
 use Rattle.swf_value.specs.Members.{at, member_at}
-use Rattle.swf_value.specs.Node.{members_of, weight, weight_members}
+use Rattle.swf_value.specs.Node.{items_of, members_of, weight, weight_members}
 use Rattle.swf_value.specs.declared.value.Member.{Member}
 use Rattle.swf_document.specs.Task.{Tasks, no_tasks, named}
 use Rattle.swf_document.specs.TaskNode.{task_of, tasks_of}
 use Rattle.swf_document.specs.declared.tasks.Named.{Named}
-use Rattle.swf_reader.specs.Reads.{with_task, named_of, added, item_in, task_in, tasks_in, tasks_at, tasks_under, tasks_inside}
+use Rattle.swf_reader.specs.Reads.{with_task, named_of, added, items_in, item_in, task_in, tasks_in, tasks_at, tasks_under, tasks_inside}
 
 heavier : (k : List ℕ) (b : Bool) (d v : Value) (ms : Members) → (at k ms ≡ Some v → weight v ≤ weight_members ms) → cond b (Some d) (at k ms) ≡ Some v → weight v ≤ weight d + weight_members ms
 heavier k true d v ms h e = let p : d ≡ v = cc in omega (arith, ap weight p)
@@ -95,6 +96,18 @@ tasks_all (n ∷ ns) = ap (named n.name (task_of n.task)) (tasks_all ns)
 pub tasks_added : (ns : List Named) (o : Option Named) (ts : Tasks) → before_tasks (added ns o) ts ≡ before_tasks ns (with_task (option_map named_of o) ts)
 tasks_added ns (Some n) ts = tasks_push ns n ts
 tasks_added ns None ts = refl
+
+-- the tasks so far with that of one item more, and those of what is left, are all
+pub items_step : (p q : List (List ℕ)) (ds : List Value) (i : ℕ) (d : Value) (ts new : List Named) (o : Option Named) (whole : Tasks)
+    → drop i ds ≡ d ∷ drop (i + 1) ds → q ≡ p ++ decimal i ∷ [] → option_map named_of o ≡ item_in q d → new ≡ added ts o
+    → whole ≡ before_tasks ts (items_in p i (items_of (drop i ds))) → whole ≡ before_tasks new (items_in p (i + 1) (items_of (drop (i + 1) ds)))
+items_step p q ds i d ts new o whole first place is more e =
+    let rest = items_in p (i + 1) (items_of (drop (i + 1) ds)) in
+    e ∙ ap (λ (l : List Value). before_tasks ts (items_in p i (items_of l))) first
+    ∙ ap (λ (x : List (List ℕ)). before_tasks ts (with_task (item_in x d) rest)) (sym place)
+    ∙ ap (λ x. before_tasks ts (with_task x rest)) (sym is)
+    ∙ sym (tasks_added ts o rest)
+    ∙ ap (λ (l : List Named). before_tasks l rest) (sym more)
 
 -- an object of one member is a named task
 pub one_item : (p : List (List ℕ)) (ms : List Member) (m : Member) → length ms ≡ 1 → m ≡ get_or ms 0 m → item_in p (object (members_of ms)) ≡ Some (m.name, task_in (p ++ m.name ∷ []) m.value)

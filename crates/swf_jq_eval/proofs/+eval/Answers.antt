@@ -1,5 +1,5 @@
 -- What each form does with each output.
-use Rattle.std.proofs.Common.{◌≡◌, ◌∙◌, ◌∷◌, List, ap, sym, subst, refl, rules, true, false, codes, arith}
+use Rattle.std.proofs.Common.{◌≡◌, ◌∙◌, ◌∷◌, List, ap, sym, subst, refl, rules, true, false, codes, arith, ◌+◌, ℕ, suc, drop}
 use Rattle.swf_value.specs.Node.{node_value, items_of}
 use Rattle.swf_value.specs.Value.{Value, boolean, list}
 use Rattle.swf_expr.specs.ExprNode.{node_tree, value_or_here}
@@ -8,10 +8,10 @@ use Rattle.swf_jq_builtins.specs.Outcome.{several_of}
 use Rattle.swf_jq_eval.specs.Run.{clean, gave, turn, made, answered, over, spread, same_truth, until}
 use Rattle.swf_jq_eval.specs.Outputs.{run, node, with_argument, ranged, sorted_by, key_by}
 use Rattle.swf_jq_eval.specs.Names.{names}
-use Rattle.swf_jq_eval.specs.Goes.{Goes, Comes}
+use Rattle.swf_jq_eval.specs.Goes.{Goes, Comes, ahead}
 use Rattle.std.specs.List.{list_any}
 use Rattle.swf_jq_eval.proofs.Runs.{over_one, goes_from}
-use Rattle.swf_jq_eval.proofs.Calls.{call_two, across_list, each_is_over, with_other, until_found, choose_goes, other_truth}
+use Rattle.swf_jq_eval.proofs.Calls.{until_on, call_two, across_list, each_is_over, with_other, until_found, choose_goes, other_truth}
 use Rattle.swf_jq_eval.specs.Inner.{inside}
 use Rattle.swf_jq_eval.proofs.Weights.{positive}
 use Rattle.swf_jq_eval.proofs.+eval.Goals as goal
@@ -146,3 +146,15 @@ inner::take-returns-else-is_true-want t c =
 pub inner::take-returns-in-Operate : goal.inner::take-returns-in-Operate
 inner::take-returns-in-Operate t c =
     subst (λ s. Goes c.args.out.now s c.each_step-in-Operate.new.out c.each_step-in-Operate.result) (sym (ap (λ n. inside n c.args.at.now c.args.y.now) c.in-Operate.is)) c.each_step-in-Operate.ensures
+
+pub search::until-loop-x-preserved : goal.search::until-loop-x-preserved
+search::until-loop-x-preserved t c =
+    let f = λ (x : Value). run c.args.expr.now (names c.args.at.now) x in
+    let n : ℕ = c.loop-x.x-index in
+    let o = c.in_ok-values.field-0 in
+    let m : n + 1 ≡ suc n = omega arith in
+    let none : list_any (λ v. same_truth (is_true v) c.args.want) o.values.items ≡ false =
+    ap (λ (w : List Value). list_any (λ v. same_truth (is_true v) c.args.want) w) (sym c.deref.ensures.value) ∙ sym c.has_truth.ensures ∙ c.if-has_truth.false in
+    ap (λ d. ahead c.all.new.out (until c.args.want f (drop d c.args.values.now))) m
+    ∙ until_on c.args.want f c.args.values.now n c.x-item.result c.loop-x.out c.all.new.out o c.loop-x-test.true c.x-item.is c.in_ok-values.ensures none c.in-Clean.is
+    ∙ c.loop-x.invariant

@@ -45,3 +45,17 @@ loop-preserved g c =
       beside = c.tell_frame.ensures.beside ∙ i.beside;
       faults = c.in-Ok-true.ensures.cause ∙ i.faults;
     }
+
+pub returns-in-Ok-false-clause-any_moment : goal.returns-in-Ok-false-clause-any_moment
+returns-in-Ok-false-clause-any_moment g c =
+    let S = g.S.Store in
+    let i = c.loop.invariant in
+    goes_on_only S.moment S.left_since S.said c.args.store.now c.loop.store c.tell_frame.new.store (S.may_leave c.args.store.now) (S.may_leave c.loop.store) (S.may_leave c.args.store.now) i.said i.any_moment c.tell_frame.ensures.any_moment
+    (λ left may. may) (λ left may. i.stop left may)
+
+pub returns-in-Err-clause-any_moment : goal.returns-in-Err-clause-any_moment
+returns-in-Err-clause-any_moment g c =
+    let S = g.S.Store in
+    let i = c.loop.invariant in
+    goes_on_only S.moment S.left_since S.said c.args.store.now c.loop.store c.tell_frame.new.store (S.may_leave c.args.store.now) (S.may_leave c.loop.store) (S.may_leave c.args.store.now) i.said i.any_moment c.tell_frame.ensures.any_moment
+    (λ left may. may) (λ left may. i.stop left may)

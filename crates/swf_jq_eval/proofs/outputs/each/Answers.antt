@@ -1,8 +1,8 @@
-use Rattle.std.proofs.Common.{rules, ◌≡◌, ◌∙◌, ◌<◌, ◌+◌, ℕ, List, suc, drop, ap, subst, Ok, get_or, length, arith}
+use Rattle.std.proofs.Common.{◌≡◌, ◌∙◌, ◌<◌, ◌≤◌, ◌+◌, ℕ, List, suc, drop, ap, subst, Ok, get_or, length, arith}
 use Rattle.swf_value.specs.Value.{Value}
 use Rattle.swf_jq_eval.specs.Run.{each}
 use Rattle.swf_jq_eval.specs.Goes.{Goes, ending_of, ahead}
-use Rattle.swf_jq_eval.proofs.Runs.{each_on, each_end}
+use Rattle.swf_jq_eval.proofs.Runs.{each_on, each_out, each_end}
 use Rattle.swf_jq_eval.proofs.outputs.each.Goals as goal
 
 pub loop-x-preserved : goal.loop-x-preserved
@@ -10,7 +10,7 @@ loop-x-preserved g c = λ k h.
     let n : ℕ = c.loop-x.x-index in
     let x : Value = c.x-item.result in
     let q : x ≡ get_or c.args.outer.values.items n x = c.x-item.is ∙ ap (λ (l : List Value). get_or l n x) c.deref-x-items.ensures.value in
-    let l : n < length c.args.outer.values.items = search rules in
+    let l : n < length c.args.outer.values.items = subst (λ (vs : List Value). n < length vs) c.deref-x-items.ensures.value c.loop-x-test.true in
     let m : n + 1 ≡ suc n = omega arith in
     ap (λ d. ahead c.f.new.arg3 (each k (drop d c.args.outer.values.items) (ending_of c.args.outer.end))) m
     ∙ each_on k c.args.outer.values.items n (ending_of c.args.outer.end) c.loop-x.out c.f.new.arg3 x l q
@@ -18,4 +18,14 @@ loop-x-preserved g c = λ k h.
     ∙ c.loop-x.invariant k h
 
 pub returns : goal.returns
-returns g c = λ k h. ap (ahead c.loop-x.out) (each_end k c.args.outer.values.items c.loop-x.x-index (ending_of c.args.outer.end) (search rules)) ∙ c.loop-x.invariant k h
+returns g c = λ k h. ap (ahead c.loop-x.out) (each_end k c.args.outer.values.items c.loop-x.x-index (ending_of c.args.outer.end) (subst (λ (vs : List Value). length vs ≤ c.loop-x.x-index) c.deref-x-items.ensures.value c.loop-x-test.false)) ∙ c.loop-x.invariant k h
+
+pub returns-in-Raised : goal.returns-in-Raised
+returns-in-Raised g c = λ k h.
+    let n : ℕ = c.loop-x.x-index in
+    let x : Value = c.x-item.result in
+    let q : x ≡ get_or c.args.outer.values.items n x = c.x-item.is ∙ ap (λ (l : List Value). get_or l n x) c.deref-x-items.ensures.value in
+    let l : n < length c.args.outer.values.items = subst (λ (vs : List Value). n < length vs) c.deref-x-items.ensures.value c.loop-x-test.true in
+    each_out k c.args.outer.values.items n (ending_of c.args.outer.end) c.loop-x.out c.f.new.arg3 x c.in-Raised.error l q
+    (subst (λ r. Goes c.loop-x.out (k x) c.f.new.arg3 r) (c.in_ok-f.was ∙ ap Ok c.in-Raised.is) (h _ _ _ _ c.f.ensures))
+    ∙ c.loop-x.invariant k h

@@ -1,9 +1,10 @@
-use Rattle.std.proofs.Common.{◌≡◌, ap, sym, ◌∙◌, List, ℕ, [], ◌∷◌, ◌++◌}
-use Rattle.swf_value.specs.Value.{object}
-use Rattle.swf_value.specs.Node.{members_of}
+use Rattle.std.proofs.Common.{◌≡◌, ◌≤◌, ◌+◌, ap, sym, ◌∙◌, List, ℕ, [], ◌∷◌, ◌++◌, drop, arith}
+use Rattle.swf_value.proofs.Writing.{first_of_rest}
+use Rattle.swf_value.specs.Value.{Value, object}
+use Rattle.swf_value.specs.Node.{items_of, members_of, weight_items}
 use Rattle.swf_document.specs.TaskNode.{tasks_of}
 use Rattle.swf_reader.specs.Reads.{tasks_at, tasks_under, tasks_inside}
-use Rattle.swf_reader.proofs.TaskLemmas.{absent, told, tasks_at_none, tasks_under_none, under_there}
+use Rattle.swf_reader.proofs.TaskLemmas.{absent, items_step, told, tasks_at_none, tasks_under_none, under_there}
 use Rattle.swf_reader.proofs.task.+tasks.Goals as goal
 
 pub tasks_at-returns-in_default : goal.tasks_at-returns-in_default
@@ -36,3 +37,16 @@ tasks_under-returns t c =
     let is : c.args.value.now ≡ object ms = cc in
     let place : q ≡ p ++ k ∷ [] = c.in_ok-place.ensures ∙ ap (λ (x : List ℕ). p ++ x ∷ []) c.in_ok-word.ensures in
     told c.tasks_inside.result (tasks_inside q j w) (tasks_under p k j ms) (under_there p q k j c.args.value.now w ms is c.in-Some.ensures place) c.tasks_inside.ensures
+
+pub items_in-loop-index-preserved : goal.items_in-loop-index-preserved
+items_in-loop-index-preserved t c =
+    let ds = c.args.items.now in
+    let i = c.loop-index.index in
+    let d = c.index-items-index.result in
+    let p = c.args.place.now in
+    let first : drop i ds ≡ d ∷ drop (i + 1) ds = first_of_rest ds i d c.loop-index-test.true c.index-items-index.is in
+    let place : c.in_ok-place.place ≡ p ++ _ ∷ [] = c.in_ok-place.ensures ∙ ap (λ (x : List ℕ). p ++ x ∷ []) c.in_ok-position.ensures in
+    record {
+      tasks = items_step p c.in_ok-place.place ds i d c.loop-index.tasks.items c.add_task.new.tasks.items c.in_ok-item_in.field-0 _ first place c.in_ok-item_in.ensures c.in_ok-add_task.ensures c.loop-index.invariant.tasks;
+      weigh = omega (arith, c.loop-index.invariant.weigh, ap (λ (l : List Value). weight_items (items_of l)) first);
+    }

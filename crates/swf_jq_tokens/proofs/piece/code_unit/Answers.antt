@@ -1,0 +1,10 @@
+use Rattle.std.proofs.Common.{arith}
+use Rattle.swf_jq_tokens.proofs.piece.code_unit.Goals as goal
+
+pub returns-clause-small : goal.returns-clause-small
+returns-clause-small c =
+    let a = c.in_ok-a.ensures.value in
+    let b = c.in_ok-b.ensures.value in
+    let third = c.in_ok-c.ensures.value in
+    let d = c.in_ok-d.ensures.value in
+    omega (arith, a.0, a.1, b.0, b.1, third.0, third.1, d.0, d.1)
