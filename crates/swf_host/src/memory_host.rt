@@ -15,11 +15,20 @@ use std::marker::Model;
 use swf_store::{Call, Failed, File, MemoryStore, Store};
 
 /// A host that gives the inputs of a script, and `Closed` at its end.
-#[derive(Drop)]
 pub struct MemoryHost {
     alloc: Global,
     store: MemoryStore,
     script: Script,
+}
+
+impl Drop for MemoryHost {
+    fn drop(self) {
+        let MemoryHost {
+            alloc: _alloc,
+            store: _store,
+            script: _script,
+        } = self;
+    }
 }
 
 impl Model for MemoryHost {

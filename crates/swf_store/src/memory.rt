@@ -11,7 +11,6 @@ use std::marker::Model;
 use swf_text::Bytes;
 
 /// Three files in memory. The calls whose numbers, from 0, are on its list fail, and so do those that find no memory.
-#[derive(Drop)]
 pub struct MemoryStore {
     alloc: Global,
     first: Image,
@@ -20,6 +19,19 @@ pub struct MemoryStore {
     // What reads give, once something was written.
     written: Option<Image>,
     lacks: u64,
+}
+
+impl Drop for MemoryStore {
+    fn drop(self) {
+        let MemoryStore {
+            alloc: _alloc,
+            first: _first,
+            failing: _failing,
+            calls: _calls,
+            written: _written,
+            lacks: _lacks,
+        } = self;
+    }
 }
 
 impl Model for MemoryStore {
