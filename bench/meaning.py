@@ -20,9 +20,8 @@ that begins with `! not modelled` ends it. Of the lines that begin with `!` it k
 
 Usage: bench/meaning.py < sessions.txt, the blocks of crates/swf_cases/data; `bench/meaning.py stops < stops.txt` tells what
 comes of stops: how many calls of the store the session takes, and how many of its stops came to another end; and
-`bench/meaning.py orders < orders.txt`, the rows there, what every order of the steps of a workflow's strands
-comes to. JQ names another
-program than `jq`.
+`bench/meaning.py orders < orders.txt`, whose rows lie there too, tells what every order of the steps of a workflow's strands
+comes to. JQ names another program than `jq`.
 """
 import base64
 import copy
