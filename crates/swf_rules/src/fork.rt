@@ -37,11 +37,7 @@ pub fn forking(
         return complete(alloc, scene, task, raw, input, outputs);
     }
     let context = scene.context.copy()?;
-    let top = Top::Forked {
-        task: task.copy()?,
-        raw: raw.copy()?,
-        input: input.copy()?,
-    };
+    let top = Top::forked(task, raw, input)?;
     Ok(becoming(top, context))
 }
 

@@ -112,15 +112,9 @@ pub fn listening(
 {
     let vars = within(alloc, scene, task, raw, input)?;
     let bound = bound_of(alloc, task, &vars, input, spec.filters.as_slice())?;
-    let context = scene.context.copy()?;
     let heard = Listing::of(alloc, Vec::new(alloc))?;
-    let top = Top::Hearing {
-        task: task.copy()?,
-        raw: raw.copy()?,
-        input: input.copy()?,
-        bound,
-        heard,
-    };
+    let context = scene.context.copy()?;
+    let top = Top::hearing(task, raw, input, &bound, &heard)?;
     Ok(becoming(top, context))
 }
 

@@ -3,19 +3,20 @@ ghost use Rattle.std.specs.Prelude.{◌≡◌, ◌<◌, ◌-◌, ◌^◌, ◌∷
 ghost use Rattle.swf_meaning.specs.Lists.{comes_to, list_ended, turn, turn_guarded, turn_begins, begins_with, guard_in, list_of};
 ghost use Rattle.swf_meaning.specs.Next.{task_at};
 ghost use Rattle.swf_meaning.specs.Node.{Node, Live, At};
+ghost use Rattle.swf_meaning.specs.Around.{seen};
+ghost use Rattle.swf_meaning.specs.Sight.{within};
 ghost use Rattle.swf_meaning.specs.Complete.{complete};
 ghost use Rattle.swf_meaning.specs.Parts.{kind_of};
+ghost use Rattle.swf_rules.specs.Asks.{IsAsked};
 ghost use Rattle.swf_scene.specs.Halts.{Gives};
 ghost use Rattle.swf_scene.specs.Stack.{sight_of, round_of, made_node, plug};
 
 use crate::completion::complete;
+use crate::try_::is_asked;
 use std::alloc::{AllocError, Global};
 use swf_document::Flow;
-use swf_jq_builtins::is_true;
-use swf_scene::{
-    Frame, Halt, Made, Round, Scene, SharedFrame, TaskRef, Top, Turn, value_of, within,
-};
-use swf_transform::first;
+use swf_expr::Expr;
+use swf_scene::{Frame, Halt, Made, Round, Scene, SharedFrame, TaskRef, Top, Turn, within};
 use swf_value::{Json, JsonList};
 
 // So many turns have numbers.
@@ -104,18 +105,26 @@ fn turn_guarded(
     let Some(condition) = task.guard() else {
         return turn_begins(alloc, scene, task, raw, input, round, value);
     };
-    let vars = within(alloc, &scene.seen(alloc, task, &round)?, task, raw, input)?;
-    let goes_on = value_of(alloc, task, first(alloc, condition, &vars, &value)?)?;
-    turn_decided(
-        alloc,
-        scene,
-        task,
-        raw,
-        input,
-        round,
-        value,
-        is_true(&goes_on),
-    )
+    let goes_on = goes_on(alloc, scene, task, raw, input, &round, &value, condition)?;
+    turn_decided(alloc, scene, task, raw, input, round, value, goes_on)
+}
+
+// Whether a `while` is true before a turn.
+fn goes_on(
+    alloc: Global,
+    scene: &Scene,
+    task: &TaskRef,
+    raw: &Json,
+    input: &Json,
+    round: &Round,
+    value: &Json,
+    condition: &Expr,
+) -> Result<bool, Halt>
+    ensures { IsAsked task.now (within (seen (sight_of scene.entry.now) task.now (round_of round.now)) task.now raw.now input.now) value.now condition.now result }
+{
+    let seen = scene.seen(alloc, task, round)?;
+    let vars = within(alloc, &seen, task, raw, input)?;
+    is_asked(alloc, task, &vars, value, condition)
 }
 
 // A turn begins where `while` is true, and else the loop is complete.

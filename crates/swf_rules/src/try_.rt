@@ -22,8 +22,8 @@ use swf_text::{Text, same_texts};
 use swf_transform::first;
 use swf_value::Json;
 
-// Whether an expression is true.
-fn is_asked(
+/// Whether an expression is true.
+pub(crate) fn is_asked(
     alloc: Global,
     task: &TaskRef,
     vars: &Vars,

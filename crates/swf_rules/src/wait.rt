@@ -25,13 +25,7 @@ pub fn waiting_until(
     ensures { Gives (sight_of scene.entry.now) (becomes (sight_of scene.entry.now) (Live task.now raw.now input.now (waiting retries until))) result }
 {
     let context = scene.context.copy()?;
-    let top = Top::Waiting {
-        task: task.copy()?,
-        raw: raw.copy()?,
-        input: input.copy()?,
-        retries,
-        until,
-    };
+    let top = Top::waiting(task, raw, input, retries, until)?;
     Ok(becoming(top, context))
 }
 

@@ -133,59 +133,72 @@ impl Top {
                 input,
                 retries,
                 until,
-            } => waiting(task, raw, input, *retries, *until),
+            } => Top::waiting(task, raw, input, *retries, *until),
             Top::Hearing {
                 task,
                 raw,
                 input,
                 bound,
                 heard,
-            } => hearing(task, raw, input, bound, heard),
-            Top::Forked { task, raw, input } => Ok(Top::Forked {
-                task: task.copy()?,
-                raw: raw.copy()?,
-                input: input.copy()?,
-            }),
+            } => Top::hearing(task, raw, input, bound, heard),
+            Top::Forked { task, raw, input } => Top::forked(task, raw, input),
         }
+    }
+
+    /// A task that waits until a moment.
+    pub fn waiting(
+        task: &TaskRef,
+        raw: &Json,
+        input: &Json,
+        retries: Option<u64>,
+        until: u64,
+    ) -> Result<Top, AllocError>
+        ensures { IfOk result (λ t. t ≡ Top.Waiting task.now raw.now input.now retries until) }
+    {
+        let (task, raw, input) = once_more(task, raw, input)?;
+        Ok(Top::Waiting {
+            task,
+            raw,
+            input,
+            retries,
+            until,
+        })
+    }
+
+    /// A task that listens.
+    pub fn hearing(
+        task: &TaskRef,
+        raw: &Json,
+        input: &Json,
+        bound: &NamedValues,
+        heard: &Listing<Heard>,
+    ) -> Result<Top, AllocError>
+        ensures { IfOk result (λ t. t ≡ Top.Hearing task.now raw.now input.now bound.now heard.now) }
+    {
+        let (task, raw, input) = once_more(task, raw, input)?;
+        Ok(Top::Hearing {
+            task,
+            raw,
+            input,
+            bound: bound.copy()?,
+            heard: heard.copy()?,
+        })
+    }
+
+    /// A task whose branches run.
+    pub fn forked(task: &TaskRef, raw: &Json, input: &Json) -> Result<Top, AllocError>
+        ensures { IfOk result (λ t. t ≡ Top.Forked task.now raw.now input.now) }
+    {
+        let (task, raw, input) = once_more(task, raw, input)?;
+        Ok(Top::Forked { task, raw, input })
     }
 }
 
-// What waits until a moment, of these parts once more.
-fn waiting(
-    task: &TaskRef,
-    raw: &Json,
-    input: &Json,
-    retries: Option<u64>,
-    until: u64,
-) -> Result<Top, AllocError>
-    ensures { IfOk result (λ t. t ≡ Top.Waiting task.now raw.now input.now retries until) }
+// A task with its raw and its transformed input once more.
+fn once_more(task: &TaskRef, raw: &Json, input: &Json) -> Result<(TaskRef, Json, Json), AllocError>
+    ensures { IfOk result (λ p. p ≡ (task.now, raw.now, input.now)) }
 {
-    Ok(Top::Waiting {
-        task: task.copy()?,
-        raw: raw.copy()?,
-        input: input.copy()?,
-        retries,
-        until,
-    })
-}
-
-// What listens, of these parts once more.
-fn hearing(
-    task: &TaskRef,
-    raw: &Json,
-    input: &Json,
-    bound: &NamedValues,
-    heard: &Listing<Heard>,
-) -> Result<Top, AllocError>
-    ensures { IfOk result (λ t. t ≡ Top.Hearing task.now raw.now input.now bound.now heard.now) }
-{
-    Ok(Top::Hearing {
-        task: task.copy()?,
-        raw: raw.copy()?,
-        input: input.copy()?,
-        bound: bound.copy()?,
-        heard: heard.copy()?,
-    })
+    Ok((task.copy()?, raw.copy()?, input.copy()?))
 }
 
 impl CopyFrame for Layer {

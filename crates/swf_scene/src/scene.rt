@@ -92,16 +92,9 @@ impl<'a> Scene<'a> {
     ) -> Result<Scene<'a>, AllocError>
         ensures { IfOk result (λ s. sight_of s ≡ seen (sight_of self.entry.now) task.now (round_of round.now)) }
     {
-        let mut around = copy_variables(alloc, &self.around)?;
-        push_seen(alloc, &mut around, task, round)?;
-        Ok(Scene {
-            setting: self.setting,
-            context: self.context.copy()?,
-            branches: self.branches,
-            words: self.words,
-            now: self.now,
-            around,
-        })
+        let mut scene = self.copy(alloc)?;
+        push_seen(alloc, &mut scene.around, task, round)?;
+        Ok(scene)
     }
 
     /// The same without the variables around.

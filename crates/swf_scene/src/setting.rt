@@ -1,5 +1,5 @@
 // What stays of an instance while its tasks run.
-ghost use Rattle.std.specs.Prelude.{◌≡◌, IfOk};
+ghost use Rattle.std.specs.Prelude.{◌≡◌, ◌++◌, ◌∷◌, [], IfOk};
 ghost use Rattle.std.specs.Coded.{Coded-set};
 ghost use Rattle.swf_value.specs.ValueCode.{value_code};
 ghost use Rattle.swf_meaning.specs.Sight.{epoch, workflow_value};
@@ -70,12 +70,17 @@ impl Setting {
     }
 }
 
-// A member whose name is shared.
-pub(crate) fn named(name: &Text, value: Json) -> Result<Member, AllocError>
-    ensures { IfOk result (λ m. m ≡ record { name = name.now; value = value }) }
+// Adds a member whose name is shared.
+pub(crate) fn push_named(
+    members: &mut Vec<Member>,
+    name: &Text,
+    value: Json,
+) -> Result<(), AllocError>
+    ensures { IfOk result (λ _. members.new.items ≡ members.old.items ++ record { name = name.now; value = value } ∷ []) }
 {
     let name = name.copy()?;
-    Ok(Member { name, value })
+    members.push(Member { name, value })?;
+    Ok(())
 }
 
 // A moment as an object.
@@ -84,10 +89,10 @@ fn epoch(alloc: Global, words: &Words, moment: Moment) -> Result<Json, AllocErro
 {
     let mut inner = Vec::with_capacity(alloc, 1)?;
     let number = Json::int(moment.milliseconds() as i64);
-    inner.push(named(words.milliseconds(), number)?)?;
+    push_named(&mut inner, words.milliseconds(), number)?;
     let inner = Json::object(alloc, inner)?;
     let mut members = Vec::with_capacity(alloc, 1)?;
-    members.push(named(words.epoch(), inner)?)?;
+    push_named(&mut members, words.epoch(), inner)?;
     Json::object(alloc, members)
 }
 
@@ -102,8 +107,12 @@ fn workflow_value(
     ensures { IfOk result (λ v. v ≡ workflow_value id.now started input.now) }
 {
     let mut members = Vec::with_capacity(alloc, 3)?;
-    members.push(named(words.id(), Json::text(id.copy()?))?)?;
-    members.push(named(words.input(), input.copy()?)?)?;
-    members.push(named(words.started_at(), epoch(alloc, words, started)?)?)?;
+    push_named(&mut members, words.id(), Json::text(id.copy()?))?;
+    push_named(&mut members, words.input(), input.copy()?)?;
+    push_named(
+        &mut members,
+        words.started_at(),
+        epoch(alloc, words, started)?,
+    )?;
     Json::object(alloc, members)
 }

@@ -1,7 +1,8 @@
 // The variables that a task's expressions see (DSL 1.0.0, "Runtime expression arguments").
-ghost use Rattle.std.specs.Prelude.{◌≡◌, ◌++◌, ◌<◌, ◌^◌, pos, IfOk, IsTrue, if◌then◌else◌};
+ghost use Rattle.std.specs.Prelude.{◌≡◌, ◌++◌, ◌∷◌, [], ◌<◌, ◌^◌, pos, codes, IfOk, IsTrue, if◌then◌else◌};
 ghost use Rattle.swf_text.specs.Same.{is_ascii};
-ghost use Rattle.swf_value.specs.Value.{int};
+ghost use Rattle.swf_text.specs.Pointer.{pointer};
+ghost use Rattle.swf_value.specs.Value.{int, text, object, member, no_members};
 ghost use Rattle.swf_meaning.specs.Sight.{variable, last_part, task_value, of_workflow, with_context, of_task, before, within, behind, is_workflow};
 ghost use Rattle.swf_meaning.specs.Around.{round_variables};
 ghost use Rattle.swf_meaning.specs.Parts.{kind_of};
@@ -11,7 +12,7 @@ ghost use Rattle.swf_scene.specs.TaskRef.{loop_variables};
 
 use crate::made::{Round, Turn};
 use crate::scene::Scene;
-use crate::setting::named;
+use crate::setting::push_named;
 use crate::task::{TaskRef, Work};
 use crate::words::Words;
 use std::alloc::{AllocError, Global};
@@ -23,12 +24,13 @@ use swf_value::Json;
 /// Room for as many variables as most expressions see.
 const MOST_OFTEN: usize = 8;
 
-// A variable whose name is shared.
-fn variable(name: &Text, value: Json) -> Result<Variable, AllocError>
-    ensures { IfOk result (λ x. x ≡ variable name.now value) }
+// Adds a variable whose name is shared.
+fn push_variable(variables: &mut Vec<Variable>, name: &Text, value: Json) -> Result<(), AllocError>
+    ensures { IfOk result (λ _. variables.new.items ≡ variables.old.items ++ variable name.now value ∷ []) }
 {
     let name = name.copy()?;
-    Ok(Variable { name, value })
+    variables.push(Variable { name, value })?;
+    Ok(())
 }
 
 // The same variable once more.
@@ -77,14 +79,8 @@ fn push_turn(variables: &mut Vec<Variable>, spec: &ForSpec, turn: &Turn) -> Resu
     if place >= items.len() {
         return Ok(());
     }
-    variables.push(Variable {
-        name: spec.each.copy()?,
-        value: items[place].copy()?,
-    })?;
-    variables.push(Variable {
-        name: spec.at.copy()?,
-        value: position(turn.number),
-    })?;
+    push_variable(variables, &spec.each, items[place].copy()?)?;
+    push_variable(variables, &spec.at, position(turn.number))?;
     Ok(())
 }
 
@@ -100,10 +96,7 @@ pub fn push_seen(
     match (task.work(), round) {
         (Work::For(spec), Round::Each(turn)) => push_turn(variables, spec, turn),
         (Work::Try(spec), Round::Catch(problem)) => {
-            let value = problem_value(alloc, problem)?;
-            let name = spec.name.copy()?;
-            variables.push(Variable { name, value })?;
-            Ok(())
+            push_variable(variables, &spec.name, problem_value(alloc, problem)?)
         }
         _ => Ok(()),
     }
@@ -125,11 +118,25 @@ fn task_value(alloc: Global, words: &Words, task: &TaskRef, raw: &Json) -> Resul
     ensures { IfOk result (λ v. v ≡ task_value task.now raw.now) }
 {
     let root = Place::root(alloc);
-    let place = task.place_or(&root);
+    value_at(alloc, words, task.place_or(&root), raw)
+}
+
+// `$task` of the task at a place.
+fn value_at(alloc: Global, words: &Words, place: &Place, raw: &Json) -> Result<Json, AllocError>
+    ensures { IfOk result (λ v. v ≡ object (member (codes "input") raw.now (member (codes "name") (text (last_part place.now)) (member (codes "reference") (text (pointer place.now)) no_members)))) }
+{
     let mut members = Vec::with_capacity(alloc, 3)?;
-    members.push(named(words.input(), raw.copy()?)?)?;
-    members.push(named(words.name(), Json::text(name_at(alloc, place)?))?)?;
-    members.push(named(words.reference(), Json::text(pointer_text(alloc, place)?))?)?;
+    push_named(&mut members, words.input(), raw.copy()?)?;
+    push_named(
+        &mut members,
+        words.name(),
+        Json::text(name_at(alloc, place)?),
+    )?;
+    push_named(
+        &mut members,
+        words.reference(),
+        Json::text(pointer_text(alloc, place)?),
+    )?;
     Json::object(alloc, members)
 }
 
@@ -137,7 +144,11 @@ fn of_workflow(alloc: Global, scene: &Scene) -> Result<Vec<Variable>, AllocError
     ensures { IfOk result (λ xs. xs.items ≡ of_workflow (sight_of scene.entry.now)) }
 {
     let mut variables = Vec::with_capacity(alloc, MOST_OFTEN)?;
-    variables.push(variable(scene.words.workflow(), scene.setting.workflow.copy()?)?)?;
+    push_variable(
+        &mut variables,
+        scene.words.workflow(),
+        scene.setting.workflow.copy()?,
+    )?;
     Ok(variables)
 }
 
@@ -145,7 +156,7 @@ fn with_context(alloc: Global, scene: &Scene) -> Result<Vec<Variable>, AllocErro
     ensures { IfOk result (λ xs. xs.items ≡ with_context (sight_of scene.entry.now)) }
 {
     let mut variables = of_workflow(alloc, scene)?;
-    variables.push(variable(scene.words.context(), scene.context.copy()?)?)?;
+    push_variable(&mut variables, scene.words.context(), scene.context.copy()?)?;
     Ok(variables)
 }
 
@@ -159,7 +170,11 @@ fn of_task(
 {
     let words = scene.words;
     let mut variables = with_context(alloc, scene)?;
-    variables.push(variable(words.task(), task_value(alloc, words, task, raw)?)?)?;
+    push_variable(
+        &mut variables,
+        words.task(),
+        task_value(alloc, words, task, raw)?,
+    )?;
     push_variables(&mut variables, &scene.around)?;
     Ok(variables)
 }
@@ -202,7 +217,7 @@ fn inside(
     ensures { IfOk result (λ xs. xs.items ≡ within (sight_of scene.entry.now) task.now raw.now input.now) }
 {
     let mut variables = around(alloc, scene, task, raw)?;
-    variables.push(variable(scene.words.input(), input.copy()?)?)?;
+    push_variable(&mut variables, scene.words.input(), input.copy()?)?;
     Ok(variables)
 }
 
@@ -231,7 +246,7 @@ pub fn behind(
     ensures { IfOk result (λ r. r ≡ behind (sight_of scene.entry.now) task.now raw.now input.now output.now) }
 {
     let mut variables = inside(alloc, scene, task, raw, input)?;
-    variables.push(variable(scene.words.output(), output.copy()?)?)?;
+    push_variable(&mut variables, scene.words.output(), output.copy()?)?;
     Ok(Vars::of(variables))
 }
 
@@ -263,6 +278,6 @@ pub fn retrying(
     let scene = scene.alone(alloc)?;
     let mut variables = of_task(alloc, &scene, task, raw)?;
     let name = word(alloc, "error")?;
-    variables.push(variable(&name, problem_value(alloc, problem)?)?)?;
+    push_variable(&mut variables, &name, problem_value(alloc, problem)?)?;
     Ok(Vars::of(variables))
 }

@@ -3,7 +3,6 @@ use Rattle.std.specs.Prelude.{codes}
 use Rattle.swf_document.specs.declared.error.ErrorKind.TheVariants as kinds
 use Rattle.swf_scene.specs.Stack.{sight_of, made_node}
 use Rattle.swf_scene.proofs.HaltLemmas.{Gives-fails, Gives-same}
-use Rattle.swf_scene.specs.declared.made.Top.TheVariants as tops
 use Rattle.swf_rules.proofs.ForkLemmas.{forking-full, forking-begins}
 use Rattle.swf_rules.proofs.fork.forking.Goals as goal
 use Rattle.swf_rules.proofs.fork.forking.Goals.{then-more-gt-MOST_BRANCHES-via-then-more-gt-MOST_BRANCHES, then-more-gt-MOST_BRANCHES-via-else-more-gt-MOST_BRANCHES+then-scene-more}
@@ -23,5 +22,5 @@ returns c =
     let some : 0 < length ns = omega arith in
     let few : c.args.scene.now.branches + length ns ≤ 256 = omega arith in
     c.becoming.ensures
-    ∙ (λ i. record { node = made_node (tops.Forked (c.in_ok-copy.ensures i) (c.in_ok-copy-2.ensures i) (c.in_ok-copy-3.ensures i)); context = c.in_ok-context.ensures i; emitted = None })
+    ∙ (λ i. record { node = made_node (c.in_ok-top.ensures i); context = c.in_ok-context.ensures i; emitted = None })
     ∙ forking-begins s c.args.task.now c.args.raw.now c.args.input.now c.args.spec.now.compete ns c.args.spec.now.branches c.as_slice-more.ensures c.requires some few

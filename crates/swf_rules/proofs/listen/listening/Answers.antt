@@ -34,4 +34,5 @@ returns c =
     let e = subst (λ (r : List Variable). AreExpected t r u (correlations c.as_slice.result.now) no_members o) c.in_ok-vars.ensures c.in_ok-bound.ensures in
     let begins = listening-bound s t v u c.args.spec.now b (subst (λ (fs : List Filter). AreExpected t (within s t v u) u (correlations fs) no_members o) c.as_slice.ensures e) in
     let empty = c.in_ok-heard.ensures ∙ c.new.ensures.items in
-    c.becoming.ensures ∙ (λ i. record { node = made_node (tops.Hearing (c.in_ok-copy.ensures i) (c.in_ok-copy-2.ensures i) (c.in_ok-copy-3.ensures i) b (empty i)); context = c.in_ok-context.ensures i; emitted = None }) ∙ sym begins
+    c.becoming.ensures ∙ (λ i. record { node = made_node (c.in_ok-top.ensures i); context = c.in_ok-context.ensures i; emitted = None })
+    ∙ (λ i. record { node = made_node (tops.Hearing t v u b (empty i)); context = c.args.scene.now.context; emitted = None }) ∙ sym begins

@@ -6,10 +6,10 @@ use Rattle.swf_rules.proofs.lists.turn_guarded.Goals as goal
 
 pub returns-in_err-goes_on : goal.returns-in_err-goes_on
 returns-in_err-goes_on c =
-    turn-halt (sight_of c.args.scene.now) (sight_of c.in_ok-seen.field-0) c.args.task.now c.args.raw.now c.args.input.now c.args.value (round_of c.args.round) (guard_in (kind_of c.args.task.now)) c.in-Some.condition.now c.in_ok-vars.vars c.in_ok-first.field-0 c.from_residual-in_err-goes_on.result c.in_err-goes_on.field-0.0
-    c.in-Some.ensures c.in_ok-seen.ensures c.in_ok-vars.ensures c.in_ok-first.ensures c.from_residual-in_err-goes_on.ensures.1 c.in_err-goes_on.ensures
+    turn-halt (sight_of c.args.scene.now) c.args.task.now c.args.raw.now c.args.input.now c.args.value (round_of c.args.round) (guard_in (kind_of c.args.task.now)) c.in-Some.condition.now c.from_residual.result c.in_err-goes_on.field-0.0
+    c.in-Some.ensures c.in_err-goes_on.ensures c.from_residual.ensures.1
 
 pub returns : goal.returns
 returns c =
-    turn-asked (sight_of c.args.scene.now) (sight_of c.in_ok-seen.field-0) c.args.task.now c.args.raw.now c.args.input.now c.args.value c.in_ok-goes_on.goes_on (round_of c.args.round) (guard_in (kind_of c.args.task.now)) c.in-Some.condition.now c.in_ok-vars.vars c.in_ok-first.field-0 c.is_true.result c.turn_decided.result
-    c.in-Some.ensures c.in_ok-seen.ensures c.in_ok-vars.ensures c.in_ok-first.ensures c.in_ok-goes_on.ensures c.is_true.ensures c.turn_decided.ensures
+    turn-asked (sight_of c.args.scene.now) c.args.task.now c.args.raw.now c.args.input.now c.args.value (round_of c.args.round) (guard_in (kind_of c.args.task.now)) c.in-Some.condition.now c.in_ok-goes_on.goes_on c.turn_decided.result
+    c.in-Some.ensures c.in_ok-goes_on.ensures c.turn_decided.ensures

@@ -11,5 +11,5 @@ returns-then-place-items c =
 
 pub returns : goal.returns
 returns c =
-    pushed_turn c.args.spec.now c.args.turn.now c.index-items-place.result c.as_slice-items.result.now c.args.variables.now.items c.push.new.self.items c.push-2.new.self.items _ _ c.in_ok-push.ensures.items c.in_ok-push-2.ensures.items
-    (λ i. variable (c.in_ok-copy.ensures i) (c.in_ok-copy-2.ensures i)) (λ i. variable (c.in_ok-copy-3.ensures i) (c.position.ensures i)) c.as_slice-items.ensures c.if-place-items.false c.index-items-place.is
+    pushed_turn c.args.spec.now c.args.turn.now c.index-items-place.result c.as_slice-items.result.now c.args.variables.now.items c.push_variable.new.variables.items c.push_variable-2.new.variables.items _ _ c.in_ok-push_variable.ensures c.in_ok-push_variable-2.ensures
+    (λ i. variable c.args.spec.now.each (c.in_ok-copy.ensures i)) (λ i. variable c.args.spec.now.at (c.position.ensures i)) c.as_slice-items.ensures c.if-place-items.false c.index-items-place.is
