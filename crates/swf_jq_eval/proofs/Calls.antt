@@ -1,6 +1,6 @@
 -- Built-ins by their number of arguments.
 use mathlib.Core.Bool.{beq}
-use Rattle.std.proofs.Common.{◌≡◌, ◌∙◌, ◌<◌, ◌+◌, ℕ, Bool, true, false, zero, if◌then◌else◌, List, [], ◌∷◌, length, get_or, drop, suc, refl, sym, ap, arith, Ok, Some, None, Result, subst}
+use Rattle.std.proofs.Common.{◌≡◌, ◌∙◌, ◌<◌, ◌≤◌, ◌+◌, ℕ, Bool, true, false, not, zero, if◌then◌else◌, List, [], ◌∷◌, length, get_or, drop, suc, refl, sym, ap, arith, Ok, Err, Some, None, Result, subst}
 use Rattle.swf_expr.specs.declared.builtin.Builtin.{Builtin}
 use Rattle.swf_expr.specs.declared.builtin.Builtin.TheVariants as builtins
 use Rattle.swf_expr.specs.Expr.{Tree}
@@ -21,7 +21,7 @@ use Rattle.swf_jq_eval.specs.declared.outputs.Stop.{Stop}
 use Rattle.swf_expr.specs.declared.expr.ExprNode.{ExprNode}
 use Rattle.swf_jq_eval.specs.declared.outputs.Out.{Out}
 use Rattle.swf_jq_eval.specs.declared.outputs.Outputs.{Outputs}
-use Rattle.swf_jq_eval.proofs.Runs.{made_from}
+use Rattle.swf_jq_eval.proofs.Runs.{made_from, made_stop}
 use Rattle.swf_jq_builtins.specs.Operations.{is_true}
 use Rattle.std.specs.List.{list_any}
 use Rattle.swf_jq_eval.specs.Outputs.{Scope, run, node, runs, objects, alone, with_argument, applied, ranged, array_of}
@@ -85,6 +85,30 @@ until_on want f (y ∷ xs) zero x mid new o l q h b e =
     ∙ ap (λ (c : Bool). ahead new (if c then made (boolean want) else ended (ending_of o.end) (until want f xs))) (sym b)
     ∙ made_from F mid new (f x) o h ∙ ap (λ z. ahead mid (decided want (f z) (until want f xs))) q
 until_on want f (y ∷ xs) (suc i) x mid new o l q h b e = until_on want f xs i x mid new o (omega (arith, l)) q h b e
+
+pub until_out : (want : Bool) (f : Value → Run) (xs : List Value) (i : ℕ) (x m : Value) (mid new : Out) (o : Outputs) → i < length xs → x ≡ get_or xs i x
+    → Comes mid (f x) new (Ok o) → list_any (λ v. same_truth (is_true v) want) o.values.items ≡ false → o.end ≡ ends.Raised m → Goes mid (until want f (drop i xs)) new (Ok (ends.Raised m))
+until_out want f [] i x m mid new o l q h b e = absurd (omega (arith, l))
+until_out want f (y ∷ xs) zero x m mid new o l q h b e =
+    let F = λ (vs : List Value) (e : Ending). if list_any (λ v. same_truth (is_true v) want) vs then made (boolean want) else ended e (until want f xs) in
+    ap (λ (e : Ends). ahead new (ended (ending_of e) (until want f xs))) (sym e)
+    ∙ ap (λ (c : Bool). ahead new (if c then made (boolean want) else ended (ending_of o.end) (until want f xs))) (sym b)
+    ∙ made_from F mid new (f x) o h ∙ ap (λ z. ahead mid (decided want (f z) (until want f xs))) q
+until_out want f (y ∷ xs) (suc i) x m mid new o l q h b e = until_out want f xs i x m mid new o (omega (arith, l)) q h b e
+
+pub until_stop : (want : Bool) (f : Value → Run) (xs : List Value) (i : ℕ) (e : Stop) (x : Value) (mid new : Out) → i < length xs → x ≡ get_or xs i x
+    → Comes mid (f x) new (Err e) → Goes mid (until want f (drop i xs)) new (Err e)
+until_stop want f [] i e x mid new l q h = absurd (omega (arith, l))
+until_stop want f (y ∷ xs) zero e x mid new l q h =
+    let F = λ (vs : List Value) (e : Ending). if list_any (λ v. same_truth (is_true v) want) vs then made (boolean want) else ended e (until want f xs) in
+    subst (λ z. Goes mid (decided want (f z) (until want f xs)) new (Err e)) q (made_stop F mid new new (f x) e h)
+until_stop want f (y ∷ xs) (suc i) e x mid new l q h = until_stop want f xs i e x mid new (omega (arith, l)) q h
+
+pub until_end : (want : Bool) (f : Value → Run) (xs : List Value) (i : ℕ) → length xs ≤ i → made (boolean (not want)) ≡ until want f (drop i xs)
+until_end want f [] zero l = refl
+until_end want f [] (suc i) l = refl
+until_end want f (y ∷ xs) zero l = absurd (omega (arith, l))
+until_end want f (y ∷ xs) (suc i) l = until_end want f xs i (omega (arith, l))
 
 -- a second expression, or the input where there is none
 pub choose_is : (c a : _) (o : _) (r : Scope) (v : Value)

@@ -1,9 +1,10 @@
 -- A value's text, piece by piece.
-use Rattle.std.proofs.Common.{◌≡◌, ◌∙◌, ap, sym, subst, ℕ, suc, ◌+◌, ◌<◌, List, [], ◌∷◌, ◌++◌, true, length, get_or, drop, nat_lt, drop-cons, add-one, append_assoc, lt-ltb, arith}
+use Rattle.std.proofs.Common.{◌≡◌, ◌∙◌, ap, sym, subst, ℕ, suc, ◌+◌, ◌<◌, List, [], ◌∷◌, ◌++◌, Bool, true, false, length, get_or, drop, nat_lt, drop-cons, add-one, append_assoc, lt-ltb, arith}
 use Rattle.swf_value.specs.Value.{Value, IsValue, AreItems, AreMembers}
 use Rattle.swf_value.specs.Node.{items_of, members_of}
 use Rattle.swf_value.specs.Written.{quoted, comma, written, written_items, written_members, Extends}
 use Rattle.swf_value.specs.declared.value.Member.{Member}
+use Rattle.std.specs.Bool.{if◌then◌else◌}
 use Rattle.std.specs.Str.{all_scalars}
 
 pub Extends-trans : (a b c : List ℕ) → Extends a b → Extends b c → Extends a c
@@ -11,6 +12,13 @@ Extends-trans a b c p q = (p.0 ++ q.0, q.1 ∙ ap (λ l. l ++ q.0) p.1 ∙ appen
 
 pub Extends-more : (a b c more : List ℕ) → Extends a b → c ≡ b ++ more → Extends a c
 Extends-more a b c more p e = (p.0 ++ more, e ∙ ap (λ l. l ++ more) p.1 ∙ append_assoc a p.0 more)
+
+pub Extends-same : (a b c : List ℕ) → Extends a b → c ≡ b → Extends a c
+Extends-same a b c p e = (p.0, e ∙ p.1)
+
+pub Extends-if : (a b c more : List ℕ) (ok : Bool) → Extends a b → c ≡ (if ok then b ++ more else b) → Extends a c
+Extends-if a b c more true p e = Extends-more a b c more p e
+Extends-if a b c more false p e = Extends-same a b c p e
 
 pub first_of_rest : {A : Type 0} (ds : List A) (i : ℕ) (d : A) → i < length ds → d ≡ get_or ds i d → drop i ds ≡ d ∷ drop (i + 1) ds
 first_of_rest ds i d h e = rw add-one (drop-cons ds i d h ∙ ap (λ x. x ∷ drop (suc i) ds) (sym e))

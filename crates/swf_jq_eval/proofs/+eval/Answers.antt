@@ -1,5 +1,7 @@
 -- What each form does with each output.
-use Rattle.std.proofs.Common.{◌≡◌, ◌∙◌, ◌∷◌, List, ap, sym, subst, refl, rules, true, false, codes, arith, ◌+◌, ℕ, suc, drop}
+use Rattle.std.proofs.Common.{◌≡◌, ◌∙◌, ◌∷◌, List, Err, not, ap, sym, subst, refl, rules, true, false, codes, arith, ◌+◌, ℕ, suc, drop}
+use Rattle.std.proofs.lemmas.Result.{err_from_is_err_and}
+use Rattle.swf_jq_eval.specs.declared.outputs.Stop.{Stop}
 use Rattle.swf_value.specs.Node.{node_value, items_of}
 use Rattle.swf_value.specs.Value.{Value, boolean, list}
 use Rattle.swf_expr.specs.ExprNode.{node_tree, value_or_here}
@@ -11,7 +13,7 @@ use Rattle.swf_jq_eval.specs.Names.{names}
 use Rattle.swf_jq_eval.specs.Goes.{Goes, Comes, ahead}
 use Rattle.std.specs.List.{list_any}
 use Rattle.swf_jq_eval.proofs.Runs.{over_one, goes_from}
-use Rattle.swf_jq_eval.proofs.Calls.{until_on, call_two, across_list, each_is_over, with_other, until_found, choose_goes, other_truth}
+use Rattle.swf_jq_eval.proofs.Calls.{until_on, until_out, until_stop, until_end, call_two, across_list, each_is_over, with_other, until_found, choose_goes, other_truth}
 use Rattle.swf_jq_eval.specs.Inner.{inside}
 use Rattle.swf_jq_eval.proofs.Weights.{positive}
 use Rattle.swf_jq_eval.proofs.+eval.Goals as goal
@@ -96,6 +98,32 @@ search::until-returns-then-has_truth t c =
     goes_from c.args.out.now c.all.new.out c.make_truth.new.out (until c.args.want f c.args.values.now) (made (boolean c.args.want)) c.make_truth.result
     (until_found c.args.want f c.args.values.now c.loop-x.x-index c.x-item.result c.loop-x.out c.all.new.out o c.loop-x-test.true c.x-item.is c.in_ok-values.ensures seen ∙ c.loop-x.invariant)
     c.make_truth.ensures
+
+pub search::until-returns-in-Raised : goal.search::until-returns-in-Raised
+search::until-returns-in-Raised t c =
+    let f = λ (x : Value). run c.args.expr.now (names c.args.at.now) x in
+    let o = c.in_ok-values.field-0 in
+    let none : list_any (λ v. same_truth (is_true v) c.args.want) o.values.items ≡ false =
+    ap (λ (w : List Value). list_any (λ v. same_truth (is_true v) c.args.want) w) (sym c.deref.ensures.value) ∙ sym c.has_truth.ensures ∙ c.if-has_truth.false in
+    until_out c.args.want f c.args.values.now c.loop-x.x-index c.x-item.result c.in-Raised.error c.loop-x.out c.all.new.out o c.loop-x-test.true c.x-item.is c.in_ok-values.ensures none c.in-Raised.is ∙ c.loop-x.invariant
+
+pub search::until-returns-in_err-values : goal.search::until-returns-in_err-values
+search::until-returns-in_err-values t c =
+    let f = λ (x : Value). run c.args.expr.now (names c.args.at.now) x in
+    let xs = c.args.values.now in
+    let n : ℕ = c.loop-x.x-index in
+    let e : Stop = c.in_err-values.field-0.0 in
+    let same = err_from_is_err_and c.from_residual.result c.from_residual.ensures.1 in
+    subst (λ r. Goes c.args.out.now (until c.args.want f xs) c.all.new.out r) (sym (same.1 ∙ ap Err same.2))
+    (goes_from c.args.out.now c.loop-x.out c.all.new.out (until c.args.want f xs) (until c.args.want f (drop n xs)) (Err e) c.loop-x.invariant
+    (until_stop c.args.want f xs n e c.x-item.result c.loop-x.out c.all.new.out c.loop-x-test.true c.x-item.is c.in_err-values.ensures))
+
+pub search::until-returns : goal.search::until-returns
+search::until-returns t c =
+    let f = λ (x : Value). run c.args.expr.now (names c.args.at.now) x in
+    goes_from c.args.out.now c.loop-x.out c.make_truth-2.new.out (until c.args.want f c.args.values.now) (made (boolean (not c.args.want))) c.make_truth-2.result
+    (ap (ahead c.loop-x.out) (until_end c.args.want f c.args.values.now c.loop-x.x-index c.loop-x-test.false) ∙ c.loop-x.invariant)
+    c.make_truth-2.ensures
 
 pub forms::level-returns-in-Index : goal.forms::level-returns-in-Index
 forms::level-returns-in-Index t c =

@@ -1,6 +1,6 @@
 use Rattle.std.proofs.Common.{◌≡◌, ◌∷◌, ◌+◌, drop, arith}
 use Rattle.swf_value.proofs.Weights.{weight_item, weight_member}
-use Rattle.swf_value.proofs.Writing.{first_of_rest, item_written, item_valued, member_written, member_valued, Extends-trans, Extends-more}
+use Rattle.swf_value.proofs.Writing.{first_of_rest, item_written, item_valued, member_written, member_valued, Extends-trans, Extends-more, Extends-same, Extends-if}
 use Rattle.swf_value.proofs.write.+write.Goals as goal
 
 pub write_list-write_value-requires : goal.write_list-write_value-requires
@@ -32,3 +32,32 @@ write_object-loop-index-preserved t c =
       λ more. c.loop-index.invariant.1 (member_valued ms i m first c.in_ok-write_name.ensures.scalars c.in_ok-write_value.ensures.value more),
       Extends-trans _ _ _ (Extends-trans _ _ _ (Extends-more _ _ _ _ c.loop-index.invariant.2 c.in_ok-write_comma.ensures.ok) c.in_ok-write_name.ensures.kept) c.in_ok-write_value.ensures.kept,
     )
+
+pub write_list-returns-in_err-write_comma-clause-kept : goal.write_list-returns-in_err-write_comma-clause-kept
+write_list-returns-in_err-write_comma-clause-kept t c =
+    Extends-same _ _ _ c.loop-index.invariant.2 c.in_err-write_comma.ensures.err
+
+pub write_list-returns-in_err-write_value-clause-kept : goal.write_list-returns-in_err-write_value-clause-kept
+write_list-returns-in_err-write_value-clause-kept t c =
+    Extends-trans _ _ _ (Extends-more _ _ _ _ c.loop-index.invariant.2 c.in_ok-write_comma.ensures.ok) c.in_err-write_value.ensures.kept
+
+pub write_object-returns-in_err-write_comma-clause-kept : goal.write_object-returns-in_err-write_comma-clause-kept
+write_object-returns-in_err-write_comma-clause-kept t c =
+    Extends-same _ _ _ c.loop-index.invariant.2 c.in_err-write_comma.ensures.err
+
+pub write_object-returns-in_err-write_name-clause-kept : goal.write_object-returns-in_err-write_name-clause-kept
+write_object-returns-in_err-write_name-clause-kept t c =
+    Extends-trans _ _ _ (Extends-more _ _ _ _ c.loop-index.invariant.2 c.in_ok-write_comma.ensures.ok) c.in_err-write_name.ensures.kept
+
+pub write_object-returns-in_err-write_value-clause-kept : goal.write_object-returns-in_err-write_value-clause-kept
+write_object-returns-in_err-write_value-clause-kept t c =
+    Extends-trans _ _ _ (Extends-trans _ _ _ (Extends-more _ _ _ _ c.loop-index.invariant.2 c.in_ok-write_comma.ensures.ok) c.in_ok-write_name.ensures.kept) c.in_err-write_value.ensures.kept
+
+
+pub write_list-returns-clause-kept : goal.write_list-returns-clause-kept
+write_list-returns-clause-kept t c =
+    Extends-if _ _ _ _ _ c.loop-index.invariant.2 c.extend_from_slice-2.ensures.items
+
+pub write_object-returns-clause-kept : goal.write_object-returns-clause-kept
+write_object-returns-clause-kept t c =
+    Extends-if _ _ _ _ _ c.loop-index.invariant.2 c.extend_from_slice-2.ensures.items
