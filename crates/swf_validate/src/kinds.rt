@@ -171,6 +171,20 @@ fn cases<'x>(
     ensures { OnOk result (out.new ≡ out.old ++ cases_faults (scope_of scope.now) nowhere (place_at at.now) 0 given.now) }
 {
     let mut seen = Names::new(alloc);
+    cases_after(alloc, scope, at, &mut seen, given, out)
+}
+
+// The faults of the cases of a `switch` after these names.
+fn cases_after<'x>(
+    alloc: Global,
+    scope: &Scope<'_>,
+    at: &'x Spot<'x>,
+    seen: &mut Names,
+    given: &'x [Case],
+    out: &mut Faults,
+) -> Result<(), AllocError>
+    ensures { OnOk result (out.new ≡ out.old ++ cases_faults (scope_of scope.now) (places_in seen.old) (place_at at.now) 0 given.now) }
+{
     for (position, one) in given.iter().enumerate() {
         let item = Spot::Item(at, position);
         let fresh = seen.add(&one.name, position)?;

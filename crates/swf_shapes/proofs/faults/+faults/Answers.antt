@@ -35,7 +35,7 @@ push_member_faults-loop-member-preserved t c =
     let first : drop i ms ≡ m ∷ drop (i + 1) ms = first_of_rest ms i m c.loop-member-test.true c.member-item.is in
     record {
       faults = member_step c.args.layout.now p c.in_ok-place.place ms i m c.loop-member.faults _ _ first (c.in_ok-place.ensures ∙ ap (λ (x : List ℕ). p ++ x ∷ []) c.in_ok-copy.ensures)
-        (c.in_ok-push_faults.ensures ∙ ap (λ s. c.loop-member.faults ++ faults_in c.args.layout.now.inside s c.in_ok-place.place m.value) c.shape_at-shape.ensures) c.loop-member.invariant.faults;
+          (c.in_ok-push_faults.ensures ∙ ap (λ s. c.loop-member.faults ++ faults_in c.args.layout.now.inside s c.in_ok-place.place m.value) c.shape_at-shape.ensures) c.loop-member.invariant.faults;
       weigh = omega (arith, c.loop-member.invariant.weigh, ap (λ (l : List Member). weight_members (members_of l)) first);
     }
 

@@ -53,7 +53,6 @@ pub write_object-returns-in_err-write_value-clause-kept : goal.write_object-retu
 write_object-returns-in_err-write_value-clause-kept t c =
     Extends-trans _ _ _ (Extends-trans _ _ _ (Extends-more _ _ _ _ c.loop-index.invariant.2 c.in_ok-write_comma.ensures.ok) c.in_ok-write_name.ensures.kept) c.in_err-write_value.ensures.kept
 
-
 pub write_list-returns-clause-kept : goal.write_list-returns-clause-kept
 write_list-returns-clause-kept t c =
     Extends-if _ _ _ _ _ c.loop-index.invariant.2 c.extend_from_slice-2.ensures.items
