@@ -183,13 +183,21 @@ pub fn scope_faults(alloc: Global, document: &Document) -> Result<Faults, AllocE
     ensures { IfOk result (λ faults. faults ≡ scope_faults document.now) }
 {
     let known = known_in(alloc, document)?;
+    faults_by(alloc, document, &known)
+}
+
+// All faults of scope of a document that gives these names.
+fn faults_by(alloc: Global, document: &Document, known: &Known) -> Result<Faults, AllocError>
+    requires { known_of known.now ≡ known_in document.now }
+    ensures { IfOk result (λ faults. faults ≡ scope_faults document.now) }
+{
     let targets = Names::new(alloc);
     let nothing = Variables::Nothing;
     let workflow = Variables::Word(Standard::Workflow, &nothing);
     let context = Variables::Word(Standard::Context, &workflow);
     let around = Variables::Word(Standard::Task, &context);
     let scope = Scope {
-        known: &known,
+        known,
         targets: &targets,
         in_branch: false,
         around: &around,
