@@ -119,7 +119,16 @@ fn say_full<H: Host>(alloc: Global, host: &mut H, conn: u64, size: u64) -> After
     let Ok(line) = full_line(alloc, size) else {
         return After::Stops(NO_MEMORY);
     };
-    match host.say(conn, &line) {
+    say_last(host, conn, &line)
+}
+
+// Says a line behind which the program stops, since the journal is full.
+fn say_last<H: Host>(host: &mut H, conn: u64, line: &[u8]) -> After
+    ensures says { Says H.moment H.left_since H.said H.may_leave H.seen H.taken host.old host.new conn line.now (After.Stops 7) result }
+    ensures stops { IsStop result }
+    ensures blamed { IsBlamed (status_of result) (H.host_faults host.old) (H.host_faults host.new) (H.store_faults host.old) (H.store_faults host.new) }
+{
+    match host.say(conn, line) {
         Ok(()) => After::Stops(FULL),
         Err(_) => After::Stops(HOST_FAULT),
     }
