@@ -1,8 +1,9 @@
 // Tokens with words: keywords, names, `.` and a name, `$` and a name.
 #![tactic(auto, using(crate::proofs::Keywords::word_is, crate::proofs::Keywords::name_is))]
 
-ghost use Rattle.std.specs.Prelude.{◌≡◌, ◌≤◌, ◌∷◌, length, true, IfOk};
-ghost use Rattle.swf_expr.specs.Name.{starts_name};
+ghost use Rattle.std.specs.Prelude.{◌≡◌, ◌≤◌, ◌∷◌, ◌++◌, length, true, IfOk, OnOk};
+ghost use Rattle.std.specs.List.{take_while};
+ghost use Rattle.swf_expr.specs.Name.{starts_name, goes_on_name};
 ghost use Rattle.swf_jq_tokens.specs.Lexer.{word_token, prefixed};
 ghost use Rattle.swf_jq_tokens.specs.Words.{word, word_length, keyword_in, keyword_of};
 
@@ -26,6 +27,16 @@ fn read_word(alloc: Global, first: char, tail: &[char]) -> Result<(Text, usize),
 {
     let mut word = TextBuilder::new(alloc);
     word.push(first)?;
+    let length = push_rest(&mut word, tail)?;
+    Ok((word.into_text(alloc)?, length))
+}
+
+/// What goes on with a word is added to it, and counted.
+fn push_rest(word: &mut TextBuilder, tail: &[char]) -> Result<usize, AllocError>
+    ensures grows { OnOk result (word.new ≡ word.old ++ take_while goes_on_name tail.now) }
+    ensures counts { IfOk result (λ n. n ≡ word_length tail.now) }
+    ensures within { IfOk result (λ n. n ≤ length tail.now) }
+{
     let mut length = 0;
     for c in tail {
         if !(starts_name(*c) || matches!(*c, '0'..='9')) {
@@ -34,7 +45,7 @@ fn read_word(alloc: Global, first: char, tail: &[char]) -> Result<(Text, usize),
         word.push(*c)?;
         length += 1;
     }
-    Ok((word.into_text(alloc)?, length))
+    Ok(length)
 }
 
 /// The first of these keywords that is spelled so.
@@ -77,18 +88,29 @@ pub fn prefixed(alloc: Global, first: char, tail: &[char]) -> Result<Option<Foun
     ensures { IfOk result (λ r. r ≡ prefixed first tail.now) }
 {
     match (first, tail) {
-        (_, [c, more @ ..]) if starts_name(*c) => {
-            let (word, length) = read_word(alloc, *c, more)?;
-            match first {
-                '.' => Ok(Some((Token::Field(word), length + 1))),
-                '$' if keyword_of(&word).is_none() => {
-                    Ok(Some((Token::Var(Name::new(word)), length + 1)))
-                }
-                _ => Ok(None),
-            }
-        }
+        (_, [c, more @ ..]) if starts_name(*c) => prefixed_word(alloc, first, *c, more),
         ('.', ['.', ..]) => Ok(Some((Token::Dots, 0))),
         ('.', _) => Ok(Some((Token::Dot, 0))),
+        _ => Ok(None),
+    }
+}
+
+/// What begins with a `.` or a `$` and a word.
+fn prefixed_word(
+    alloc: Global,
+    first: char,
+    start: char,
+    tail: &[char],
+) -> Result<Option<Found>, AllocError>
+    requires { starts_name start ≡ true }
+    ensures { IfOk result (λ r. r ≡ prefixed first (start ∷ tail.now)) }
+{
+    let (word, length) = read_word(alloc, start, tail)?;
+    match first {
+        '.' => Ok(Some((Token::Field(word), length + 1))),
+        '$' if keyword_of(&word).is_none() => {
+            Ok(Some((Token::Var(Name::new(word)), length + 1)))
+        }
         _ => Ok(None),
     }
 }
