@@ -1,7 +1,8 @@
--- Which events are told from a number on.
-use Rattle.std.proofs.Common.{◌≡◌, ◌∙◌, ap, sym, ℕ, ◌+◌, ◌-◌, ◌≤◌, ◌⊎◌, inl, inr, min, nat_le, length, drop, arith, length-drop, List, take}
+-- Which events are told from a number on, and that one more is.
+use Rattle.std.proofs.Common.{◌≡◌, ◌∙◌, ap, sym, ℕ, ◌+◌, ◌-◌, ◌<◌, ◌≤◌, ◌⊎◌, inl, inr, min, nat_le, length, drop, arith, length-drop, List, [], ◌∷◌, ◌++◌, append_assoc, get_or, map, take}
 use Rattle.std.proofs.lemmas.Bool.{cases_Bool, leb-true, leb-false}
 use Rattle.std.proofs.lemmas.List.{drop_all, take_all}
+use Rattle.swf_value.proofs.Writing.{first_of_rest}
 use Rattle.swf_meaning.specs.Printed.{most_told}
 
 -- the events from one number to another are those that are told
@@ -24,3 +25,8 @@ told_is xs from first end p q = elim (cases_Bool (nat_le from (length xs))) [
       ap (λ ys. take (end - first) ys) (drop_all first xs (omega (arith, p, past)) ∙ sym (drop_all from xs (omega (arith, past))))
       ∙ take_alike (drop from xs) (end - first) most_told (inr (omega (arith, past, length-drop from xs), omega (arith, past, length-drop from xs)))
 ]
+
+-- one more is told, and the rest is told behind it
+pub one_more : {A B : Type 0} (f : A → B) (xs : List A) (i : ℕ) (x : A) (old new whole : List B) → i < length xs → x ≡ get_or xs i x → new ≡ old ++ f x ∷ [] → old ++ map f (drop i xs) ≡ whole → new ++ map f (drop (i + 1) xs) ≡ whole
+one_more f xs i x old new whole within is more told =
+    ap (λ ys. ys ++ map f (drop (i + 1) xs)) more ∙ append_assoc old (f x ∷ []) (map f (drop (i + 1) xs)) ∙ ap (λ ys. old ++ map f ys) (sym (first_of_rest xs i x within is)) ∙ told

@@ -1,5 +1,5 @@
 -- A step that is written into the map is the step of the definitions.
-use Rattle.std.proofs.Common.{◌≡◌, ◌∙◌, ap, sym, refl, subst, ℕ, zero, suc, ◌<◌, ◌==◌, List, [], ◌∷◌, length, true, Option, Some, None, option_map, slice_get, arith}
+use Rattle.std.proofs.Common.{◌≡◌, ◌∙◌, ap, sym, refl, ℕ, zero, suc, ◌<◌, ◌==◌, List, [], ◌∷◌, length, true, Option, Some, None, option_map, slice_get, arith}
 use Rattle.std.specs.List.{AllByRecursion, list_any}
 use Rattle.std.proofs.lemmas.List.{length-map}
 use Rattle.std.proofs.lemmas.Option.{same_Some}
@@ -7,19 +7,17 @@ use Rattle.indexmap.specs.IndexMap.{set_value_at}
 use Rattle.swf_cloudevents.specs.declared.event.Event.{Event}
 use Rattle.swf_meaning.specs.Complete.{Stepped}
 use Rattle.swf_meaning.specs.Local.{local}
-use Rattle.swf_meaning.specs.Offer.{offered_one}
 use Rattle.swf_meaning.specs.Wake.{waits}
 use Rattle.swf_meaning.specs.World.{Instance, sight}
 use Rattle.swf_tasks.specs.Prepares.{applied, Fits, IsPrepared}
 use Rattle.swf_tasks.specs.Taken.{taken}
 use Rattle.swf_tasks.specs.declared.machine.Prepared.{Prepared}
 use Rattle.swf_tasks.specs.declared.machine.Step.{Step}
-use Rattle.swf_tasks.specs.declared.machine.Step.TheVariants.{Whole}
 use Rattle.swf_world.specs.Changes.{IsReady, after_step, offered_own, take_at}
 use Rattle.swf_world.specs.Fields.{instances_in}
 use Rattle.swf_world.specs.Kept.{IsPlaced}
 use Rattle.swf_world.specs.Queued.{enabled_at}
-use Rattle.swf_world.proofs.MachineLemmas.{enabled_within, fits_id}
+use Rattle.swf_world.proofs.MachineLemmas.{enabled_within}
 use Rattle.swf_world.proofs.OfferLemmas.{waits_offered}
 
 -- an instance that can take a step is in the map
@@ -51,7 +49,7 @@ own_waits None i = refl
 own_waits (Some e) i = waits_offered e i.node
 
 -- an instance is ready to take a step that was prepared, once the event was offered to it which goes out
-prepared_ready : (now n : ℕ) (strand : List ℕ) (is : List Instance) (i : Instance) (p : Prepared) (step : Step) → slice_get is n ≡ Some i → IsPrepared now strand i p → Fits step i → applied step i ≡ offered_own p.emitted (applied p.step i) →
+pub prepared_ready : (now n : ℕ) (strand : List ℕ) (is : List Instance) (i : Instance) (p : Prepared) (step : Step) → slice_get is n ≡ Some i → IsPrepared now strand i p → Fits step i → applied step i ≡ offered_own p.emitted (applied p.step i) →
     IsReady now n strand is step p.until p.emitted
 prepared_ready now n strand is i p step there prepared fits same = record {
   instance = i;
@@ -60,13 +58,3 @@ prepared_ready now n strand is i p step there prepared fits same = record {
   stepped = own_step i (local (sight now i) strand i.node) ∙ ap (option_map with_own) prepared.step ∙ ap (λ j. Some (j, p.emitted)) (sym same);
   waits = λ m w. prepared.waits m (ap (λ ms. list_any (λ k. m == k) ms) (sym (ap (λ j. waits j.node) same ∙ own_waits p.emitted (applied p.step i))) ∙ w);
 }
-
-pub quiet_ready : (now n : ℕ) (strand : List ℕ) (is : List Instance) (i : Instance) (p : Prepared) (step : Step) → slice_get is n ≡ Some i → IsPrepared now strand i p → p.emitted ≡ None → step ≡ p.step → IsReady now n strand is step p.until p.emitted
-quiet_ready now n strand is i p step there prepared none same =
-    prepared_ready now n strand is i p step there prepared (subst (λ s. Fits s i) (sym same) prepared.fits) (ap (λ s. applied s i) same ∙ ap (λ o. offered_own o (applied p.step i)) (sym none))
-
-pub sent_ready : (now n : ℕ) (strand : List ℕ) (is : List Instance) (i : Instance) (p : Prepared) (step : Step) (e : Event) →
-    slice_get is n ≡ Some i → IsPrepared now strand i p → p.emitted ≡ Some e → step ≡ Whole (offered_one e (applied p.step i)) → IsReady now n strand is step p.until p.emitted
-sent_ready now n strand is i p step e there prepared emitted same =
-    prepared_ready now n strand is i p step there prepared (subst (λ s. Fits s i) (sym same) (fits_id p.step i prepared.fits))
-    (ap (λ s. applied s i) same ∙ ap (λ o. offered_own o (applied p.step i)) (sym emitted))

@@ -10,19 +10,7 @@ use swf_text::Place;
 fn is_built(kind: &Kind) -> bool
     ensures { result ≡ is_built (kind_of kind.now) }
 {
-    match kind {
-        Kind::Do(_)
-        | Kind::Emit(_)
-        | Kind::For(_)
-        | Kind::Fork(_)
-        | Kind::Listen(_)
-        | Kind::Raise(_)
-        | Kind::Set(_)
-        | Kind::Switch(_)
-        | Kind::Try(_)
-        | Kind::Wait(_) => true,
-        Kind::Call(_) | Kind::Run(_) => false,
-    }
+    !matches!(kind, Kind::Call(_) | Kind::Run(_))
 }
 
 // The place of the first task of a kind that is not built: a task before those in it, and a handler before the list whose

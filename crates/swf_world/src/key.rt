@@ -3,6 +3,7 @@ ghost use Rattle.std.specs.Prelude.{◌≡◌, refl};
 ghost use Rattle.swf_world.specs.UsedKey.{stands_for, hashed_alike, stands_alike, sought_alike, used_at, sought_key};
 ghost use Rattle.swf_runs.specs.Keys.{same_doc};
 
+use crate::latest::same_name;
 use indexmap::{Equivalent, IndexMap};
 use std::hash::Hash;
 use swf_document::DocKey;
@@ -42,9 +43,7 @@ impl<'a> Equivalent<Key> for Sought<'a> {
 fn same_key(a: &DocKey, b: &DocKey) -> bool
     ensures { result ≡ same_doc a.now b.now }
 {
-    same_texts(&a.namespace, &b.namespace)
-        && same_texts(&a.name, &b.name)
-        && same_texts(&a.version, &b.version)
+    same_name(a, b) && same_texts(&a.version, &b.version)
 }
 
 /// The place at which a key was used.

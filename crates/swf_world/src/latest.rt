@@ -34,11 +34,7 @@ impl World {
             return Ok(key);
         }
         let version = self.last_version(&key).copy()?;
-        Ok(DocKey {
-            namespace: key.namespace,
-            name: key.name,
-            version,
-        })
+        Ok(DocKey { version, ..key })
     }
 
     // The version of the last document that was loaded of a key's namespace and name, or the key's own.
@@ -57,8 +53,8 @@ impl World {
     }
 }
 
-// Whether two keys are of one document, in whatever version.
-fn same_name(a: &DocKey, b: &DocKey) -> bool
+/// Whether two keys are of one document, in whatever version.
+pub fn same_name(a: &DocKey, b: &DocKey) -> bool
     ensures { result ≡ same_name a.now b.now }
 {
     same_texts(&a.namespace, &b.namespace) && same_texts(&a.name, &b.name)

@@ -1,25 +1,26 @@
 // The changes that labels make.
 ghost use Rattle.std.specs.Prelude.{◌≡◌, ◌<◌, length, IfOk};
-ghost use Rattle.swf_meaning.specs.Offer.{offered_one};
+ghost use Rattle.swf_meaning.specs.World.{new_instance};
 ghost use Rattle.swf_tasks.specs.Prepares.{applied, Fits};
-ghost use Rattle.swf_tasks.specs.declared.machine.Step.TheVariants as Step;
+ghost use Rattle.swf_world.specs.Changes.{offered_own};
 ghost use Rattle.swf_world.specs.Fields.{instances_in};
+ghost use Rattle.swf_world.specs.Offers.{IsSent};
 ghost use Rattle.swf_world.specs.Prepares.{untold, load_of, start_of, IsTelling, IsStepping};
 
 use crate::change::{Change, ChangeKind};
-use crate::offer::{Offered, offer};
-use crate::world::{Loaded, World};
+use crate::offer::{Hearing, Offered, offer};
+use crate::world::Loaded;
 use indexmap::IndexMap;
 use std::alloc::{AllocError, Global};
 use swf_cloudevents::Event;
 use swf_meaning::Key;
-use swf_tasks::{BoxedMachine, Machine, Site, Step};
+use swf_tasks::{BoxedMachine, Machine, SentEvent, Site, Step};
 use swf_text::{Strand, Text};
 use swf_validate::Accepted;
 use swf_value::Json;
 
-// A change of which no listen takes an event that is told.
-fn untold(kind: ChangeKind) -> Change
+/// A change of which no listen takes an event that is told.
+pub fn untold(kind: ChangeKind) -> Change
     ensures { result ≡ untold kind }
 {
     Change { kind, taken: 0 }
@@ -29,35 +30,42 @@ fn untold(kind: ChangeKind) -> Change
 pub fn load_change(value: &Json, document: Accepted) -> Result<Change, AllocError>
     ensures { IfOk result (λ c. c ≡ load_of value.now document) }
 {
-    let key = document.document().key.copy()?;
-    let used = Key::Document(document.document().key.copy()?);
     let value = value.copy()?;
-    Ok(untold(ChangeKind::Load {
-        key,
-        used,
-        loaded: Loaded { value, document },
-    }))
+    let loaded = Loaded { value, document };
+    let key = loaded.document.document().key.copy()?;
+    let used = Key::Document(key.copy()?);
+    Ok(untold(ChangeKind::Load { key, used, loaded }))
 }
 
-impl World {
-    /// The change that adds an instance which has not begun.
-    pub(crate) fn start_change(
-        &self,
-        id: &Text,
-        document: &Accepted,
-        input: &Json,
-    ) -> Result<Change, AllocError>
-        ensures { IfOk result (λ c. c ≡ start_of id.now document.now input.now self.now.world.now) }
-    {
-        let (alloc, now) = (self.alloc, self.moment);
-        let words = self.words.as_ref().ok_or(AllocError)?;
-        let site = Site { now, words };
-        let begun = Machine::begin(alloc, id.copy()?, document.copy()?, input.copy()?, &site)?;
-        let instance = BoxedMachine::new(alloc, begun)?;
-        let used = Key::Instance(id.copy()?);
-        let id = id.copy()?;
-        Ok(untold(ChangeKind::Start { id, used, instance }))
-    }
+/// The change that adds an instance which has not begun.
+pub fn start_change(
+    alloc: Global,
+    id: &Text,
+    document: &Accepted,
+    input: &Json,
+    site: &Site<'_>,
+) -> Result<Change, AllocError>
+    ensures { IfOk result (λ c. c ≡ start_of id.now document.now input.now site.entry.now.now) }
+{
+    let used = Key::Instance(id.copy()?);
+    let instance = begun(alloc, id, document, input, site)?;
+    let id = id.copy()?;
+    Ok(untold(ChangeKind::Start { id, used, instance }))
+}
+
+// An instance that has just begun.
+fn begun(
+    alloc: Global,
+    id: &Text,
+    document: &Accepted,
+    input: &Json,
+    site: &Site<'_>,
+) -> Result<BoxedMachine, AllocError>
+    ensures { IfOk result (λ b. b ≡ new_instance id.now input.now site.entry.now.now document.now) }
+{
+    let (document, input) = (document.copy()?, input.copy()?);
+    let machine = Machine::begin(alloc, id.copy()?, document, input, site)?;
+    BoxedMachine::new(alloc, machine)
 }
 
 /// The change that tells an event to all instances.
@@ -70,10 +78,8 @@ pub fn event_change(
 {
     let used = Key::Event(event.source.copy()?, event.id.copy()?);
     let Offered { heard, taken } = offer(alloc, event, instances, instances.len())?;
-    Ok(Change {
-        kind: ChangeKind::Event { used, heard },
-        taken,
-    })
+    let kind = ChangeKind::Event { used, heard };
+    Ok(Change { kind, taken })
 }
 
 /// The change of an instance's step. An event that goes out is offered to all, and to it as well.
@@ -91,13 +97,8 @@ pub fn step_change(
     let Ok(prepared) = instance.prepare(alloc, strand, site) else {
         return Err(AllocError);
     };
-    let mut step = prepared.step;
-    let mut heard = Vec::new(alloc);
-    if let Some(sent) = &prepared.emitted {
-        let event = sent.event();
-        step = offered_step(alloc, instance, step, event)?;
-        heard = offer(alloc, event, instances, number)?.heard;
-    }
+    let step = offered_step(alloc, instance, prepared.step, &prepared.emitted)?;
+    let heard = heard_by(alloc, &prepared.emitted, instances, number)?;
     Ok(untold(ChangeKind::Step {
         number,
         step,
@@ -107,18 +108,36 @@ pub fn step_change(
     }))
 }
 
-// The step of an instance that is offered the event which goes out.
+// The step of an instance that is offered the event which goes out, where one does.
 fn offered_step(
     alloc: Global,
     instance: &Machine,
     step: Step,
-    event: &Event,
+    emitted: &Option<SentEvent>,
 ) -> Result<Step, AllocError>
     requires { Fits step instance.now }
-    ensures { IfOk result (λ s. s ≡ Step.Whole (offered_one event.now (applied step instance.now))) }
+    ensures { IfOk result (λ s. Fits s instance.now × (applied s instance.now ≡ offered_own emitted.now (applied step instance.now))) }
 {
+    let Some(sent) = emitted else {
+        return Ok(step);
+    };
     let mut instance = instance.copy(alloc)?;
     instance.take(step);
-    instance.deliver_event(alloc, event)?;
+    instance.deliver_event(alloc, sent.event())?;
     Ok(Step::Whole(BoxedMachine::new(alloc, instance)?))
+}
+
+// The others that take the event which goes out, where one does.
+fn heard_by(
+    alloc: Global,
+    emitted: &Option<SentEvent>,
+    instances: &IndexMap<Text, Machine>,
+    number: usize,
+) -> Result<Vec<Hearing>, AllocError>
+    ensures { IfOk result (λ hs. IsSent number emitted.now (instances_in instances.now.entries) hs.items) }
+{
+    match emitted {
+        Some(sent) => Ok(offer(alloc, sent.event(), instances, number)?.heard),
+        None => Ok(Vec::new(alloc)),
+    }
 }

@@ -1,7 +1,7 @@
 // What all instances wait for, and the events that went out.
 ghost use Rattle.std.specs.Prelude.{◌≡◌, ◌++◌, ◌∷◌, [], IfOk, OnOk, IsTrue, codes, drop, map, take, option_to_list, if◌then◌else◌};
 ghost use Rattle.swf_text.specs.Same.{is_ascii};
-ghost use Rattle.swf_value.specs.Value.{list};
+ghost use Rattle.swf_value.specs.Value.{list, member, no_items, no_members, object, text};
 ghost use Rattle.swf_value.specs.Node.{items_of};
 ghost use Rattle.swf_meaning.specs.Pending.{listening, waiting, strand_value, listen_value, timer_value, pending_value, outbox_value};
 ghost use Rattle.swf_meaning.specs.Printed.{most_told};
@@ -30,6 +30,13 @@ pub fn pending(alloc: Global, instances: &IndexMap<Text, Machine>) -> Result<Jso
     for number in 0..instances.len() {
         push_instance(alloc, &mut listens, &mut timers, &instances[number])?;
     }
+    waits_value(alloc, listens, timers)
+}
+
+// The value of these listens and timers.
+fn waits_value(alloc: Global, listens: Vec<Json>, timers: Vec<Json>) -> Result<Json, AllocError>
+    ensures { IfOk result (λ v. v ≡ object (member (codes "calls") (list no_items) (member (codes "listens") (list (items_of listens.items)) (member (codes "timers") (list (items_of timers.items)) no_members)))) }
+{
     let mut members = Vec::new(alloc);
     members.push(list_member(alloc, "calls", Vec::new(alloc))?)?;
     members.push(list_member(alloc, "listens", listens)?)?;
@@ -94,12 +101,13 @@ fn push_listen(
     ensures { OnOk result (listens.new.items ≡ listens.old.items ++ (if listens_at strand.now instance.now.node then listen_value instance.now strand.now ∷ [] else [])) }
 {
     if instance.listens(strand) {
-        listens.push(listen_value(alloc, instance, strand)?)?;
+        let members = names_of(alloc, instance, strand)?;
+        listens.push(Json::object(alloc, members)?)?;
     }
     Ok(())
 }
 
-// Adds what is told of a strand that waits for a moment.
+// Adds what is told of a strand that waits for a moment. One above the greatest number that a value holds counts as want of memory.
 fn push_timer(
     alloc: Global,
     timers: &mut Vec<Json>,
@@ -108,10 +116,26 @@ fn push_timer(
 ) -> Result<(), AllocError>
     ensures { OnOk result (timers.new.items ≡ timers.old.items ++ map (λ m. timer_value instance.now (strand.now, m)) (option_to_list (until_at strand.now instance.now.node))) }
 {
-    if let Some(until) = instance.until(strand) {
-        timers.push(timer_value(alloc, instance, strand, until)?)?;
+    let Some(until) = instance.until(strand) else {
+        return Ok(());
+    };
+    if until > GREATEST {
+        return Err(AllocError);
     }
+    let mut members = names_of(alloc, instance, strand)?;
+    members.push(member(alloc, "until", Json::int(until as i64))?)?;
+    timers.push(Json::object(alloc, members)?)?;
     Ok(())
+}
+
+// The members that name a strand of an instance.
+fn names_of(alloc: Global, instance: &Machine, strand: &Strand) -> Result<Vec<Member>, AllocError>
+    ensures { IfOk result (λ ms. ms.items ≡ record { name = codes "instance"; value = text instance.now.id } ∷ record { name = codes "strand"; value = strand_value strand.now } ∷ []) }
+{
+    let mut members = Vec::new(alloc);
+    members.push(member(alloc, "instance", Json::text(instance.id().copy()?))?)?;
+    members.push(strand_member(alloc, strand)?)?;
+    Ok(members)
 }
 
 // The numbers of a strand's branches.
@@ -123,32 +147,4 @@ fn strand_member(alloc: Global, strand: &Strand) -> Result<Member, AllocError>
         items.push(Json::int(*number as i64))?;
     }
     list_member(alloc, "strand", items)
-}
-
-fn listen_value(alloc: Global, instance: &Machine, strand: &Strand) -> Result<Json, AllocError>
-    ensures { IfOk result (λ v. v ≡ listen_value instance.now strand.now) }
-{
-    let mut members = Vec::new(alloc);
-    members.push(member(alloc, "instance", Json::text(instance.id().copy()?))?)?;
-    members.push(strand_member(alloc, strand)?)?;
-    Json::object(alloc, members)
-}
-
-// A moment above the greatest number that a value holds counts as want of memory.
-fn timer_value(
-    alloc: Global,
-    instance: &Machine,
-    strand: &Strand,
-    until: u64,
-) -> Result<Json, AllocError>
-    ensures { IfOk result (λ v. v ≡ timer_value instance.now (strand.now, until)) }
-{
-    if until > GREATEST {
-        return Err(AllocError);
-    }
-    let mut members = Vec::new(alloc);
-    members.push(member(alloc, "instance", Json::text(instance.id().copy()?))?)?;
-    members.push(strand_member(alloc, strand)?)?;
-    members.push(member(alloc, "until", Json::int(until as i64))?)?;
-    Json::object(alloc, members)
 }

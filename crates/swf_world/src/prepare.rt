@@ -7,25 +7,27 @@ ghost use Rattle.swf_meaning.specs.declared.key.Key.TheVariants as keys;
 ghost use Rattle.swf_meaning.specs.Answer.{instance_at};
 ghost use Rattle.swf_runs.specs.After.{after, accepted, document_at, load_faults, taken_by};
 ghost use Rattle.std.specs.List.{AllByRecursion};
+ghost use Rattle.indexmap.specs.IndexMap.{spare};
 ghost use Rattle.swf_world.specs.Early.{IsEarly, IsEarlyRefusal};
 ghost use Rattle.swf_world.specs.Changes.{Suits, changed};
 ghost use Rattle.swf_world.specs.Refusals.{refusal, refusal_of_load, refusal_of_start, refusal_of_moment, refusal_of_step, duplicate, refused_by, IsLoad};
 ghost use Rattle.swf_world.specs.UsedKey.{used_at};
-ghost use Rattle.swf_world.specs.Prepares.{Prepares, StepsFirst, IsStepping, or_memory};
+ghost use Rattle.swf_world.specs.Prepares.{Prepares, StepsFirst, or_memory};
 
 use crate::built::not_built;
 use crate::change::{Change, ChangeKind};
 use crate::key::{Sought, used_place};
-use crate::make::{event_change, load_change, step_change};
+use crate::make::{event_change, load_change, start_change, step_change, untold};
 use crate::refusal::{PrepareFault, Refusal};
 use crate::world::{Loaded, World};
+use indexmap::IndexMap;
 use std::alloc::{AllocError, Global};
 use swf_cloudevents::{Event, key};
 use swf_document::DocKey;
 use swf_duration::Moment;
-use swf_meaning::Label;
+use swf_meaning::{Key, Label};
 use swf_reader::ReadFault;
-use swf_tasks::{Site, Words};
+use swf_tasks::{Machine, Site, Words};
 use swf_text::{Strand, Text};
 use swf_validate::{Accepted, accept};
 use swf_value::Json;
@@ -79,16 +81,6 @@ impl World {
         }
     }
 
-    // Makes the names of variables, the first time.
-    fn make_words(&mut self) -> Result<(), AllocError>
-        ensures { self.new.world ≡ self.old.world }
-    {
-        if self.words.is_none() {
-            self.words = Some(Words::new(self.alloc)?);
-        }
-        Ok(())
-    }
-
     // Makes room for one change more. A moment may give each that waits a turn, and an event each that listens.
     fn make_room(&mut self) -> Result<(), AllocError>
         ensures same { self.new.world ≡ self.old.world }
@@ -98,10 +90,8 @@ impl World {
         if self.count >= MOST_LABELS {
             return Err(AllocError);
         }
-        self.make_words()?;
-        self.documents.reserve(1)?;
-        self.instances.reserve(1)?;
-        self.keys.reserve(1)?;
+        make_words(self.alloc, &mut self.words)?;
+        reserve_maps(&mut self.documents, &mut self.instances, &mut self.keys)?;
         self.timers.reserve(1)?;
         self.outbox.reserve(1)?;
         self.turns
@@ -127,29 +117,29 @@ impl World {
     fn prepare_start(&self, id: &Text, key: &DocKey, input: &Json) -> Result<Change, PrepareFault>
         ensures { Prepares self.now.world (Label.Start id.now key.now input.now) result }
     {
+        let Some(words) = &self.words else {
+            return Err(PrepareFault::OutOfMemory);
+        };
+        let now = self.moment;
+        let site = Site { now, words };
         match self.startable(id, key) {
             Err(refusal) => Err(PrepareFault::Refused(refusal)),
-            Ok(loaded) => ready(self.start_change(id, &loaded.document, input)),
+            Ok(loaded) => ready(start_change(self.alloc, id, &loaded.document, input, &site)),
         }
     }
 
     fn prepare_step(&self, id: &Text, strand: &Strand) -> Result<Change, PrepareFault>
         ensures { Prepares self.now.world (Label.Step id.now strand.now) result }
     {
-        match self.steppable(id, strand) {
-            Err(refusal) => Err(PrepareFault::Refused(refusal)),
-            Ok(number) => ready(self.step_change(number, strand)),
-        }
-    }
-
-    fn step_change(&self, number: usize, strand: &Strand) -> Result<Change, AllocError>
-        requires { number < length self.now.world.instances }
-        ensures { IfOk result (IsStepping self.now.world.now number strand.now self.now.world.instances) }
-    {
-        let words = self.words.as_ref().ok_or(AllocError)?;
+        let Some(words) = &self.words else {
+            return Err(PrepareFault::OutOfMemory);
+        };
         let now = self.moment;
         let site = Site { now, words };
-        step_change(self.alloc, number, &self.instances, strand, &site)
+        match self.steppable(id, strand) {
+            Err(refusal) => Err(PrepareFault::Refused(refusal)),
+            Ok(number) => ready(step_change(self.alloc, number, &self.instances, strand, &site)),
+        }
     }
 
     fn prepare_event(&self, event: &Event) -> Result<Change, PrepareFault>
@@ -166,10 +156,7 @@ impl World {
     {
         match self.reachable(moment) {
             Err(refusal) => Err(PrepareFault::Refused(refusal)),
-            Ok(()) => Ok(Change {
-                kind: ChangeKind::Moment(moment.milliseconds()),
-                taken: 0,
-            }),
+            Ok(()) => Ok(untold(ChangeKind::Moment(moment.milliseconds()))),
         }
     }
 
@@ -248,6 +235,30 @@ impl World {
             Err(Refusal::NotEnabled)
         }
     }
+}
+
+// Makes the names of variables, the first time.
+fn make_words(alloc: Global, words: &mut Option<Words>) -> Result<(), AllocError> {
+    if words.is_none() {
+        words.get_or_insert(Words::new(alloc)?);
+    }
+    Ok(())
+}
+
+// Makes room for one more in each map.
+fn reserve_maps(
+    documents: &mut IndexMap<DocKey, Loaded>,
+    instances: &mut IndexMap<Text, Machine>,
+    keys: &mut IndexMap<Key, u64>,
+) -> Result<(), AllocError>
+    ensures documents { documents.new.entries ≡ documents.old.entries }
+    ensures instances { instances.new.entries ≡ instances.old.entries }
+    ensures keys { keys.new.entries ≡ keys.old.entries }
+    ensures room { OnOk result ((0 < spare documents.new) × (0 < spare instances.new) × (0 < spare keys.new)) }
+{
+    documents.reserve(1)?;
+    instances.reserve(1)?;
+    keys.reserve(1)
 }
 
 // A change that was made, where memory was found.

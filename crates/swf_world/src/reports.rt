@@ -38,29 +38,21 @@ fn lead(alloc: Global, name: &str, value: Json, members: &mut Vec<Member>) -> Re
 }
 
 // The output before the others, where there is one.
-fn lead_output(
-    alloc: Global,
-    instance: &Machine,
-    members: &mut Vec<Member>,
-) -> Result<(), AllocError>
-    ensures { IfOk result (λ _. members_of members.new.items ≡ with_output instance.now.node (members_of members.old.items)) }
+fn lead_output(alloc: Global, instance: &Machine, told: &mut Vec<Member>) -> Result<(), AllocError>
+    ensures { IfOk result (λ _. members_of told.new.items ≡ with_output instance.now.node (members_of told.old.items)) }
 {
     match instance.output() {
-        Some(output) => lead(alloc, "output", output.copy()?, members),
+        Some(output) => lead(alloc, "output", output.copy()?, told),
         None => Ok(()),
     }
 }
 
 // The error before the others, where there is one.
-fn lead_error(
-    alloc: Global,
-    instance: &Machine,
-    members: &mut Vec<Member>,
-) -> Result<(), AllocError>
-    ensures { IfOk result (λ _. members_of members.new.items ≡ with_error instance.now.node (members_of members.old.items)) }
+fn lead_error(alloc: Global, instance: &Machine, told: &mut Vec<Member>) -> Result<(), AllocError>
+    ensures { IfOk result (λ _. members_of told.new.items ≡ with_error instance.now.node (members_of told.old.items)) }
 {
     match instance.problem() {
-        Some(problem) => lead(alloc, "error", problem_value(alloc, problem)?, members),
+        Some(problem) => lead(alloc, "error", problem_value(alloc, problem)?, told),
         None => Ok(()),
     }
 }
