@@ -2,12 +2,11 @@
 use Rattle.std.proofs.Common.{◌≡◌, ◌∙◌, ◌+◌, ◌≤◌, ap, sym, refl, arith, append_assoc, append-nil, drop, get_or, ℕ, List, [], ◌∷◌, ◌++◌, length, Some, None}
 use Rattle.std.proofs.lemmas.List.{drop_all}
 use Rattle.swf_value.specs.Node.{items_of, members_of}
-use Rattle.swf_value.specs.Value.{Value}
+use Rattle.swf_value.specs.Value.{Value, Members, no_members, member}
 use Rattle.swf_value.specs.declared.value.Member.{Member}
-use Rattle.swf_document.specs.Template.{Template, Templates, no_templates, template, Fields, no_fields, field}
+use Rattle.swf_document.specs.Template.{Template, Templates, no_templates, template, field}
 use Rattle.swf_document.specs.TemplateNode.{templates_of, fields_of}
-use Rattle.swf_document.specs.declared.template.Field.{Field}
-use Rattle.swf_reader.specs.Parts.{case_in, case_of_members, template_in, templates_in, fields_in}
+use Rattle.swf_reader.specs.Parts.{case_in, case_of_members, template_in, templates_in, fields_in, named_templates}
 
 -- templates before others
 abbrev pub before_templates : List Template → Templates → Templates
@@ -29,25 +28,10 @@ pub templates_all : (xs : List Template) → before_templates xs no_templates �
 templates_all [] = refl
 templates_all (x ∷ xs) = ap (template x) (templates_all xs)
 
--- fields before others
-abbrev pub before_fields : List Field → Fields → Fields
-before_fields [] fs = fs
-before_fields (x ∷ xs) fs = field x.name x.value (before_fields xs fs)
-
-pub fields_push : (xs : List Field) (x : Field) (fs : Fields) → before_fields (xs ++ x ∷ []) fs ≡ before_fields xs (field x.name x.value fs)
-fields_push [] x fs = refl
-fields_push (y ∷ xs) x fs = ap (field y.name y.value) (fields_push xs x fs)
-
-pub fields_step : (ms : List Member) (i : ℕ) (m : Member) (old new : List Field) (x : Field) (whole : Fields) → drop i ms ≡ m ∷ drop (i + 1) ms → x ≡ record { name = m.name; value = template_in m.value } → new ≡ old ++ x ∷ []
-    → whole ≡ before_fields old (fields_in (members_of (drop i ms))) → whole ≡ before_fields new (fields_in (members_of (drop (i + 1) ms)))
-fields_step ms i m old new x whole first is e w =
-    let rest = fields_in (members_of (drop (i + 1) ms)) in
-    w ∙ ap (λ (l : List Member). before_fields old (fields_in (members_of l))) first ∙ ap (λ (y : Field). before_fields old (field y.name y.value rest)) (sym is)
-    ∙ sym (fields_push old x rest) ∙ ap (λ l. before_fields l rest) (sym e)
-
-pub fields_all : (xs : List Field) → before_fields xs no_fields ≡ fields_of xs
-fields_all [] = refl
-fields_all (x ∷ xs) = ap (field x.name x.value) (fields_all xs)
+-- the members of an object, each a template, are its fields
+pub fields_named : (ms : Members) → fields_of (named_templates ms) ≡ fields_in ms
+fields_named no_members = refl
+fields_named (member k d ms) = ap (field k (template_in d)) (fields_named ms)
 
 -- a case is an object of one member
 pub not_one_case : (ms : List Member) → (length ms ≡ 1 → ⊥) → None ≡ case_of_members (members_of ms)

@@ -1,8 +1,8 @@
 // What tasks call and run.
 ghost use Rattle.std.specs.Prelude.{◌≡◌, IfOk, codes};
-ghost use Rattle.swf_reader.specs.Parts.{endpoint_run, endpoint_text, endpoint_in, method_in, response_in, http_in, callee_in, key_in, version_in, run_in};
+ghost use Rattle.swf_reader.specs.Parts.{part, endpoint_run, endpoint_text, endpoint_in, method_in, response_in, http_in, callee_in, key_in, version_in, run_in};
 
-use crate::parts::{flag_at, part, text_in, tree_of};
+use crate::parts::{flag_at, part, text_in, text_part, tree_of};
 use crate::template::{named_templates_of, template_at};
 use std::alloc::{AllocError, Global};
 use swf_document::{Boxed, Callee, DocKey, Endpoint, HttpSpec, Method, RunSpec};
@@ -23,16 +23,16 @@ fn endpoint_run(in_object: bool, expression: Expr) -> Endpoint
     }
 }
 
-fn endpoint_text(alloc: Global, in_object: bool, text: Text) -> Result<Endpoint, AllocError>
-    ensures { IfOk result (λ e. e ≡ endpoint_text in_object text) }
+fn endpoint_text(alloc: Global, in_object: bool, text: &Text) -> Result<Endpoint, AllocError>
+    ensures { IfOk result (λ e. e ≡ endpoint_text in_object text.now) }
 {
-    let characters = characters(alloc, &text)?;
+    let characters = characters(alloc, text)?;
     let trimmed = trimmed(&characters);
     if is_enclosed(trimmed) {
         let expression = tree_of(alloc, inner(trimmed))?;
         Ok(endpoint_run(in_object, expression))
     } else {
-        Ok(Endpoint::Pattern(text))
+        Ok(Endpoint::Pattern(text.copy()?))
     }
 }
 
@@ -40,19 +40,19 @@ fn endpoint_in(alloc: Global, value: &Json) -> Result<Endpoint, AllocError>
     ensures { IfOk result (λ e. e ≡ endpoint_in value.now) }
 {
     match value.node() {
-        JsonNode::Text(text) => endpoint_text(alloc, false, text.copy()?),
+        JsonNode::Text(text) => endpoint_text(alloc, false, text),
         _ => {
-            let nothing = Json::null();
-            let text = text_in(alloc, part(value, "uri", &nothing))?;
-            endpoint_text(alloc, true, text)
+            let text = text_part(alloc, value, "uri")?;
+            endpoint_text(alloc, true, &text)
         }
     }
 }
 
-fn method_in(alloc: Global, value: &Json) -> Result<Method, AllocError>
-    ensures { IfOk result (λ m. m ≡ method_in value.now) }
+// The method of a request.
+fn method_at(alloc: Global, value: &Json) -> Result<Method, AllocError>
+    ensures { IfOk result (λ m. m ≡ method_in (part (codes "method") value.now)) }
 {
-    let text = text_in(alloc, value)?;
+    let text = text_part(alloc, value, "method")?;
     match method_of(&text) {
         Some(method) => Ok(method),
         None => Ok(Method::Get),
@@ -63,23 +63,24 @@ fn method_in(alloc: Global, value: &Json) -> Result<Method, AllocError>
 fn response_in(alloc: Global, value: &Json) -> Result<bool, AllocError>
     ensures { IfOk result (λ b. b ≡ response_in value.now) }
 {
-    let nothing = Json::null();
-    let output = text_in(alloc, part(value, "output", &nothing))?;
+    let output = text_part(alloc, value, "output")?;
     Ok(is_word(&output, "response"))
 }
 
-fn http_in(alloc: Global, value: &Json) -> Result<HttpSpec, AllocError>
+fn http_in(alloc: Global, value: &Json) -> Result<Boxed<HttpSpec>, AllocError>
     ensures { IfOk result (λ h. h ≡ http_in value.now) }
 {
-    let nothing = Json::null();
-    let method = method_in(alloc, part(value, "method", &nothing))?;
+    let method = method_at(alloc, value)?;
     let response = response_in(alloc, value)?;
-    let headers = named_templates_of(alloc, part(value, "headers", &nothing))?;
-    let query = named_templates_of(alloc, part(value, "query", &nothing))?;
-    let body = template_at(alloc, value, "body")?;
-    let endpoint = endpoint_in(alloc, part(value, "endpoint", &nothing))?;
     let redirect = flag_at(value, "redirect");
-    Ok(HttpSpec {
+    let headers = named_templates_of(alloc, value, "headers")?;
+    let query = named_templates_of(alloc, value, "query")?;
+    let body = template_at(alloc, value, "body")?;
+    let endpoint = {
+        let nothing = Json::null();
+        endpoint_in(alloc, part(value, "endpoint", &nothing))?
+    };
+    let http = HttpSpec {
         method,
         endpoint,
         headers,
@@ -87,17 +88,18 @@ fn http_in(alloc: Global, value: &Json) -> Result<HttpSpec, AllocError>
         body,
         response,
         redirect,
-    })
+    };
+    Boxed::new(alloc, http)
 }
 
 /// What a task calls.
 pub fn callee_in(alloc: Global, value: &Json) -> Result<Callee, AllocError>
     ensures { IfOk result (λ c. c ≡ callee_in value.now) }
 {
-    let nothing = Json::null();
-    let name = text_in(alloc, part(value, "call", &nothing))?;
+    let name = text_part(alloc, value, "call")?;
     if is_word(&name, "http") {
-        let http = Boxed::new(alloc, http_in(alloc, part(value, "with", &nothing))?)?;
+        let nothing = Json::null();
+        let http = http_in(alloc, part(value, "with", &nothing))?;
         Ok(Callee::Http(http))
     } else {
         let with = template_at(alloc, value, "with")?;
@@ -109,9 +111,8 @@ pub fn callee_in(alloc: Global, value: &Json) -> Result<Callee, AllocError>
 pub fn key_in(alloc: Global, version: Text, value: &Json) -> Result<DocKey, AllocError>
     ensures { IfOk result (λ k. k ≡ key_in version value.now) }
 {
-    let nothing = Json::null();
-    let namespace = text_in(alloc, part(value, "namespace", &nothing))?;
-    let name = text_in(alloc, part(value, "name", &nothing))?;
+    let namespace = text_part(alloc, value, "namespace")?;
+    let name = text_part(alloc, value, "name")?;
     Ok(DocKey {
         namespace,
         name,

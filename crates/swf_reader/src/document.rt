@@ -7,7 +7,7 @@ ghost use Rattle.swf_reader.specs.Answer.{document_or_faults};
 
 use crate::call::key_in;
 use crate::error::{errors_of, retries_of};
-use crate::parts::{part, text_in};
+use crate::parts::{part, text_part};
 use crate::task::{functions_of, tasks_in};
 use crate::template::transform_at;
 use std::alloc::{AllocError, Global};
@@ -55,7 +55,7 @@ fn key_of(alloc: Global, value: &Json) -> Result<DocKey, AllocError>
 {
     let nothing = Json::null();
     let head = part(value, "document", &nothing);
-    let version = text_in(alloc, part(head, "version", &nothing))?;
+    let version = text_part(alloc, head, "version")?;
     key_in(alloc, version, head)
 }
 
@@ -112,10 +112,10 @@ fn uses_of(alloc: Global, value: &Json) -> Result<Uses, AllocError>
 fn document_of(alloc: Global, value: &Json) -> Result<Document, AllocError>
     ensures { IfOk result (λ d. d ≡ document_of value.now) }
 {
-    let key = key_of(alloc, value)?;
+    let tasks = tasks_of(alloc, value)?;
     let input_from = transform_at(alloc, value, "input", "from")?;
     let output_as = transform_at(alloc, value, "output", "as")?;
-    let tasks = tasks_of(alloc, value)?;
+    let key = key_of(alloc, value)?;
     let Uses {
         functions,
         errors,

@@ -5,7 +5,7 @@ ghost use Rattle.swf_reader.specs.Reads.{errors_named, errors_of, retries_named,
 ghost use Rattle.swf_reader.specs.Parts.{error_in, raised_in, duration_in, delay_at, count_at, policy_in, retry_in, retry_at, status_at, detail_at, errors_in};
 
 use crate::parts::{expression_at, number_in, part, status_in, text_at, text_in};
-use crate::template::{template_at, template_in};
+use crate::template::{template_at, template_part};
 use std::alloc::{AllocError, Global};
 use swf_document::{
     Boxed, ErrorFilter, ErrorRef, ErrorSpec, Listing, NamedError, NamedRetry, RetryPolicy, RetryRef,
@@ -19,12 +19,12 @@ use swf_value::{Json, JsonNode, Member};
 pub fn error_in(alloc: Global, value: &Json) -> Result<ErrorSpec, AllocError>
     ensures { IfOk result (λ e. e ≡ error_in value.now) }
 {
-    let nothing = Json::null();
-    let uri = template_in(alloc, part(value, "type", &nothing))?;
-    let status = status_in(part(value, "status", &nothing));
+    let uri = template_part(alloc, value, "type")?;
     let title = template_at(alloc, value, "title")?;
     let detail = template_at(alloc, value, "detail")?;
     let instance = template_at(alloc, value, "instance")?;
+    let nothing = Json::null();
+    let status = status_in(part(value, "status", &nothing));
     Ok(ErrorSpec {
         uri,
         status,
@@ -124,7 +124,7 @@ fn detail_at(alloc: Global, value: &Json) -> Result<Option<Text>, AllocError>
 }
 
 /// What a caught error must have.
-pub fn errors_in(alloc: Global, value: &Json) -> Result<ErrorFilter, AllocError>
+pub fn errors_in(alloc: Global, value: &Json) -> Result<Boxed<ErrorFilter>, AllocError>
     ensures { IfOk result (λ e. e ≡ errors_in value.now) }
 {
     let uri = text_at(alloc, value, "type")?;
@@ -132,13 +132,14 @@ pub fn errors_in(alloc: Global, value: &Json) -> Result<ErrorFilter, AllocError>
     let instance = text_at(alloc, value, "instance")?;
     let title = text_at(alloc, value, "title")?;
     let detail = detail_at(alloc, value)?;
-    Ok(ErrorFilter {
+    let filter = ErrorFilter {
         uri,
         status,
         instance,
         title,
         detail,
-    })
+    };
+    Boxed::new(alloc, filter)
 }
 
 fn error_named(alloc: Global, member: &Member) -> Result<NamedError, AllocError>

@@ -2,9 +2,9 @@
 ghost use Rattle.std.specs.Prelude.{◌≡◌, ◌∷◌, [], IfOk, Some, None, codes};
 ghost use Rattle.swf_value.specs.Members.{member_at};
 ghost use Rattle.swf_value.specs.Node.{items_of, members_of};
-ghost use Rattle.swf_reader.specs.Parts.{correlations_in, correlations_of, filter_in, filters_in, filters_of, heard_in, listen_in, case_in, case_of_members, case_of, cases_in, cases_of};
+ghost use Rattle.swf_reader.specs.Parts.{part, expression_in, template_at, correlations_in, correlations_of, filter_in, filters_in, filters_of, heard_in, listen_in, case_in, case_of_members, case_of, cases_in, cases_of};
 
-use crate::parts::{expression_at, expression_in, flow_at, part, text_in};
+use crate::parts::{expression_at, expression_in, flow_at, part, text_part};
 use crate::template::{named_templates_of, template_at};
 use std::alloc::{AllocError, Global};
 use swf_document::{Case, Correlation, Filter, ListenMode, ListenSpec, Listing};
@@ -15,15 +15,22 @@ use swf_value::{Json, JsonNode, Member};
 fn correlations_in(alloc: Global, members: &[Member]) -> Result<Vec<Correlation>, AllocError>
     ensures { IfOk result (λ v. v.items ≡ correlations_in (members_of members.now)) }
 {
-    let nothing = Json::null();
     let mut correlations = Vec::new(alloc);
     for member in members {
-        let name = member.name.copy()?;
-        let from = expression_in(alloc, part(&member.value, "from", &nothing))?;
-        let expect = template_at(alloc, &member.value, "expect")?;
-        correlations.push(Correlation { name, from, expect })?;
+        let correlation = correlation_in(alloc, member)?;
+        correlations.push(correlation)?;
     }
     Ok(correlations)
+}
+
+fn correlation_in(alloc: Global, member: &Member) -> Result<Correlation, AllocError>
+    ensures { IfOk result (λ c. c ≡ record { name = member.now.name; from = expression_in (part (codes "from") member.now.value); expect = template_at (codes "expect") member.now.value }) }
+{
+    let name = member.name.copy()?;
+    let nothing = Json::null();
+    let from = expression_in(alloc, part(&member.value, "from", &nothing))?;
+    let expect = template_at(alloc, &member.value, "expect")?;
+    Ok(Correlation { name, from, expect })
 }
 
 fn correlations_of(alloc: Global, value: &Json) -> Result<Listing<Correlation>, AllocError>
@@ -39,8 +46,8 @@ fn correlations_of(alloc: Global, value: &Json) -> Result<Listing<Correlation>, 
 fn filter_in(alloc: Global, value: &Json) -> Result<Filter, AllocError>
     ensures { IfOk result (λ f. f ≡ filter_in value.now) }
 {
+    let with = named_templates_of(alloc, value, "with")?;
     let nothing = Json::null();
-    let with = named_templates_of(alloc, part(value, "with", &nothing))?;
     let correlate = correlations_of(alloc, part(value, "correlate", &nothing))?;
     Ok(Filter { with, correlate })
 }
@@ -107,9 +114,9 @@ fn heard_in(alloc: Global, envelope: bool, to: &Json) -> Result<ListenSpec, Allo
 pub fn listen_in(alloc: Global, value: &Json) -> Result<ListenSpec, AllocError>
     ensures { IfOk result (λ l. l ≡ listen_in value.now) }
 {
-    let nothing = Json::null();
-    let read = text_in(alloc, part(value, "read", &nothing))?;
+    let read = text_part(alloc, value, "read")?;
     let envelope = is_word(&read, "envelope");
+    let nothing = Json::null();
     heard_in(alloc, envelope, part(value, "to", &nothing))
 }
 

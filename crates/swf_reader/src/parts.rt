@@ -34,6 +34,15 @@ pub fn text_in(alloc: Global, value: &Json) -> Result<Text, AllocError>
     }
 }
 
+/// The text that a member is, or else the empty one.
+pub fn text_part(alloc: Global, value: &Json, name: &str) -> Result<Text, AllocError>
+    requires { IsTrue (is_ascii name.now) }
+    ensures { IfOk result (λ t. t ≡ text_in (part name.now value.now)) }
+{
+    let nothing = Json::null();
+    text_in(alloc, part(value, name, &nothing))
+}
+
 pub fn text_at(alloc: Global, value: &Json, name: &str) -> Result<Option<Text>, AllocError>
     requires { IsTrue (is_ascii name.now) }
     ensures { IfOk result (λ t. t ≡ text_at name.now value.now) }

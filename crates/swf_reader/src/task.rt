@@ -1,10 +1,11 @@
 // Tasks, which hold lists of tasks.
-ghost use Rattle.std.specs.Prelude.{◌≡◌, ◌∷◌, ◌++◌, [], IfOk, codes, IsTrue, option_map, unwrap_or};
+ghost use Rattle.std.specs.Prelude.{◌≡◌, ◌∷◌, ◌++◌, [], IfOk, codes, decimal, IsTrue, option_map, unwrap_or};
 ghost use Rattle.swf_text.specs.Same.{is_ascii};
 ghost use Rattle.swf_value.specs.Value.{object};
 ghost use Rattle.swf_value.specs.Node.{items_of, members_of};
 ghost use Rattle.swf_document.specs.declared.common.Flow.TheVariants.{Continue};
 ghost use Rattle.swf_shapes.specs.declared.shape.Task.TheVariants.{For, Fork, Try};
+ghost use Rattle.swf_document.specs.Task.{task};
 ghost use Rattle.swf_document.specs.TaskNode.{handler_of as held_handler, kind_of, task_of, tasks_of};
 ghost use Rattle.swf_reader.specs.Parts.{common_in, flow_at, transform_at};
 ghost use Rattle.swf_reader.specs.Reads.{keyword_in, task_of_seen, handler_of, named_of, added, variable_at, loop_in, caught_kind, plain_kind, tasks_in, items_in, item_in, task_in, kind_in, tasks_at, tasks_under, tasks_inside, functions_in, functions_of};
@@ -13,11 +14,9 @@ use crate::call::{callee_in, run_in};
 use crate::error::{duration_in, errors_in, raised_in, retry_at};
 use crate::event::{cases_of, listen_in};
 use crate::parts::{expression_at, expression_in, flag_at, flow_at, part, text_in};
-use crate::template::{template_in, transform_at};
+use crate::template::{template_in, template_part, transform_at};
 use std::alloc::{AllocError, Global};
-use swf_document::{
-    Boxed, Common, Flow, ForSpec, ForkSpec, Kind, Named, Task, Tasks, Template, TrySpec,
-};
+use swf_document::{Common, Flow, ForSpec, ForkSpec, Kind, Named, Task, Tasks, Template, TrySpec};
 use swf_shapes::{Seen, Task as Word, child, field, has, keyword_task, position, seen_in};
 use swf_text::{Place, Text, word};
 use swf_value::{Json, JsonNode, Member};
@@ -132,7 +131,7 @@ fn plain_kind(alloc: Global, keyword: Word, value: &Json) -> Result<Kind, AllocE
         Word::Switch => Ok(Kind::Switch(cases_of(alloc, part(value, "switch", &nothing))?)),
         Word::Wait => Ok(Kind::Wait(duration_in(alloc, part(value, "wait", &nothing))?)),
         Word::Set | Word::Do | Word::For | Word::Fork | Word::Try => {
-            Ok(Kind::Set(template_in(alloc, part(value, "set", &nothing))?))
+            Ok(Kind::Set(template_part(alloc, value, "set")?))
         }
     }
 }
@@ -146,12 +145,14 @@ fn caught_kind(
 ) -> Result<Kind, AllocError>
     ensures { IfOk result (λ k. kind_of k ≡ caught_kind catch.now tasks (held_handler handler)) }
 {
-    let nothing = Json::null();
-    let errors = part(part(catch, "errors", &nothing), "with", &nothing);
-    let errors = Boxed::new(alloc, errors_in(alloc, errors)?)?;
     let name = variable_at(alloc, catch, "as", "error")?;
     let cond = expression_at(alloc, catch, "when")?;
     let except = expression_at(alloc, catch, "exceptWhen")?;
+    let errors = {
+        let nothing = Json::null();
+        let errors = part(catch, "errors", &nothing);
+        errors_in(alloc, part(errors, "with", &nothing))?
+    };
     let retry = retry_at(alloc, catch)?;
     Ok(Kind::Try(TrySpec {
         tasks,
@@ -174,11 +175,7 @@ pub fn tasks_in(alloc: Global, place: &Place, value: &Json) -> Result<Tasks, All
             let tasks = items_in(alloc, place, items.as_slice())?;
             Tasks::of(alloc, tasks)
         }
-        JsonNode::Null
-        | JsonNode::Bool(_)
-        | JsonNode::Int(_)
-        | JsonNode::Text(_)
-        | JsonNode::Object(_) => Tasks::of(alloc, Vec::new(alloc)),
+        _ => Tasks::of(alloc, Vec::new(alloc)),
     }
 }
 
@@ -189,10 +186,23 @@ fn items_in(alloc: Global, place: &Place, items: &[Json]) -> Result<Vec<Named>, 
 {
     let mut tasks = Vec::with_capacity(alloc, items.len())?;
     for (index, item) in items.iter().enumerate() {
-        let place = child(alloc, place, position(alloc, index)?)?;
-        add_task(&mut tasks, item_in(alloc, &place, item)?)?;
+        add_task(&mut tasks, item_at(alloc, place, index, item)?)?;
     }
     Ok(tasks)
+}
+
+// The task that an item at a position is.
+#[cycle(tasks)]
+fn item_at(
+    alloc: Global,
+    place: &Place,
+    index: usize,
+    item: &Json,
+) -> Result<Option<Named>, AllocError>
+    ensures { IfOk result (λ o. option_map named_of o ≡ item_in (place.now ++ decimal index ∷ []) item.now) }
+{
+    let place = child(alloc, place, position(alloc, index)?)?;
+    item_in(alloc, &place, item)
 }
 
 // The tasks so far, with one more where there is one.
@@ -219,10 +229,19 @@ fn item_in(alloc: Global, place: &Place, item: &Json) -> Result<Option<Named>, A
     let [member] = members.as_slice() else {
         return Ok(None);
     };
+    Ok(Some(named_in(alloc, place, member)?))
+}
+
+// The task in a member, with its name.
+#[cycle(tasks)]
+fn named_in(alloc: Global, place: &Place, member: &Member) -> Result<Named, AllocError>
+    ensures name { IfOk result (λ n. n.name ≡ member.now.name) }
+    ensures task { IfOk result (λ n. task_of n.task ≡ task_in (place.now ++ member.now.name ∷ []) member.now.value) }
+{
     let name = member.name.copy()?;
     let inside = child(alloc, place, member.name.copy()?)?;
     let task = task_in(alloc, &inside, &member.value)?;
-    Ok(Some(Named { name, task }))
+    Ok(Named { name, task })
 }
 
 #[cycle(tasks)]
@@ -230,21 +249,18 @@ fn task_in(alloc: Global, place: &Place, value: &Json) -> Result<Task, AllocErro
     ensures { IfOk result (λ t. task_of t ≡ task_in place.now value.now) }
 {
     let common = common_in(alloc, place, value)?;
+    let kind = kind_at(alloc, place, value)?;
+    Ok(Task { common, kind })
+}
+
+// What the task does that a value is.
+#[cycle(tasks)]
+fn kind_at(alloc: Global, place: &Place, value: &Json) -> Result<Kind, AllocError>
+    ensures { IfOk result (λ k. task (common_in place.now value.now) (kind_of k) ≡ task_in place.now value.now) }
+{
     match value.node() {
-        JsonNode::Object(members) => {
-            let members = members.as_slice();
-            let keyword = keyword_in(value, members);
-            let kind = kind_in(alloc, place, keyword, value, members)?;
-            Ok(Task { common, kind })
-        }
-        JsonNode::Null
-        | JsonNode::Bool(_)
-        | JsonNode::Int(_)
-        | JsonNode::Text(_)
-        | JsonNode::List(_) => {
-            let kind = Kind::Set(Template::constant(alloc, Json::null())?);
-            Ok(Task { common, kind })
-        }
+        JsonNode::Object(members) => kind_in(alloc, place, value, members.as_slice()),
+        _ => plain_kind(alloc, Word::Set, value),
     }
 }
 
@@ -252,13 +268,13 @@ fn task_in(alloc: Global, place: &Place, value: &Json) -> Result<Task, AllocErro
 fn kind_in(
     alloc: Global,
     place: &Place,
-    keyword: Word,
     value: &Json,
     members: &[Member],
 ) -> Result<Kind, AllocError>
     requires { value.now ≡ object (members_of members.now) }
-    ensures { IfOk result (λ k. kind_of k ≡ kind_in place.now keyword (members_of members.now)) }
+    ensures { IfOk result (λ k. kind_of k ≡ kind_in place.now (keyword_in (members_of members.now)) (members_of members.now)) }
 {
+    let keyword = keyword_in(value, members);
     match keyword {
         Word::Do => Ok(Kind::Do(tasks_at(alloc, place, value, members, "do")?)),
         Word::For => for_kind(alloc, place, value, members),
@@ -287,13 +303,13 @@ fn for_kind(
     requires { value.now ≡ object (members_of members.now) }
     ensures { IfOk result (λ k. kind_of k ≡ kind_in place.now For (members_of members.now)) }
 {
+    let tasks = tasks_at(alloc, place, value, members, "do")?;
     let nothing = Json::null();
     let turns = part(value, "for", &nothing);
     let each = variable_at(alloc, turns, "each", "item")?;
     let items = expression_in(alloc, part(turns, "in", &nothing))?;
     let at = variable_at(alloc, turns, "at", "index")?;
     let guard = expression_at(alloc, value, "while")?;
-    let tasks = tasks_at(alloc, place, value, members, "do")?;
     Ok(Kind::For(ForSpec {
         each,
         items,
@@ -406,22 +422,8 @@ fn tasks_inside(alloc: Global, place: &Place, value: &Json, name: &str) -> Resul
 {
     match value.node() {
         JsonNode::Object(members) => tasks_at(alloc, place, value, members.as_slice(), name),
-        JsonNode::Null
-        | JsonNode::Bool(_)
-        | JsonNode::Int(_)
-        | JsonNode::Text(_)
-        | JsonNode::List(_) => Tasks::of(alloc, Vec::new(alloc)),
+        _ => Tasks::of(alloc, Vec::new(alloc)),
     }
-}
-
-fn function_in(alloc: Global, place: &Place, member: &Member) -> Result<Named, AllocError>
-    ensures name { IfOk result (λ n. n.name ≡ member.now.name) }
-    ensures task { IfOk result (λ n. task_of n.task ≡ task_in (place.now ++ member.now.name ∷ []) member.now.value) }
-{
-    let name = member.name.copy()?;
-    let place = child(alloc, place, member.name.copy()?)?;
-    let task = task_in(alloc, &place, &member.value)?;
-    Ok(Named { name, task })
 }
 
 #[tactic(auto, using(std::proofs::lemmas::Grind::common_steps, crate::proofs::TaskLemmas::tasks_push, crate::proofs::TaskLemmas::tasks_all))]
@@ -430,7 +432,7 @@ fn functions_in(alloc: Global, place: &Place, members: &[Member]) -> Result<Vec<
 {
     let mut functions = Vec::new(alloc);
     for member in members {
-        let function = function_in(alloc, place, member)?;
+        let function = named_in(alloc, place, member)?;
         functions.push(function)?;
     }
     Ok(functions)
@@ -445,10 +447,6 @@ pub fn functions_of(alloc: Global, place: &Place, value: &Json) -> Result<Tasks,
             let functions = functions_in(alloc, place, members.as_slice())?;
             Tasks::of(alloc, functions)
         }
-        JsonNode::Null
-        | JsonNode::Bool(_)
-        | JsonNode::Int(_)
-        | JsonNode::Text(_)
-        | JsonNode::List(_) => Tasks::of(alloc, Vec::new(alloc)),
+        _ => Tasks::of(alloc, Vec::new(alloc)),
     }
 }

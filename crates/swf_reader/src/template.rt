@@ -3,11 +3,12 @@ ghost use Rattle.std.specs.Prelude.{◌≡◌, IfOk, IsTrue, option_map};
 ghost use Rattle.swf_text.specs.Same.{is_ascii};
 ghost use Rattle.swf_value.specs.Node.{items_of, members_of};
 ghost use Rattle.swf_value.specs.Value.{text};
-ghost use Rattle.swf_document.specs.TemplateNode.{templates_of, fields_of};
+ghost use Rattle.swf_document.specs.Template.{constant};
+ghost use Rattle.swf_document.specs.TemplateNode.{templates_of};
 ghost use Rattle.swf_forms.specs.Forms.{trimmed, is_enclosed};
-ghost use Rattle.swf_reader.specs.Parts.{is_constant, are_constant, have_constants, template_in, templates_in, fields_in, template_at, named_templates, named_templates_of, transform_in, transform_at};
+ghost use Rattle.swf_reader.specs.Parts.{is_constant, are_constant, have_constants, part, template_in, templates_in, template_at, named_templates, named_templates_of, transform_in, transform_at};
 
-use crate::parts::{expression_in, tree_of};
+use crate::parts::{expression_in, part, tree_of};
 use std::alloc::{AllocError, Global};
 use swf_document::{Field, Listing, Template};
 use swf_forms::{characters, inner, is_enclosed, trimmed};
@@ -63,6 +64,14 @@ fn have_constants(alloc: Global, members: &[Member]) -> Result<bool, AllocError>
     Ok(true)
 }
 
+// The template that gives a value as it is.
+fn constant_of(alloc: Global, value: &Json) -> Result<Template, AllocError>
+    ensures { IfOk result (λ t. t ≡ constant value.now) }
+{
+    let value = value.copy()?;
+    Template::constant(alloc, value)
+}
+
 // The template that a text is.
 fn text_template(alloc: Global, value: &Json, written: &Text) -> Result<Template, AllocError>
     requires { value.now ≡ text written.now }
@@ -74,27 +83,23 @@ fn text_template(alloc: Global, value: &Json, written: &Text) -> Result<Template
         let expression = tree_of(alloc, inner(trimmed))?;
         Template::run(alloc, expression)
     } else {
-        let value = value.copy()?;
-        Template::constant(alloc, value)
+        constant_of(alloc, value)
     }
 }
 
 /// The template in a template place.
 #[cycle(template)]
+#[tactic(auto, using(std::proofs::lemmas::Grind::common_steps, crate::proofs::ReadLemmas::fields_named))]
 pub fn template_in(alloc: Global, value: &Json) -> Result<Template, AllocError>
     ensures { IfOk result (λ t. t ≡ template_in value.now) }
 {
     match value.node() {
-        JsonNode::Null | JsonNode::Bool(_) | JsonNode::Int(_) => {
-            let value = value.copy()?;
-            Template::constant(alloc, value)
-        }
+        JsonNode::Null | JsonNode::Bool(_) | JsonNode::Int(_) => constant_of(alloc, value),
         JsonNode::Text(text) => text_template(alloc, value, text),
         JsonNode::List(items) => {
             let items = items.as_slice();
             if are_constant(alloc, items)? {
-                let value = value.copy()?;
-                return Template::constant(alloc, value);
+                return constant_of(alloc, value);
             }
             let filled = templates_in(alloc, items)?;
             Template::list(alloc, filled)
@@ -102,10 +107,9 @@ pub fn template_in(alloc: Global, value: &Json) -> Result<Template, AllocError>
         JsonNode::Object(members) => {
             let members = members.as_slice();
             if have_constants(alloc, members)? {
-                let value = value.copy()?;
-                return Template::constant(alloc, value);
+                return constant_of(alloc, value);
             }
-            let filled = fields_in(alloc, members)?;
+            let filled = named_templates(alloc, members)?;
             Template::object(alloc, filled)
         }
     }
@@ -123,18 +127,13 @@ fn templates_in(alloc: Global, items: &[Json]) -> Result<Vec<Template>, AllocErr
     Ok(filled)
 }
 
-#[cycle(template)]
-#[tactic(auto, using(std::proofs::lemmas::Grind::common_steps, crate::proofs::ReadLemmas::fields_push, crate::proofs::ReadLemmas::fields_all))]
-fn fields_in(alloc: Global, members: &[Member]) -> Result<Vec<Field>, AllocError>
-    ensures { IfOk result (λ v. fields_of v.items ≡ fields_in (members_of members.now)) }
+/// The template that a member is.
+pub fn template_part(alloc: Global, value: &Json, name: &str) -> Result<Template, AllocError>
+    requires { IsTrue (is_ascii name.now) }
+    ensures { IfOk result (λ t. t ≡ template_in (part name.now value.now)) }
 {
-    let mut filled = Vec::new(alloc);
-    for member in members {
-        let name = member.name.copy()?;
-        let value = template_in(alloc, &member.value)?;
-        filled.push(Field { name, value })?;
-    }
-    Ok(filled)
+    let nothing = Json::null();
+    template_in(alloc, part(value, name, &nothing))
 }
 
 pub fn template_at(alloc: Global, value: &Json, name: &str) -> Result<Option<Template>, AllocError>
@@ -148,6 +147,7 @@ pub fn template_at(alloc: Global, value: &Json, name: &str) -> Result<Option<Tem
 }
 
 // The members of an object, each a template.
+#[cycle(template)]
 fn named_templates(alloc: Global, members: &[Member]) -> Result<Vec<Field>, AllocError>
     ensures { IfOk result (λ v. v.items ≡ named_templates (members_of members.now)) }
 {
@@ -160,11 +160,17 @@ fn named_templates(alloc: Global, members: &[Member]) -> Result<Vec<Field>, Allo
     Ok(fields)
 }
 
-/// The members of an object, each a template.
-pub fn named_templates_of(alloc: Global, value: &Json) -> Result<Listing<Field>, AllocError>
-    ensures { IfOk result (λ fs. fs ≡ named_templates_of value.now) }
+/// The members of a member that is an object, each a template.
+pub fn named_templates_of(
+    alloc: Global,
+    value: &Json,
+    name: &str,
+) -> Result<Listing<Field>, AllocError>
+    requires { IsTrue (is_ascii name.now) }
+    ensures { IfOk result (λ fs. fs ≡ named_templates_of (part name.now value.now)) }
 {
-    let fields = match value.node() {
+    let nothing = Json::null();
+    let fields = match part(value, name, &nothing).node() {
         JsonNode::Object(members) => named_templates(alloc, members.as_slice())?,
         _ => Vec::new(alloc),
     };

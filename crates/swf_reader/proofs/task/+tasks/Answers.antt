@@ -1,10 +1,10 @@
-use Rattle.std.proofs.Common.{◌≡◌, ◌≤◌, ◌+◌, ap, sym, ◌∙◌, List, ℕ, [], ◌∷◌, ◌++◌, Some, drop, arith}
+use Rattle.std.proofs.Common.{◌≡◌, ◌≤◌, ◌+◌, ap, sym, refl, ◌∙◌, List, ℕ, [], ◌∷◌, ◌++◌, Some, drop, arith}
 use Rattle.std.proofs.lemmas.List.{drop_all}
 use Rattle.swf_value.proofs.Writing.{first_of_rest}
 use Rattle.swf_value.specs.Value.{Value, object}
 use Rattle.swf_value.specs.Node.{items_of, members_of, weight_items}
 use Rattle.swf_document.specs.TaskNode.{tasks_of}
-use Rattle.swf_reader.specs.Reads.{items_in, item_in, task_in, tasks_at, tasks_under, tasks_inside}
+use Rattle.swf_reader.specs.Reads.{items_in, item_in, tasks_at, tasks_under, tasks_inside}
 use Rattle.swf_reader.proofs.TaskLemmas.{absent, before_tasks, items_step, one_item, tasks_all, told, tasks_at_none, tasks_under_none, under_there}
 use Rattle.swf_reader.proofs.task.+tasks.Goals as goal
 
@@ -46,9 +46,8 @@ items_in-loop-index-preserved t c =
     let d = c.index-items-index.result in
     let p = c.args.place.now in
     let first : drop i ds ≡ d ∷ drop (i + 1) ds = first_of_rest ds i d c.loop-index-test.true c.index-items-index.is in
-    let place : c.in_ok-place.place ≡ p ++ _ ∷ [] = c.in_ok-place.ensures ∙ ap (λ (x : List ℕ). p ++ x ∷ []) c.in_ok-position.ensures in
     record {
-      tasks = items_step p c.in_ok-place.place ds i d c.loop-index.tasks.items c.add_task.new.tasks.items c.in_ok-item_in.field-0 _ first place c.in_ok-item_in.ensures c.in_ok-add_task.ensures c.loop-index.invariant.tasks;
+      tasks = items_step p _ ds i d c.loop-index.tasks.items c.add_task.new.tasks.items c.in_ok-item_at.field-0 _ first refl c.in_ok-item_at.ensures c.in_ok-add_task.ensures c.loop-index.invariant.tasks;
       weigh = omega (arith, c.loop-index.invariant.weigh, ap (λ (l : List Value). weight_items (items_of l)) first);
     }
 
@@ -64,6 +63,5 @@ item_in-returns t c =
     let p = c.args.place.now in
     let m = c.member-item.result in
     let is : c.args.item.now ≡ object (members_of c.as_slice.result.now) = cc in
-    (λ i. Some (c.in_ok-name.ensures i, c.in_ok-task.ensures i))
-    ∙ ap (λ (q : List (List ℕ)). Some (m.name, task_in q m.value)) (c.in_ok-inside.ensures ∙ ap (λ (x : List ℕ). p ++ x ∷ []) c.in_ok-copy.ensures)
+    (λ i. Some (c.in_ok-named_in.ensures.name i, c.in_ok-named_in.ensures.task i))
     ∙ sym (one_item p c.as_slice.result.now m (omega (arith, c.in-len1.len_at_least, c.in-len1.len_below)) c.member-item.is) ∙ ap (item_in p) (sym is)

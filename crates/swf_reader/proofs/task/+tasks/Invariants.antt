@@ -8,13 +8,22 @@ abbrev pub decreases-tasks_in : goal.decreases-tasks_in
 decreases-tasks_in l = 8 * weight l.value.now
 
 abbrev pub decreases-items_in : goal.decreases-items_in
-decreases-items_in l = 8 * weight_items (items_of l.items.now) + 1
+decreases-items_in l = 8 * weight_items (items_of l.items.now) + 2
+
+abbrev pub decreases-item_at : goal.decreases-item_at
+decreases-item_at l = 8 * weight l.item.now + 1
 
 abbrev pub decreases-item_in : goal.decreases-item_in
 decreases-item_in l = 8 * weight l.item.now
 
+abbrev pub decreases-named_in : goal.decreases-named_in
+decreases-named_in l = 8 * weight l.member.now.value + 9
+
 abbrev pub decreases-task_in : goal.decreases-task_in
-decreases-task_in l = 8 * weight l.value.now + 7
+decreases-task_in l = 8 * weight l.value.now + 8
+
+abbrev pub decreases-kind_at : goal.decreases-kind_at
+decreases-kind_at l = 8 * weight l.value.now + 7
 
 abbrev pub decreases-kind_in : goal.decreases-kind_in
 decreases-kind_in l = 8 * weight l.value.now + 6
