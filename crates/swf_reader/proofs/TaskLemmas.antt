@@ -9,7 +9,7 @@ use Rattle.swf_value.specs.declared.value.Member.{Member}
 use Rattle.swf_document.specs.Task.{Tasks, no_tasks, named}
 use Rattle.swf_document.specs.TaskNode.{task_of, tasks_of}
 use Rattle.swf_document.specs.declared.tasks.Named.{Named}
-use Rattle.swf_reader.specs.Reads.{with_task, named_of, added, items_in, item_in, task_in, tasks_in, tasks_at, tasks_under, tasks_inside}
+use Rattle.swf_reader.specs.Reads.{with_task, named_of, added, functions_in, items_in, item_in, task_in, tasks_in, tasks_at, tasks_under, tasks_inside}
 
 heavier : (k : List ℕ) (b : Bool) (d v : Value) (ms : Members) → (at k ms ≡ Some v → weight v ≤ weight_members ms) → cond b (Some d) (at k ms) ≡ Some v → weight v ≤ weight d + weight_members ms
 heavier k true d v ms h e = let p : d ≡ v = cc in omega (arith, ap weight p)
@@ -92,6 +92,17 @@ tasks_push (m ∷ ns) n ts = ap (named m.name (task_of m.task)) (tasks_push ns n
 pub tasks_all : (ns : List Named) → before_tasks ns no_tasks ≡ tasks_of ns
 tasks_all [] = refl
 tasks_all (n ∷ ns) = ap (named n.name (task_of n.task)) (tasks_all ns)
+
+-- the functions so far with one more, and those of what is left, are all
+pub functions_step : (p : List (List ℕ)) (ms : List Member) (i : ℕ) (m : Member) (old new : List Named) (n : Named) (whole : Tasks)
+    → drop i ms ≡ m ∷ drop (i + 1) ms → named_of n ≡ (m.name, task_in (p ++ m.name ∷ []) m.value) → new ≡ old ++ n ∷ []
+    → whole ≡ before_tasks old (functions_in p (members_of (drop i ms))) → whole ≡ before_tasks new (functions_in p (members_of (drop (i + 1) ms)))
+functions_step p ms i m old new n whole first is more e =
+    let rest = functions_in p (members_of (drop (i + 1) ms)) in
+    e ∙ ap (λ (l : List Member). before_tasks old (functions_in p (members_of l))) first
+    ∙ ap (λ x. before_tasks old (named x.0 x.1 rest)) (sym is)
+    ∙ sym (tasks_push old n rest)
+    ∙ ap (λ (l : List Named). before_tasks l rest) (sym more)
 
 pub tasks_added : (ns : List Named) (o : Option Named) (ts : Tasks) → before_tasks (added ns o) ts ≡ before_tasks ns (with_task (option_map named_of o) ts)
 tasks_added ns (Some n) ts = tasks_push ns n ts

@@ -64,15 +64,16 @@ fn place_of(alloc: Global, name: &str) -> Result<Place, AllocError>
     requires { IsTrue (is_ascii name.now) }
     ensures { IfOk result (λ p. p ≡ name.now ∷ []) }
 {
-    child(alloc, &Place::root(alloc), word(alloc, name)?)
+    let name = word(alloc, name)?;
+    child(alloc, &Place::root(alloc), name)
 }
 
 // The tasks of a document.
 fn tasks_of(alloc: Global, value: &Json) -> Result<Tasks, AllocError>
     ensures { IfOk result (λ ts. ts ≡ tasks_in (codes "do" ∷ []) (part (codes "do") value.now)) }
 {
-    let nothing = Json::null();
     let place = place_of(alloc, "do")?;
+    let nothing = Json::null();
     tasks_in(alloc, &place, part(value, "do", &nothing))
 }
 
@@ -87,8 +88,9 @@ struct Uses {
 fn functions_used(alloc: Global, uses: &Json) -> Result<Tasks, AllocError>
     ensures { IfOk result (λ ts. ts ≡ functions_of (codes "use" ∷ codes "functions" ∷ []) (part (codes "functions") uses.now)) }
 {
+    let name = word(alloc, "functions")?;
+    let place = child(alloc, &place_of(alloc, "use")?, name)?;
     let nothing = Json::null();
-    let place = child(alloc, &place_of(alloc, "use")?, word(alloc, "functions")?)?;
     functions_of(alloc, &place, part(uses, "functions", &nothing))
 }
 

@@ -23,6 +23,7 @@ fn correlations_in(alloc: Global, members: &[Member]) -> Result<Vec<Correlation>
     Ok(correlations)
 }
 
+// What has to agree, by the name of its member.
 fn correlation_in(alloc: Global, member: &Member) -> Result<Correlation, AllocError>
     ensures { IfOk result (λ c. c ≡ record { name = member.now.name; from = expression_in (part (codes "from") member.now.value); expect = template_at (codes "expect") member.now.value }) }
 {

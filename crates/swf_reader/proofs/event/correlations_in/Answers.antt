@@ -1,4 +1,4 @@
-use Rattle.std.proofs.Common.{◌≡◌, ◌∷◌, ◌+◌, ap, sym, refl, List, drop}
+use Rattle.std.proofs.Common.{◌∷◌, ◌+◌, ap, sym, refl, List, drop}
 use Rattle.swf_value.proofs.Writing.{first_of_rest}
 use Rattle.swf_value.specs.Node.{members_of}
 use Rattle.swf_value.specs.declared.value.Member.{Member}

@@ -1,4 +1,4 @@
-use Rattle.std.proofs.Common.{◌≡◌, ◌∷◌, ◌+◌, ap, sym, refl, List, drop}
+use Rattle.std.proofs.Common.{◌∷◌, ◌+◌, ap, sym, refl, List, drop}
 use Rattle.swf_value.proofs.Writing.{first_of_rest}
 use Rattle.swf_value.specs.Node.{items_of}
 use Rattle.swf_value.specs.Value.{Value}

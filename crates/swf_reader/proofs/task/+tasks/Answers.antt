@@ -1,4 +1,4 @@
-use Rattle.std.proofs.Common.{◌≡◌, ◌≤◌, ◌+◌, ap, sym, refl, ◌∙◌, List, ℕ, [], ◌∷◌, ◌++◌, Some, drop, arith}
+use Rattle.std.proofs.Common.{◌≡◌, ◌+◌, ap, sym, refl, ◌∙◌, List, ℕ, [], ◌∷◌, ◌++◌, Some, drop, arith}
 use Rattle.std.proofs.lemmas.List.{drop_all}
 use Rattle.swf_value.proofs.Writing.{first_of_rest}
 use Rattle.swf_value.specs.Value.{Value, object}
