@@ -39,7 +39,7 @@ pub fn close(stack: &mut Stack, opening: Opening, of: Expr, at: usize, token: To
             Ok(Mode::Have(Expr::index(alloc, indexed, of)?))
         }
         (Opening::Value(members, key), Token::Sign(Sign::RightBrace)) => {
-            Ok(Mode::Have(object(alloc, with_value(members, key, of)?)?))
+            object(alloc, with_value(members, key, of)?)
         }
         (Opening::Value(members, key), Token::Sign(Sign::Comma)) => {
             Ok(Mode::Member(with_value(members, key, of)?, false))

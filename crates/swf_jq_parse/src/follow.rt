@@ -4,12 +4,12 @@ ghost use Rattle.swf_jq_parse.specs.Machine.{pending_level, pending_right, joine
 ghost use Rattle.swf_jq_tokens.specs.Gives.{Gives};
 
 use crate::close::close;
-use crate::fault::{fail, refuse, refuse_token};
+use crate::fault::{discard, fail, refuse, refuse_token};
 use crate::joint::{Follower, binds, follower_binds, follows, join};
 use crate::mode::{Mode, Next};
-use crate::operand::{apply_to, field};
+use crate::operand::{apply_alone, field, operand};
 use crate::stack::{Arguments, Item, Opening, Pending, Purpose, Stack, begin, open, top};
-use crate::text_part::{first_piece, text_expr};
+use crate::text_part::open_text;
 use std::alloc::{AllocError, Global};
 use swf_expr::{Expr, Name};
 use swf_jq_tokens::{Sign, Token};
@@ -84,8 +84,12 @@ fn followed(stack: &mut Stack, follower: Follower, of: Expr, at: usize, token: T
 {
     match follower {
         Follower::Suffix => suffix(stack, of, at, token),
-        Follower::As => Ok(Mode::WantVar(of)),
+        Follower::As => {
+            discard(token);
+            Ok(Mode::WantVar(of))
+        }
         Follower::Joint(joint) => {
+            discard(token);
             open(stack, Item::Pending(Pending::Left(joint, of)), Mode::Want)
         }
     }
@@ -97,10 +101,10 @@ fn suffix(stack: &mut Stack, of: Expr, at: usize, token: Token) -> Next
 {
     match token {
         Token::Dot => Ok(Mode::Dotted(of, false)),
-        Token::Field(name) => Ok(Mode::Have(field(*stack.allocator(), of, name)?)),
+        Token::Field(name) => operand(field(*stack.allocator(), of, name)),
         Token::Sign(Sign::LeftBracket) => open(stack, Item::Open(Opening::Index(of)), Mode::First),
-        Token::Sign(Sign::Question) => Ok(Mode::Have(Expr::maybe(*stack.allocator(), of)?)),
-        other => refuse(other, at),
+        Token::Sign(Sign::Question) => operand(Expr::maybe(*stack.allocator(), of)),
+        other => refuse((of, other), at),
     }
 }
 
@@ -109,19 +113,12 @@ fn suffix(stack: &mut Stack, of: Expr, at: usize, token: Token) -> Next
 pub fn dotted(stack: &mut Stack, of: Expr, alone: bool, at: usize, token: Token) -> Next
     ensures { Gives (λ m. (stack.new, m)) result (dotted stack.old of alone at token) }
 {
-    let alloc = *stack.allocator();
     match token {
-        Token::Text(text) => {
-            let key = text_expr(alloc, text)?;
-            Ok(Mode::Have(Expr::index(alloc, of, key)?))
-        }
-        Token::TextOpen(text) => {
-            let first = first_piece(alloc, text)?;
-            begin(stack, Opening::Text(Purpose::Index(of), first))
-        }
+        Token::Text(text) => operand(field(*stack.allocator(), of, text)),
+        Token::TextOpen(text) => open_text(stack, Purpose::Index(of), text),
         token if alone => have(stack, of, at, token),
         Token::Sign(Sign::LeftBracket) => open(stack, Item::Open(Opening::Index(of)), Mode::First),
-        other => refuse(other, at),
+        other => refuse((of, other), at),
     }
 }
 
@@ -131,10 +128,12 @@ pub fn called_next(stack: &mut Stack, name: Name, place: usize, at: usize, token
     ensures { Gives (λ m. (stack.new, m)) result (called_next stack.old name place at token) }
 {
     let alloc = *stack.allocator();
-    let arguments = Arguments::new(alloc);
     match token {
-        Token::Sign(Sign::LeftParen) => begin(stack, Opening::Arguments(name, place, arguments)),
-        token => match apply_to(alloc, &name, arguments, place) {
+        Token::Sign(Sign::LeftParen) => {
+            let arguments = Arguments::new(alloc);
+            begin(stack, Opening::Arguments(name, place, arguments))
+        }
+        token => match apply_alone(alloc, name, place) {
             Ok(of) => have(stack, of, at, token),
             Err(fault) => fail(token, fault),
         },

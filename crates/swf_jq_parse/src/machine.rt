@@ -7,8 +7,8 @@ use crate::fault::{ParseFault, discard, refuse};
 use crate::follow::{called_next, dotted, have, join_pending};
 use crate::member::{after_key, member, member_end};
 use crate::mode::{Mode, Next};
-use crate::operand::{apply_to, first, want};
-use crate::stack::{Arguments, Item, Pending, Stack, open};
+use crate::operand::{apply_alone, first, want};
+use crate::stack::{Item, Pending, Stack, open};
 use std::alloc::Global;
 use swf_expr::{Expr, Name};
 use swf_jq_tokens::{Sign, Token};
@@ -64,9 +64,7 @@ pub fn last_read(alloc: Global, mode: Mode) -> Result<Option<Expr>, ParseFault>
     match mode {
         Mode::Have(of) => Ok(Some(of)),
         Mode::Dotted(of, true) => Ok(Some(of)),
-        Mode::Called(name, place) => {
-            Ok(Some(apply_to(alloc, &name, Arguments::new(alloc), place)?))
-        },
+        Mode::Called(name, place) => { Ok(Some(apply_alone(alloc, name, place)?)) },
         other => {
             discard(other);
             Ok(None)

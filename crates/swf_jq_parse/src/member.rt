@@ -1,18 +1,20 @@
 // The members of an object.
-ghost use Rattle.std.specs.Prelude.{◌≡◌, ◌∷◌, ◌++◌, [], IfOk, Ok};
+ghost use Rattle.std.specs.Prelude.{◌≡◌, ◌∷◌, ◌++◌, [], IfOk, Ok, false};
 ghost use Rattle.swf_jq_parse.specs.Machine.{member, after_key, member_end};
-ghost use Rattle.swf_expr.specs.Expr.{object_of};
+ghost use Rattle.swf_expr.specs.Expr.{lit, var, object_of};
 ghost use Rattle.swf_expr.specs.ExprNode.{pairs_of};
-ghost use Rattle.swf_jq_parse.specs.Parts.{with_value};
+ghost use Rattle.swf_value.specs.Value.{text as text_value};
+ghost use Rattle.swf_jq_parse.specs.Parts.{with_value, key_alone, key_lit};
+ghost use Rattle.swf_jq_parse.specs.declared.mode.Mode.TheVariants as mode;
 ghost use Rattle.swf_jq_tokens.specs.Gives.{Gives};
 
-use crate::fault::refuse;
+use crate::fault::{fail, refuse};
 use crate::mode::{Mode, Next};
 use crate::stack::{Members, Opening, Purpose, Stack, begin, with_last};
-use crate::text_part::{first_piece, text_expr};
+use crate::text_part::{open_text, text_expr};
 use std::alloc::{AllocError, Global};
-use swf_expr::{Expr, ExprMember};
-use swf_jq_tokens::{Sign, Token};
+use swf_expr::{Expr, ExprMember, Name};
+use swf_jq_tokens::{Keyword, Sign, Token};
 use swf_text::Text;
 
 /// These members and one more, which has a value of its own.
@@ -24,41 +26,54 @@ pub fn with_value(members: Members, key: Expr, value: Expr) -> Result<Members, A
 }
 
 /// The object of these members.
-pub fn object(alloc: Global, members: Members) -> Result<Expr, AllocError>
-    ensures { IfOk result (λ e. e ≡ object_of (pairs_of members)) }
+pub fn object(alloc: Global, members: Members) -> Next
+    ensures { Gives (λ m. m) result (Ok (mode.Have (object_of (pairs_of members)))) }
 {
     let members = members.into_iter().collect(alloc)?;
-    Expr::object_of(alloc, members)
+    Ok(Mode::Have(Expr::object_of(alloc, members)?))
+}
+
+/// The key that a text is, after these members.
+fn key(alloc: Global, members: Members, text: Text, alone: bool) -> Next
+    ensures { Gives (λ m. m) result (Ok (mode.AfterKey members (lit (text_value text)) alone)) }
+{
+    let key = text_expr(alloc, text)?;
+    Ok(Mode::AfterKey(members, key, alone))
+}
+
+/// The key that a keyword is, after these members.
+#[tactic(auto, using(crate::proofs::Parts::keyword_chars))]
+fn keyword_key(alloc: Global, members: Members, keyword: Keyword) -> Next
+    ensures { Gives (λ m. m) result (Ok (mode.AfterKey members (key_lit keyword) false)) }
+{
+    let word = Text::copy_of(alloc, keyword.word())?;
+    key(alloc, members, word, false)
+}
+
+/// These members and the one that a variable is.
+fn with_variable(alloc: Global, members: Members, name: Name) -> Next
+    ensures { Gives (λ m. m) result (Ok (mode.MemberEnd (members ++ with_value (lit (text_value name)) (var name) ∷ []))) }
+{
+    let key = text_expr(alloc, name.text().copy()?)?;
+    let value = Expr::var(alloc, name)?;
+    Ok(Mode::MemberEnd(with_value(members, key, value)?))
 }
 
 /// A member after these, or the end where there is none yet.
-#[tactic(auto, using(crate::proofs::Parts::keyword_chars), unfolding(crate::specs::Machine::member))]
+#[tactic(auto, unfolding(crate::specs::Machine::member))]
 pub fn member(stack: &mut Stack, members: Members, first: bool, at: usize, token: Token) -> Next
     ensures { Gives (λ m. (stack.new, m)) result (member stack.old members first at token) }
 {
     let alloc = *stack.allocator();
     match token {
-        Token::Name(name) => {
-            let key = text_expr(alloc, name.into_text())?;
-            Ok(Mode::AfterKey(members, key, true))
-        }
-        Token::Keyword(keyword) => {
-            let key = text_expr(alloc, Text::copy_of(alloc, keyword.word())?)?;
-            Ok(Mode::AfterKey(members, key, false))
-        }
-        Token::Text(text) => Ok(Mode::AfterKey(members, text_expr(alloc, text)?, true)),
-        Token::TextOpen(text) => {
-            let first = first_piece(alloc, text)?;
-            begin(stack, Opening::Text(Purpose::Key(members), first))
-        }
-        Token::Var(name) => {
-            let key = text_expr(alloc, name.text().copy()?)?;
-            let value = Expr::var(alloc, name)?;
-            Ok(Mode::MemberEnd(with_value(members, key, value)?))
-        }
+        Token::Name(name) => key(alloc, members, name.into_text(), true),
+        Token::Keyword(keyword) => keyword_key(alloc, members, keyword),
+        Token::Text(text) => key(alloc, members, text, true),
+        Token::TextOpen(text) => open_text(stack, Purpose::Key(members), text),
+        Token::Var(name) => with_variable(alloc, members, name),
         Token::Sign(Sign::LeftParen) => begin(stack, Opening::Key(members)),
-        Token::Sign(Sign::RightBrace) if first => Ok(Mode::Have(object(alloc, members)?)),
-        other => refuse(other, at),
+        Token::Sign(Sign::RightBrace) if first => object(alloc, members),
+        other => refuse((members, other), at),
     }
 }
 
@@ -76,12 +91,19 @@ pub fn after_key(
 {
     match token {
         Token::Sign(Sign::Colon) => begin(stack, Opening::Value(members, key)),
-        token if alone => {
-            let value = None;
-            let members = with_last(members, ExprMember { key, value })?;
-            member_end(*stack.allocator(), members, at, token)
-        }
-        other => refuse(other, at),
+        token if alone => key_ends(*stack.allocator(), members, key, at, token),
+        other => refuse(((members, key), other), at),
+    }
+}
+
+/// What may follow a key that stands alone.
+fn key_ends(alloc: Global, members: Members, key: Expr, at: usize, token: Token) -> Next
+    ensures { Gives (λ m. m) result (member_end (members ++ key_alone key ∷ []) at token) }
+{
+    let value = None;
+    match with_last(members, ExprMember { key, value }) {
+        Ok(members) => member_end(alloc, members, at, token),
+        Err(full) => fail(token, full.into()),
     }
 }
 
@@ -92,7 +114,7 @@ pub fn member_end(alloc: Global, members: Members, at: usize, token: Token) -> N
 {
     match token {
         Token::Sign(Sign::Comma) => Ok(Mode::Member(members, false)),
-        Token::Sign(Sign::RightBrace) => Ok(Mode::Have(object(alloc, members)?)),
-        other => refuse(other, at),
+        Token::Sign(Sign::RightBrace) => object(alloc, members),
+        other => refuse((members, other), at),
     }
 }

@@ -1,15 +1,17 @@
 // What may stand where an operand is wanted.
-ghost use Rattle.std.specs.Prelude.{◌≡◌, IfOk};
+ghost use Rattle.std.specs.Prelude.{◌≡◌, [], IfOk, IfErr, Ok, Err};
 ghost use Rattle.swf_expr.specs.Expr.{lit, index};
 ghost use Rattle.swf_value.specs.Value.{text as text_value};
 ghost use Rattle.swf_jq_parse.specs.Machine.{applied, want, want_name, want_keyword, want_sign, first};
 ghost use Rattle.swf_jq_parse.specs.Parts.{is_called};
+ghost use Rattle.swf_jq_parse.specs.declared.mode.Mode.TheVariants as mode;
 ghost use Rattle.swf_jq_tokens.specs.Gives.{Gives};
+ghost use Rattle.swf_jq_tokens.specs.declared.fault.ParseFault.TheVariants.{OutOfMemory};
 
-use crate::fault::{ParseFault, refuse, refuse_token};
+use crate::fault::{ParseFault, fail, refuse, refuse_token};
 use crate::mode::{Mode, Next};
 use crate::stack::{Arguments, Item, Members, Opening, Pending, Purpose, Stack, begin, open};
-use crate::text_part::{first_piece, text_expr};
+use crate::text_part::{open_text, text_expr};
 use std::alloc::{AllocError, Global};
 use swf_expr::{Builtin, Expr, Name, Op};
 use swf_jq_tokens::{Keyword, Sign, Token};
@@ -24,19 +26,24 @@ pub fn want(stack: &mut Stack, at: usize, token: Token) -> Next
     let alloc = *stack.allocator();
     match token {
         Token::Dot => Ok(Mode::Dotted(Expr::here(alloc)?, true)),
-        Token::Field(name) => Ok(Mode::Have(field(alloc, Expr::here(alloc)?, name)?)),
-        Token::Var(name) => Ok(Mode::Have(Expr::var(alloc, name)?)),
+        Token::Field(name) => operand(field(alloc, Expr::here(alloc)?, name)),
+        Token::Var(name) => operand(Expr::var(alloc, name)),
         Token::Name(name) => want_name(name, at),
         Token::Keyword(keyword) => want_keyword(stack, at, keyword),
-        Token::Number(number) => Ok(Mode::Have(number.into_expr(alloc)?)),
-        Token::Text(text) => Ok(Mode::Have(text_expr(alloc, text)?)),
-        Token::TextOpen(text) => {
-            let first = first_piece(alloc, text)?;
-            begin(stack, Opening::Text(Purpose::Operand, first))
-        }
+        Token::Number(number) => operand(number.into_expr(alloc)),
+        Token::Text(text) => operand(text_expr(alloc, text)),
+        Token::TextOpen(text) => open_text(stack, Purpose::Operand, text),
         Token::Sign(sign) => want_sign(stack, at, sign),
         other => refuse_token(other, at),
     }
+}
+
+/// What was read as an operand.
+pub fn operand(of: Result<Expr, AllocError>) -> Next
+    ensures read { IfOk of (λ e. result ≡ Ok (mode.Have e)) }
+    ensures full { IfErr of (λ f. result ≡ Err OutOfMemory) }
+{
+    Ok(Mode::Have(of?))
 }
 
 /// An operand, indexed by a text.
@@ -76,9 +83,9 @@ fn want_keyword(stack: &mut Stack, at: usize, keyword: Keyword) -> Next
 {
     let alloc = *stack.allocator();
     match keyword {
-        Keyword::Null => Ok(Mode::Have(Expr::lit(alloc, Json::null())?)),
-        Keyword::True => Ok(Mode::Have(Expr::lit(alloc, Json::boolean(true))?)),
-        Keyword::False => Ok(Mode::Have(Expr::lit(alloc, Json::boolean(false))?)),
+        Keyword::Null => operand(Expr::lit(alloc, Json::null())),
+        Keyword::True => operand(Expr::lit(alloc, Json::boolean(true))),
+        Keyword::False => operand(Expr::lit(alloc, Json::boolean(false))),
         Keyword::If => begin(stack, Opening::If),
         other => refuse(other, at),
     }
@@ -105,12 +112,19 @@ pub fn first(stack: &mut Stack, at: usize, token: Token) -> Next
     let alloc = *stack.allocator();
     match token {
         Token::Sign(Sign::RightBracket) => match stack.pop_front() {
-            Some(Item::Open(Opening::List)) => Ok(Mode::Have(Expr::empty_list(alloc)?)),
-            Some(Item::Open(Opening::Index(of))) => Ok(Mode::Have(Expr::iterate(alloc, of)?)),
+            Some(Item::Open(Opening::List)) => operand(Expr::empty_list(alloc)),
+            Some(Item::Open(Opening::Index(of))) => operand(Expr::iterate(alloc, of)),
             other => refuse(other, at),
         },
         token => want(stack, at, token),
     }
+}
+
+/// A name with no arguments.
+pub fn apply_alone(alloc: Global, name: Name, at: usize) -> Result<Expr, ParseFault>
+    ensures { Gives (λ e. e) result (applied name at []) }
+{
+    apply_to(alloc, &name, Arguments::new(alloc), at)
 }
 
 /// A name with its arguments.
@@ -128,6 +142,6 @@ pub fn apply_to(
             let arguments = arguments.into_iter().collect(alloc)?;
             Ok(Expr::apply(alloc, builtin, arguments)?)
         }
-        None => Err(ParseFault::UnknownName { at }),
+        None => fail(arguments, ParseFault::UnknownName { at }),
     }
 }

@@ -2,8 +2,13 @@
 ghost use Rattle.std.specs.Prelude.{◌≡◌, IfOk};
 ghost use Rattle.swf_expr.specs.Expr.{lit};
 ghost use Rattle.swf_value.specs.Value.{text as text_value};
+ghost use Rattle.swf_jq_parse.specs.Machine.{opened};
 ghost use Rattle.swf_jq_parse.specs.Parts.{first_text, plus, text_sum};
+ghost use Rattle.swf_jq_parse.specs.declared.stack.Opening.TheVariants as opening;
+ghost use Rattle.swf_jq_tokens.specs.Gives.{Gives};
 
+use crate::mode::Next;
+use crate::stack::{Opening, Purpose, Stack, begin};
 use std::alloc::{AllocError, Global};
 use swf_expr::{Builtin, Expr, Op};
 use swf_text::Text;
@@ -26,6 +31,14 @@ pub fn first_piece(alloc: Global, text: Text) -> Result<Option<Expr>, AllocError
     } else {
         Ok(Some(text_expr(alloc, text)?))
     }
+}
+
+/// A text is opened with its first piece.
+pub fn open_text(stack: &mut Stack, purpose: Purpose, text: Text) -> Next
+    ensures { Gives (λ m. (stack.new, m)) result (opened (opening.Text purpose (first_text text)) stack.old) }
+{
+    let first = first_piece(*stack.allocator(), text)?;
+    begin(stack, Opening::Text(purpose, first))
 }
 
 /// The sum so far, and one more piece.

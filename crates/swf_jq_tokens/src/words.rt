@@ -88,29 +88,18 @@ pub fn prefixed(alloc: Global, first: char, tail: &[char]) -> Result<Option<Foun
     ensures { IfOk result (λ r. r ≡ prefixed first tail.now) }
 {
     match (first, tail) {
-        (_, [c, more @ ..]) if starts_name(*c) => prefixed_word(alloc, first, *c, more),
+        (_, [c, more @ ..]) if starts_name(*c) => {
+            let (word, length) = read_word(alloc, *c, more)?;
+            match first {
+                '.' => Ok(Some((Token::Field(word), length + 1))),
+                '$' if keyword_of(&word).is_none() => {
+                    Ok(Some((Token::Var(Name::new(word)), length + 1)))
+                }
+                _ => Ok(None),
+            }
+        }
         ('.', ['.', ..]) => Ok(Some((Token::Dots, 0))),
         ('.', _) => Ok(Some((Token::Dot, 0))),
-        _ => Ok(None),
-    }
-}
-
-/// What begins with a `.` or a `$` and a word.
-fn prefixed_word(
-    alloc: Global,
-    first: char,
-    start: char,
-    tail: &[char],
-) -> Result<Option<Found>, AllocError>
-    requires { starts_name start ≡ true }
-    ensures { IfOk result (λ r. r ≡ prefixed first (start ∷ tail.now)) }
-{
-    let (word, length) = read_word(alloc, start, tail)?;
-    match first {
-        '.' => Ok(Some((Token::Field(word), length + 1))),
-        '$' if keyword_of(&word).is_none() => {
-            Ok(Some((Token::Var(Name::new(word)), length + 1)))
-        }
         _ => Ok(None),
     }
 }
