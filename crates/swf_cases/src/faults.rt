@@ -1,9 +1,9 @@
 // What comes of a whole session in which one call fails, and of a stop at any moment of it.
 use crate::session::fail;
-use crate::{Failing, Ran, add_line, ask, run};
+use crate::{Failing, Ran, add_line, add_outcome, run, script};
 use std::alloc::{AllocError, Global};
 use std::io;
-use swf_host::{MemoryHost, Turn};
+use swf_host::MemoryHost;
 use swf_store::{Image, MemoryStore};
 
 /// Loads the document `a`, whose one task sets x to 1.
@@ -48,15 +48,6 @@ const KEPT_REPLIES: usize = 3;
 
 /// What stands for replies, or for a history, that is none of those that are known.
 const OTHER: usize = 9;
-
-// A script of lines, each from a connection of its own, whose number is the line's place.
-fn script(alloc: Global, lines: &[&str]) -> Result<Vec<Turn>, AllocError> {
-    let mut script = Vec::new(alloc);
-    for (place, line) in lines.iter().enumerate() {
-        script.push(ask(place as u64, line.as_bytes().to_vec(alloc)?))?;
-    }
-    Ok(script)
-}
 
 // Runs the whole session over files that were never written.
 fn run_whole(alloc: Global, failing: Failing) -> Result<Ran, AllocError> {
@@ -211,8 +202,7 @@ pub(crate) fn add_faults(alloc: Global, transcript: &mut Vec<u8>, rows: &str) ->
             add_line(transcript, "", row)?;
         } else if !row.is_empty() {
             let outcome = outcome(alloc, row)?;
-            let line = format!(in alloc; "{row} => {outcome}")?;
-            add_line(transcript, "", line.as_str())?;
+            add_outcome(alloc, transcript, row, outcome.as_str())?;
         }
     }
     Ok(())

@@ -66,6 +66,12 @@ fn words_of(alloc: Global, text: &str) -> Result<Vec<String>, AllocError> {
     Ok(words)
 }
 
+// Runs the program with these words, and answers its status.
+fn status_of(alloc: Global, words: &str, host: &mut MemoryHost) -> Result<u8, AllocError> {
+    let words = words_of(alloc, words)?;
+    Ok(swf_run(alloc, &words, host))
+}
+
 // Runs the program with these words over the files of an image.
 fn run(
     alloc: Global,
@@ -74,16 +80,24 @@ fn run(
     failing: Failing,
     script: Vec<Turn>,
 ) -> Result<Ran, AllocError> {
-    let words = words_of(alloc, words)?;
     let store = MemoryStore::new(alloc, image, failing.store);
     let mut host = MemoryHost::new(alloc, store, script, failing.next, failing.say);
-    let status = swf_run(alloc, &words, &mut host);
+    let status = status_of(alloc, words, &mut host)?;
     Ok(Ran { status, host })
 }
 
 // An input of a connection.
 fn ask(conn: u64, line: Vec<u8>) -> Turn {
     Turn::In(Input::Ask(conn, Bytes::of(line)))
+}
+
+// A script of lines, each from a connection of its own, whose number is the line's place.
+fn script(alloc: Global, lines: &[&str]) -> Result<Vec<Turn>, AllocError> {
+    let mut script = Vec::new(alloc);
+    for (place, line) in lines.iter().enumerate() {
+        script.push(ask(place as u64, line.as_bytes().to_vec(alloc)?))?;
+    }
+    Ok(script)
 }
 
 // Adds a line that says how a run ended, where that is not as it should.
@@ -107,6 +121,17 @@ fn add_line(transcript: &mut Vec<u8>, before: &str, line: &str) -> Result<(), Al
     transcript.extend_from_slice(b"\n")
 }
 
+// Adds a row, and behind it what comes of it.
+fn add_outcome(
+    alloc: Global,
+    transcript: &mut Vec<u8>,
+    row: &str,
+    outcome: &str,
+) -> Result<(), AllocError> {
+    let line = format!(in alloc; "{row} => {outcome}")?;
+    add_line(transcript, "", line.as_str())
+}
+
 // All that a host was given to say.
 fn printed(alloc: Global, host: &MemoryHost) -> Result<Vec<u8>, AllocError> {
     let mut printed = Vec::new(alloc);
@@ -118,10 +143,14 @@ fn printed(alloc: Global, host: &MemoryHost) -> Result<Vec<u8>, AllocError> {
 
 // Adds what is printed for a document, whose status is 0 exactly where that is the word `accepted`.
 fn add_document(alloc: Global, transcript: &mut Vec<u8>, document: &str) -> Result<(), AllocError> {
-    let mut script = Vec::new(alloc);
-    script.push(ask(0, document.as_bytes().to_vec(alloc)?))?;
-    let image = Image::empty(alloc);
-    let ran = run(alloc, "check", image, Failing::none(alloc), script)?;
+    let script = script(alloc, &[document])?;
+    let ran = run(
+        alloc,
+        "check",
+        Image::empty(alloc),
+        Failing::none(alloc),
+        script,
+    )?;
     let printed = printed(alloc, &ran.host)?;
     transcript.extend_from_slice(printed.as_slice())?;
     let expected = if printed.as_slice() == b"accepted\n".as_slice() {
@@ -152,27 +181,43 @@ fn add_sessions(alloc: Global, transcript: &mut Vec<u8>, text: &str) -> io::Resu
     Ok(())
 }
 
+// Adds what comes of what stands in a file.
+fn add_file(
+    alloc: Global,
+    rt: HostRuntime,
+    transcript: &mut Vec<u8>,
+    name: &str,
+) -> io::Result<()> {
+    let text = fs::read_to_string(&rt, name)?;
+    let text = text.as_str();
+    match name {
+        "documents.txt" => Ok(add_documents(alloc, transcript, text)?),
+        "faults.txt" => faults::add_faults(alloc, transcript, text),
+        "stops.txt" => stops::add_stops(alloc, transcript, text),
+        "orders.txt" => orders::add_orders(alloc, transcript, text),
+        _ => add_sessions(alloc, transcript, text),
+    }
+}
+
+/// The files with documents, sessions and rows, but for the rows of values.
+const FILES: [&str; 9] = [
+    "documents.txt",
+    "sessions.txt",
+    "events.txt",
+    "events-read.txt",
+    "script.txt",
+    "forks.txt",
+    "faults.txt",
+    "stops.txt",
+    "orders.txt",
+];
+
 fn main(rt: HostRuntime) -> io::Result<()> {
     let alloc = rt.alloc();
     let mut transcript = Vec::new(alloc);
-    let documents = fs::read_to_string(&rt, "documents.txt")?;
-    add_documents(alloc, &mut transcript, documents.as_str())?;
-    for name in [
-        "sessions.txt",
-        "events.txt",
-        "events-read.txt",
-        "script.txt",
-        "forks.txt",
-    ] {
-        let sessions = fs::read_to_string(&rt, name)?;
-        add_sessions(alloc, &mut transcript, sessions.as_str())?;
+    for name in FILES {
+        add_file(alloc, rt, &mut transcript, name)?;
     }
-    let faults = fs::read_to_string(&rt, "faults.txt")?;
-    faults::add_faults(alloc, &mut transcript, faults.as_str())?;
-    let stops = fs::read_to_string(&rt, "stops.txt")?;
-    stops::add_stops(alloc, &mut transcript, stops.as_str())?;
-    let orders = fs::read_to_string(&rt, "orders.txt")?;
-    orders::add_orders(alloc, &mut transcript, orders.as_str())?;
     let rows = fs::read_to_string(&rt, "values.txt")?;
     rows::add_rows(alloc, &rt, &mut transcript, rows.as_str())?;
     match String::from_utf8(transcript) {

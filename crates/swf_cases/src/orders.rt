@@ -1,7 +1,7 @@
 // What every order of the steps of a workflow's strands comes to: how many orders there are, and each output that one of them
 // gives.
 use crate::words::{no_meaning, split};
-use crate::{add_line, values};
+use crate::{add_line, add_outcome, values};
 use std::alloc::Global;
 use std::io;
 use swf_duration::Moment;
@@ -132,28 +132,31 @@ fn text_of(alloc: Global, outcome: &Outcome) -> io::Result<String> {
 }
 
 // What every order of the steps of these tasks comes to.
-fn told(alloc: Global, tasks: &str) -> io::Result<String> {
-    let words = Words::new(alloc)?;
-    let site = Site {
-        now: Moment::new(0),
-        words: &words,
-    };
-    let machine = begun(alloc, tasks, &site)?;
-    let outcome = explored(alloc, machine, &site)?;
+fn told(alloc: Global, tasks: &str, site: &Site) -> io::Result<String> {
+    let machine = begun(alloc, tasks, site)?;
+    let outcome = explored(alloc, machine, site)?;
     text_of(alloc, &outcome)
 }
 
-/// Adds what comes of each row, which has a name and the tasks of a workflow. A row that begins with `#` stands as it is.
-pub(crate) fn add_orders(alloc: Global, transcript: &mut Vec<u8>, rows: &str) -> io::Result<()> {
+fn add_rows(alloc: Global, transcript: &mut Vec<u8>, rows: &str, site: &Site) -> io::Result<()> {
     for row in rows.lines() {
         if row.starts_with('#') {
             add_line(transcript, "", row)?;
         } else {
             let (name, tasks) = split(row)?;
-            let told = told(alloc, tasks)?;
-            let line = format!(in alloc; "{name} => {told}")?;
-            add_line(transcript, "", line.as_str())?;
+            let told = told(alloc, tasks, site)?;
+            add_outcome(alloc, transcript, name, told.as_str())?;
         }
     }
     Ok(())
+}
+
+/// Adds what comes of each row, which has a name and the tasks of a workflow. A row that begins with `#` stands as it is.
+pub(crate) fn add_orders(alloc: Global, transcript: &mut Vec<u8>, rows: &str) -> io::Result<()> {
+    let words = Words::new(alloc)?;
+    let site = Site {
+        now: Moment::new(0),
+        words: &words,
+    };
+    add_rows(alloc, transcript, rows, &site)
 }

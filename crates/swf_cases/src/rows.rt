@@ -3,7 +3,7 @@
 // A row is a word and what it is asked of; `src/values.rt` and `src/labels.rt` have the words. A row that begins with `#` names
 // what follows, and stands in the transcript as it is.
 use crate::words::no_meaning;
-use crate::{add_line, labels, values};
+use crate::{add_line, add_outcome, labels, values};
 use std::alloc::Global;
 use std::io;
 use std::thread::{self, Threads};
@@ -43,8 +43,7 @@ pub(crate) fn add_rows(
             add_line(transcript, "", row)?;
         } else {
             let told = told(alloc, rt, row)?;
-            let line = format!(in alloc; "{row} => {told}")?;
-            add_line(transcript, "", line.as_str())?;
+            add_outcome(alloc, transcript, row, told.as_str())?;
         }
     }
     Ok(())

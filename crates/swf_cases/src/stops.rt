@@ -1,8 +1,8 @@
 // What comes of a stop of a session at any moment: the session is given once more, over the files that were left.
-use crate::{Failing, Ran, add_line, ask, run};
+use crate::{Failing, Ran, add_line, run, script};
 use std::alloc::{AllocError, Global};
 use std::io;
-use swf_host::{MemoryHost, Turn};
+use swf_host::MemoryHost;
 use swf_store::Image;
 
 /// A name, and the lines behind it.
@@ -101,10 +101,7 @@ impl<'a> Session<'a> {
 
 // Runs a session of these lines over these files.
 fn run_lines(alloc: Global, lines: &[&str], image: Image) -> Result<Ran, AllocError> {
-    let mut script: Vec<Turn> = Vec::new(alloc);
-    for line in lines {
-        script.push(ask(0, line.as_bytes().to_vec(alloc)?))?;
-    }
+    let script = script(alloc, lines)?;
     run(alloc, "session", image, Failing::none(alloc), script)
 }
 

@@ -107,6 +107,31 @@ impl Work {
         Ok((Some(input), Some(output)))
     }
 
+    // The input that a host reads.
+    fn reader(&self, file: Option<fs::File>) -> io::Result<BufReader<Source>> {
+        let source = Source {
+            file,
+            manner: self.reads,
+            reads: 0,
+        };
+        Ok(BufReader::with_capacity(self.rt.alloc(), 1000, source)?)
+    }
+
+    // A host over a store.
+    fn console(&self, store: FileStore<Watched>, has_streams: bool) -> io::Result<Console> {
+        let (input, output) = if has_streams {
+            self.streams()?
+        } else {
+            (None, None)
+        };
+        let sink = Sink {
+            file: output,
+            room: self.room,
+        };
+        let reader = self.reader(input)?;
+        Ok(ConsoleHost::new(self.rt.alloc(), store, reader, sink))
+    }
+
     // Opens a store in a folder, and lets go of another.
     fn open(&mut self, folder: &str, has_streams: bool) -> io::Result<String> {
         let alloc = self.rt.alloc();
@@ -116,22 +141,7 @@ impl Work {
         let Ok(store) = FileStore::in_folder(rt, alloc, folder) else {
             return Ok(String::from_str(alloc, "refused")?);
         };
-        let (input, output) = if has_streams {
-            self.streams()?
-        } else {
-            (None, None)
-        };
-        let source = Source {
-            file: input,
-            manner: self.reads,
-            reads: 0,
-        };
-        let sink = Sink {
-            file: output,
-            room: self.room,
-        };
-        let reader = BufReader::with_capacity(alloc, 1000, source)?;
-        self.host = Some(ConsoleHost::new(alloc, store, reader, sink));
+        self.host = Some(self.console(store, has_streams)?);
         Ok(String::from_str(alloc, "open")?)
     }
 

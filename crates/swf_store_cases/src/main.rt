@@ -40,18 +40,28 @@ fn bytes_of(alloc: Global, hex: &str) -> io::Result<Vec<u8>> {
     }
 }
 
-fn main(rt: HostRuntime) -> io::Result<()> {
-    let alloc = rt.alloc();
+// Tells the blocks of the table in memory.
+fn tell_memory(rt: HostRuntime) -> io::Result<()> {
     let rows = fs::read_to_string(&rt, "memory.txt")?;
     for block in rows.as_str().split("\n\n") {
-        let told = memory::told(alloc, block)?;
+        let told = memory::told(rt.alloc(), block)?;
         print!(rt; "{told}")?;
     }
+    Ok(())
+}
+
+// Tells the blocks of the table over files, each in a folder whose name is its number.
+fn tell_files(rt: HostRuntime) -> io::Result<()> {
     let rows = fs::read_to_string(&rt, "files.txt")?;
     for (number, block) in rows.as_str().split("\n\n").enumerate() {
-        let folder = format!(in alloc; "{number}")?;
+        let folder = format!(in rt.alloc(); "{number}")?;
         let told = files::told_in(rt, folder.as_str(), block)?;
         print!(rt; "{told}")?;
     }
     Ok(())
+}
+
+fn main(rt: HostRuntime) -> io::Result<()> {
+    tell_memory(rt)?;
+    tell_files(rt)
 }

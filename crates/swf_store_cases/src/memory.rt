@@ -211,14 +211,18 @@ fn stops_again(alloc: Global, store: &MemoryStore, from: u64) -> Result<String, 
     format!(in alloc; "{images} images, {wrong} wrong")
 }
 
+fn count_text(alloc: Global, count: usize) -> Result<String, AllocError> {
+    format!(in alloc; "{count}")
+}
+
 // What a row tells of a host.
 fn look(alloc: Global, host: &MemoryHost, row: &str) -> io::Result<String> {
     let (word, rest) = row.split_once(' ').unwrap_or((row, ""));
     let store = host.store();
     let told = match word {
         "holds" => hex::encode(alloc, store.image().file(File::Journal))?,
-        "calls" => format!(in alloc; "{}", store.calls().len())?,
-        "inputs" => format!(in alloc; "{}", host.taken().len())?,
+        "calls" => count_text(alloc, store.calls().len())?,
+        "inputs" => count_text(alloc, host.taken().len())?,
         "lacks" => format!(in alloc; "{} {}", host.lacks(), store.lacks())?,
         "said" => said(alloc, host)?,
         "images" => images(alloc, store, number_of(rest)?)?,
