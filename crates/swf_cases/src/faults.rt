@@ -1,9 +1,10 @@
 // What comes of a whole session in which one call fails, and of a stop at any moment of it.
 use crate::session::fail;
-use crate::{Failing, Ran, add_line, add_outcome, run, script};
+use crate::{Failing, Ran, run, script};
 use std::alloc::{AllocError, Global};
 use std::io;
 use swf_host::MemoryHost;
+use swf_rows::{add_line, add_outcome};
 use swf_store::{Image, MemoryStore};
 
 /// Loads the document `a`, whose one task sets x to 1.
@@ -202,7 +203,7 @@ pub(crate) fn add_faults(alloc: Global, transcript: &mut Vec<u8>, rows: &str) ->
             add_line(transcript, "", row)?;
         } else if !row.is_empty() {
             let outcome = outcome(alloc, row)?;
-            add_outcome(alloc, transcript, row, outcome.as_str())?;
+            add_outcome(transcript, row, outcome.as_str())?;
         }
     }
     Ok(())

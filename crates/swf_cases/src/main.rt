@@ -5,25 +5,19 @@
 //! events-read.txt and script.txt have empty lines between them; each line is a command, followed by its reply, or begins with
 //! `!` (`src/session.rt` has the words), and `! reopen` ends the input and opens the store again. A line of faults.txt names a
 //! call that fails or the calls before a stop (`src/faults.rt`). A session of stops.txt is stopped after each call of its store,
-//! and given once more. A line of orders.txt names the tasks whose strands step in every order (`src/orders.rt`), and one of
-//! values.txt a value or a label (`src/rows.rt`).
-//! A line that begins with `#` names what follows, and stands in the transcript as it is.
+//! and given once more. A line that begins with `#` names what follows, and stands in the transcript as it is.
 #![tactic(auto)]
 
 mod faults;
-mod labels;
-mod orders;
-mod rows;
 mod session;
 mod stops;
-mod values;
-mod words;
 
 use std::alloc::{AllocError, Global};
 use std::fs;
 use std::io::{self, ErrorKind};
 use swf_cli::swf_run;
 use swf_host::{Input, MemoryHost, Turn};
+use swf_rows::add_line;
 use swf_store::{Image, MemoryStore};
 use swf_text::Bytes;
 
@@ -114,24 +108,6 @@ fn add_status(
     Ok(())
 }
 
-// Adds a line and the newline behind it.
-fn add_line(transcript: &mut Vec<u8>, before: &str, line: &str) -> Result<(), AllocError> {
-    transcript.extend_from_slice(before.as_bytes())?;
-    transcript.extend_from_slice(line.as_bytes())?;
-    transcript.extend_from_slice(b"\n")
-}
-
-// Adds a row, and behind it what comes of it.
-fn add_outcome(
-    alloc: Global,
-    transcript: &mut Vec<u8>,
-    row: &str,
-    outcome: &str,
-) -> Result<(), AllocError> {
-    let line = format!(in alloc; "{row} => {outcome}")?;
-    add_line(transcript, "", line.as_str())
-}
-
 // All that a host was given to say.
 fn printed(alloc: Global, host: &MemoryHost) -> Result<Vec<u8>, AllocError> {
     let mut printed = Vec::new(alloc);
@@ -194,13 +170,12 @@ fn add_file(
         "documents.txt" => Ok(add_documents(alloc, transcript, text)?),
         "faults.txt" => faults::add_faults(alloc, transcript, text),
         "stops.txt" => stops::add_stops(alloc, transcript, text),
-        "orders.txt" => orders::add_orders(alloc, transcript, text),
         _ => add_sessions(alloc, transcript, text),
     }
 }
 
-/// The files with documents, sessions and rows, but for the rows of values.
-const FILES: [&str; 9] = [
+/// The files with documents, sessions and rows.
+const FILES: [&str; 8] = [
     "documents.txt",
     "sessions.txt",
     "events.txt",
@@ -209,7 +184,6 @@ const FILES: [&str; 9] = [
     "forks.txt",
     "faults.txt",
     "stops.txt",
-    "orders.txt",
 ];
 
 fn main(rt: HostRuntime) -> io::Result<()> {
@@ -218,8 +192,6 @@ fn main(rt: HostRuntime) -> io::Result<()> {
     for name in FILES {
         add_file(alloc, rt, &mut transcript, name)?;
     }
-    let rows = fs::read_to_string(&rt, "values.txt")?;
-    rows::add_rows(alloc, &rt, &mut transcript, rows.as_str())?;
     match String::from_utf8(transcript) {
         Ok(text) => print!(rt; "{text}"),
         Err(_) => Err(io::Error::from(ErrorKind::InvalidData)),

@@ -4,11 +4,11 @@
 // `! journal A5` a journal of these bytes, and `! fail say 1` a call that fails. Some are inputs: `! too-long`, `! bytes 3 FF`
 // of a line of three such bytes, and `! many 9 start i@ t a 1.0.0 {}` of nine lines with their numbers for the `@`, of which
 // the last three replies are told. The others tell what came of the run: `! inputs`, `! replies`, `! calls` and `! sizes`.
-use crate::words::{bytes_of, no_meaning, number_of, split};
-use crate::{Failing, REOPEN, Ran, add_line, add_status, ask, run};
+use crate::{Failing, REOPEN, Ran, add_status, ask, run};
 use std::alloc::{AllocError, Global};
 use std::io;
 use swf_host::{Input, Turn};
+use swf_rows::{add_line, bytes_of, no_meaning, number_of, split};
 use swf_store::{File, Image};
 use swf_text::Bytes;
 

@@ -1,8 +1,9 @@
 // What comes of a stop of a session at any moment: the session is given once more, over the files that were left.
-use crate::{Failing, Ran, add_line, run, script};
+use crate::{Failing, Ran, run, script};
 use std::alloc::{AllocError, Global};
 use std::io;
 use swf_host::MemoryHost;
+use swf_rows::add_line;
 use swf_store::Image;
 
 /// A name, and the lines behind it.

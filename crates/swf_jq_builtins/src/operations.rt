@@ -220,10 +220,13 @@ fn exact_quotient(x: i64, y: i64) -> Option<i128>
     ensures { result
         ≡ (if is_zero y then None else (if is_zero (int_rem x y) then Some (int_div x y) else None)) }
 {
-    if y == 0 || x as i128 % y as i128 != 0 {
-        None
-    } else {
+    if y == 0 {
+        return None;
+    }
+    if x as i128 % y as i128 == 0 {
         Some(x as i128 / y as i128)
+    } else {
+        None
     }
 }
 

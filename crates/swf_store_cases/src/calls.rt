@@ -1,9 +1,9 @@
 // Rows that are calls of a host, and what is answered.
 use crate::journal::{append_frames, turns};
-use crate::{bytes_of, no_row, number_of, split};
 use std::alloc::{AllocError, Global};
 use std::io;
 use swf_host::{Host, Input};
+use swf_rows::{bytes_of, no_meaning, number_of, split};
 use swf_store::{Failed, File, Store};
 
 /// What a row asks of a host.
@@ -31,7 +31,7 @@ fn file_of(name: &str) -> io::Result<File> {
         "journal" => Ok(File::Journal),
         "snap0" => Ok(File::Snap0),
         "snap1" => Ok(File::Snap1),
-        _ => Err(no_row()),
+        _ => Err(no_meaning()),
     }
 }
 

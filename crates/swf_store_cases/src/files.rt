@@ -7,7 +7,6 @@
 // of all that was written. `each-failure` has each call fail in turn. The other rows act on files by their names.
 use crate::calls::called;
 use crate::watched::{Manner, Watch, Watched};
-use crate::{bytes_of, no_row, number_of, split};
 use std::alloc::Global;
 use std::env;
 use std::fs::{self, Permissions};
@@ -15,6 +14,7 @@ use std::io::{self, BufReader, Read, Write};
 use std::os::unix::fs::{PermissionsExt, symlink};
 use std::rc::Rc;
 use swf_host::ConsoleHost;
+use swf_rows::{bytes_of, no_meaning, number_of, split};
 use swf_store::{Failed, File, FileStore, Store};
 
 /// The input of a host.
@@ -95,7 +95,7 @@ impl Work {
             }
             "fail-read" => self.reads.failing = number_of(rest)?,
             "room" => self.room = number_of(rest)? as usize,
-            _ => return Err(no_row()),
+            _ => return Err(no_meaning()),
         }
         Ok(())
     }
@@ -153,7 +153,7 @@ impl Work {
                 return Ok(answer);
             }
         }
-        Err(no_row())
+        Err(no_meaning())
     }
 
     // What comes of a row.
@@ -197,7 +197,7 @@ fn look(rt: HostRuntime, word: &str, name: &str) -> io::Result<String> {
             let mode = fs::metadata(&rt, name)?.permissions().mode() & 0o7777;
             format!(in alloc; "{mode:o}")?
         }
-        _ => return Err(no_row()),
+        _ => return Err(no_meaning()),
     })
 }
 
@@ -220,7 +220,7 @@ fn permit(rt: HostRuntime, row: &str) -> io::Result<()> {
     let (name, mode) = split(row)?;
     match u32::from_str_radix(mode, 8) {
         Ok(mode) => fs::set_permissions(&rt, name, Permissions::from_mode(mode)),
-        Err(_) => Err(no_row()),
+        Err(_) => Err(no_meaning()),
     }
 }
 
@@ -239,7 +239,7 @@ fn change(rt: HostRuntime, word: &str, rest: &str) -> io::Result<String> {
         "rmdir" => fs::remove_dir(&rt, rest)?,
         "close-input" => return Ok(format!(in alloc; "{}", libc::close(0))?),
         "close-errors" => return Ok(format!(in alloc; "{}", libc::close(2))?),
-        _ => return Err(no_row()),
+        _ => return Err(no_meaning()),
     }
     Ok(String::from_str(alloc, "done")?)
 }
@@ -264,7 +264,7 @@ fn rest_of<S: Store>(alloc: Global, store: &mut S, file: File) -> io::Result<Vec
             into.truncate(count);
             Ok(into)
         }
-        Err(_) => Err(no_row()),
+        Err(_) => Err(no_meaning()),
     }
 }
 
@@ -340,7 +340,7 @@ fn each_failure(rt: HostRuntime) -> io::Result<String> {
             return Ok(format!(in rt.alloc(); "{wrong} wrong, ten or more {are_ten}")?);
         }
     }
-    Err(no_row())
+    Err(no_meaning())
 }
 
 // A row with what came of it, on a line of its own.

@@ -11,34 +11,8 @@ mod journal;
 mod memory;
 mod watched;
 
-use std::alloc::Global;
 use std::fs;
-use std::io::{self, ErrorKind};
-
-/// A row that has no meaning.
-fn no_row() -> io::Error {
-    ErrorKind::InvalidInput.into()
-}
-
-/// Two words that a space parts.
-fn split(row: &str) -> io::Result<(&str, &str)> {
-    row.split_once(' ').ok_or(no_row())
-}
-
-fn number_of(text: &str) -> io::Result<u64> {
-    match text.parse::<u64>() {
-        Ok(number) => Ok(number),
-        Err(_) => Err(no_row()),
-    }
-}
-
-/// The bytes that a text tells in hex.
-fn bytes_of(alloc: Global, hex: &str) -> io::Result<Vec<u8>> {
-    match hex::decode(alloc, hex) {
-        Ok(bytes) => Ok(bytes),
-        Err(_) => Err(no_row()),
-    }
-}
+use std::io;
 
 // Tells the blocks of the table in memory.
 fn tell_memory(rt: HostRuntime) -> io::Result<()> {

@@ -7,10 +7,10 @@
 // leaves, appends a frame, and opens each that a stop of this leaves.
 use crate::calls::called;
 use crate::journal::{append_frames, open};
-use crate::{bytes_of, no_row, number_of, split};
 use std::alloc::{AllocError, Global};
 use std::io;
 use swf_host::{Input, MemoryHost, Turn};
+use swf_rows::{bytes_of, no_meaning, number_of, split};
 use swf_store::{File, Image, MemoryStore};
 use swf_text::Bytes;
 
@@ -42,7 +42,7 @@ impl Setup {
             "store" => self.failing_store.push(number)?,
             "next" => self.failing_next.push(number)?,
             "say" => self.failing_say.push(number)?,
-            _ => return Err(no_row()),
+            _ => return Err(no_meaning()),
         }
         Ok(())
     }
@@ -67,7 +67,7 @@ impl Setup {
                 let input = Input::TooLong(number_of(rest)?);
                 Ok(self.script.push(Turn::In(input))?)
             }
-            _ => Err(no_row()),
+            _ => Err(no_meaning()),
         }
     }
 }
@@ -228,7 +228,7 @@ fn look(alloc: Global, host: &MemoryHost, row: &str) -> io::Result<String> {
         "images" => images(alloc, store, number_of(rest)?)?,
         "frames" => frames(alloc, store, number_of(rest)?)?,
         "stops-again" => stops_again(alloc, store, number_of(rest)?)?,
-        _ => return Err(no_row()),
+        _ => return Err(no_meaning()),
     };
     Ok(told)
 }

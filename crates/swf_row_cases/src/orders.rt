@@ -1,10 +1,10 @@
 // What every order of the steps of a workflow's strands comes to: how many orders there are, and each output that one of them
 // gives.
-use crate::words::{no_meaning, split};
-use crate::{add_line, add_outcome, values};
+use crate::values;
 use std::alloc::Global;
 use std::io;
 use swf_duration::Moment;
+use swf_rows::{add_line, add_outcome, no_meaning, split};
 use swf_tasks::{Machine, Site, Words};
 use swf_text::{Strand, Text};
 use swf_validate::{Accepted, accept};
@@ -145,7 +145,7 @@ fn add_rows(alloc: Global, transcript: &mut Vec<u8>, rows: &str, site: &Site) ->
         } else {
             let (name, tasks) = split(row)?;
             let told = told(alloc, tasks, site)?;
-            add_outcome(alloc, transcript, name, told.as_str())?;
+            add_outcome(transcript, name, told.as_str())?;
         }
     }
     Ok(())

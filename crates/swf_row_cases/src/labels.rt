@@ -4,7 +4,6 @@ ghost use Rattle.swf_value.specs.Value.{IsValue, depth};
 ghost use Rattle.swf_record.specs.Encodes.{Nests};
 
 use crate::values::{lists_round, text_of};
-use crate::words::{bytes_of, no_meaning, number_of, split};
 use std::alloc::{AllocError, Global};
 use std::io;
 use swf_calls::{CallReply, read_reply, reply_json};
@@ -13,6 +12,7 @@ use swf_document::DocKey;
 use swf_duration::Moment;
 use swf_meaning::Label;
 use swf_record::{RecordFault, decode_labels, encode_labels};
+use swf_rows::{bytes_of, no_meaning, number_of, split};
 use swf_text::{Strand, Text};
 use swf_value::{Json, depth, read_json, read_json_within};
 

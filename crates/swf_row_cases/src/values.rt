@@ -1,7 +1,7 @@
 // Rows on values: what is read and written, and what is made of them.
-use crate::words::{bytes_of, no_meaning, number_of, split};
 use std::alloc::{AllocError, Global};
 use std::io;
+use swf_rows::{bytes_of, no_meaning, number_of, split};
 use swf_text::Text;
 use swf_value::{
     Json, JsonNode, ValueFault, depth, read_json, read_json_within, size, size_within, write_json,

@@ -2,11 +2,11 @@
 //
 // A row is a word and what it is asked of; `src/values.rt` and `src/labels.rt` have the words. A row that begins with `#` names
 // what follows, and stands in the transcript as it is.
-use crate::words::no_meaning;
-use crate::{add_line, add_outcome, labels, values};
+use crate::{labels, values};
 use std::alloc::Global;
 use std::io;
 use std::thread::{self, Threads};
+use swf_rows::{add_line, add_outcome, no_meaning};
 use swf_value::{depth, may_cross, read_json};
 
 // How deep a value nests, as two threads find it at the same time.
@@ -43,7 +43,7 @@ pub(crate) fn add_rows(
             add_line(transcript, "", row)?;
         } else {
             let told = told(alloc, rt, row)?;
-            add_outcome(alloc, transcript, row, told.as_str())?;
+            add_outcome(transcript, row, told.as_str())?;
         }
     }
     Ok(())
