@@ -11,8 +11,7 @@ mod journal;
 mod memory;
 mod watched;
 
-use std::fs;
-use std::io;
+use std::{fs, io};
 
 // Tells the blocks of the table in memory.
 fn tell_memory(rt: HostRuntime) -> io::Result<()> {

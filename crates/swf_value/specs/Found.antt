@@ -1,7 +1,9 @@
 -- What is found of data that are read, beside the data.
-use Rattle.std.specs.Prelude.{◌≡◌, ◌-◌, ◌^◌, ℕ, ℤ, max, min, option_map, List, [], ◌∷◌, Option, Some, None, IfSome}
+use Rattle.std.specs.Prelude.{◌≡◌, ◌-◌, ◌^◌, ℕ, ℤ, max, min, option_map, option_and_then, List, [], ◌∷◌, Option, Some, None, IfSome}
 use Rattle.std.specs.Borrow.{Bor}
 use Rattle.json.specs.Token.{Token}
+use Rattle.json.specs.Json as json
+use Rattle.serde_json.specs.Read.{of_json}
 use Rattle.serde_json.specs.Data.{Num, Data, Items, no_items, item, Members, no_members, member, depth}
 use Rattle.swf_value.specs.Value.{int, InRange, IsValue}
 use Rattle.swf_value.specs.Read.{whole, whole_number}
@@ -16,6 +18,10 @@ Finds {A} R o (Some b) = (a : A) × (o ≡ Some a) × R a b
 abbrev pub FindsNext : {A B : Type 0} → (A → B → Type 0) → Option (A × List Token) → List Token → Option B → Type 0
 FindsNext R o rest None = o ≡ None
 FindsNext {A} R o rest (Some b) = (a : A) × (o ≡ Some (a, rest)) × R a b
+
+-- the data that stand alone in the tokens that are left
+abbrev pub read_whole : List Token → Option Data
+read_whole ts = option_and_then of_json (option_and_then (λ p. json.if_last p.0 p.1) (json.value 127 ts))
 
 -- the whole number in range that n is, where it is one
 abbrev pub IsInt : Num → Option ℤ → Type 0

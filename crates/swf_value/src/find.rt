@@ -3,7 +3,7 @@ ghost use Rattle.std.specs.Prelude.{◌<◌, ◌∷◌, length, IfOk, IfSome};
 ghost use Rattle.json.specs.Json.{value};
 ghost use Rattle.json.specs.Token.{begin_array, begin_object};
 ghost use Rattle.serde_json.specs.Read.{of_json, converted, read as read_text};
-ghost use Rattle.swf_value.specs.Found.{Finds, FindsNext, IsFound};
+ghost use Rattle.swf_value.specs.Found.{Finds, FindsNext, IsFound, read_whole};
 
 use crate::names::Names;
 use crate::number::number;
@@ -23,7 +23,18 @@ pub(crate) fn find(alloc: Global, text: &str) -> Result<Option<Found>, AllocErro
     let mut names = Names::new(alloc)?;
     let mut scratch = Scratch::new(alloc);
     let mut reader = Reader::new(text, &mut scratch)?;
-    let Some(found) = find_next(alloc, &mut reader, &mut names, DEEPEST)? else {
+    find_whole(alloc, &mut reader, &mut names)
+}
+
+/// What is found of all that is left to read.
+fn find_whole(
+    alloc: Global,
+    reader: &mut Reader<'_>,
+    names: &mut Names,
+) -> Result<Option<Found>, AllocError>
+    ensures { IfOk result (Finds IsFound (read_whole reader.old)) }
+{
+    let Some(found) = find_next(alloc, reader, names, DEEPEST)? else {
         return Ok(None);
     };
     if reader.next().is_some() {
