@@ -3,11 +3,12 @@
 //! A row is a line of text. What has no meaning in it is an error of the kind `InvalidInput`.
 #![tactic(auto)]
 
-ghost use Rattle.std.specs.Prelude.{◌≡◌, ◌≢◌, ◌<◌, ℕ, ◌++◌, ◌∷◌, [], length, get_or, codes, Ok, IfOk, IfErr, OnOk, MatchResult};
+ghost use Rattle.std.specs.Prelude.{◌≡◌, ◌≢◌, ◌<◌, ℕ, ◌++◌, ◌∷◌, [], length, get_or, codes, Ok, ◌⊎◌, IsErr, IfOk, IfErr, OnOk, MatchResult};
 ghost use Rattle.std.specs.IoError.{error_kind};
 ghost use Rattle.std.specs.Str.Parse.{ParsesUnsigned};
 ghost use Rattle.hex.specs.Hex.{decode_of};
 
+use hex::FromHexError;
 use std::alloc::{AllocError, Global};
 use std::io::{self, ErrorKind};
 
@@ -42,13 +43,15 @@ pub fn split(text: &str) -> io::Result<(&str, &str)>
     }
 }
 
-/// The bytes that hexadecimal digits tell, two for each.
+/// The bytes that hexadecimal digits tell, two for each. Where memory is missing the error is of the kind `OutOfMemory`.
 pub fn bytes_of(alloc: Global, digits: &str) -> io::Result<Vec<u8>>
     ensures value { IfOk result (λ bytes. decode_of digits.now ≡ Ok bytes.items) }
-    ensures kind { IfErr result (λ e. error_kind e ≡ ErrorKind.InvalidInput) }
+    ensures err { IfErr result (λ e. (error_kind e ≡ ErrorKind.OutOfMemory)
+        ⊎ ((error_kind e ≡ ErrorKind.InvalidInput) × IsErr (decode_of digits.now))) }
 {
     match hex::decode(alloc, digits) {
         Ok(bytes) => Ok(bytes),
+        Err(FromHexError::OutOfMemory) => Err(AllocError.into()),
         Err(_) => Err(no_meaning()),
     }
 }
