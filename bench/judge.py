@@ -593,7 +593,7 @@ class Scope:
             bs = t["fork"]["branches"]
             a = at + ("fork", "branches")
             if len(bs) > 64:
-                self.bad("too-many", at + ("fork",))
+                self.bad("too-many", at)
             ns = [next(iter(x)) for x in bs]
             for i, x in enumerate(bs):
                 (n, y), = x.items()

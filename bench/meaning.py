@@ -18,7 +18,7 @@ no use here. Errors of jq are told in the profile's words where that can be done
 an expression with a `range` of 499,999 or more is taken to be above it. Where a session comes to what is not modelled, a line
 that begins with `! not modelled` ends it. Of the lines that begin with `!` it knows `! reopen` and `! fail say N`.
 
-Usage: bench/meaning.py < sessions.txt, the blocks of crates/swf_cases/data; `bench/meaning.py stops < stops.txt` tells what
+Usage: bench/meaning.py < sessions.txt, the blocks of crates/swf_test_sessions/data; `bench/meaning.py stops < stops.txt` tells what
 comes of stops: how many calls of the store the session takes, and how many of its stops came to another end; and
 `bench/meaning.py orders < orders.txt`, whose rows lie there too, tells what every order of the steps of a workflow's strands
 comes to. JQ names another program than `jq`.

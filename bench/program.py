@@ -1,5 +1,5 @@
 """Shared by bench/kill and bench/session: where the built program lies, and the bytes of its journal and of labels, read and
-written as docs/FORMATS.md lists them."""
+written as docs/JOURNAL.md lists them."""
 import json
 import os
 import sys

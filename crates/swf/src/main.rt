@@ -13,6 +13,9 @@ use swf_store::{FileStore, StoreFault};
 /// The words of the command line have no meaning.
 const NO_MEANING: u8 = 2;
 
+/// What the words may be.
+const USAGE: &str = "usage: swf [--steps N] check|session|show, where N is from 1 to 1000000";
+
 /// The store could not be made.
 const STORE_FAULT: u8 = 3;
 
@@ -23,13 +26,13 @@ fn main(rt: HostRuntime) -> ExitCode {
     let alloc = rt.alloc();
     let words = match words(&rt) {
         Ok(words) => words,
-        Err(status) => return ExitCode::from(status),
+        Err(status) => return ended(rt, status),
     };
     // Nothing is made where the words have no meaning.
     let meaning = match read_words(alloc, &words) {
         Ok(Some(meaning)) => meaning,
-        Ok(None) => return ExitCode::from(NO_MEANING),
-        Err(_) => return ExitCode::from(NO_MEMORY),
+        Ok(None) => return ended(rt, NO_MEANING),
+        Err(_) => return ended(rt, NO_MEMORY),
     };
     let Ok(reader) = BufReader::new(alloc, rt.reader()) else {
         return ExitCode::from(NO_MEMORY);
@@ -45,6 +48,14 @@ fn main(rt: HostRuntime) -> ExitCode {
     };
     let mut host = ConsoleHost::new(alloc, store, reader, io::writer(&rt));
     ExitCode::from(swf_run(alloc, &words, &mut host))
+}
+
+// The status of a program that ends before it does anything. Where the words have no meaning, standard error is told what they may be.
+fn ended(rt: HostRuntime, status: u8) -> ExitCode {
+    if status == NO_MEANING {
+        let _ = eprintln!(rt; "{USAGE}");
+    }
+    ExitCode::from(status)
 }
 
 // The words behind the program's name. Words that are not text have no meaning.

@@ -1,5 +1,5 @@
 -- What a call of the engine is to a line of a session.
-use Rattle.std.proofs.Common.{◌≡◌, ◌∙◌, ap, sym, refl, subst, ◌⊎◌, inl, inr, ⊎_elim, ℕ, ◌≤◌, List, [], ◌∷◌, ◌++◌, length, length-append, ◌^◌, append-nil, Bool, true, false, Option, Some, None, unwrap_or, Ok, Err, Result, IfOk, arith, if◌then◌else◌}
+use Rattle.std.proofs.Common.{◌≡◌, ◌∙◌, ap, sym, refl, subst, ◌⊎◌, inl, inr, ⊎_elim, ℕ, ◌≤◌, List, [], ◌∷◌, ◌++◌, length, length-append, ◌^◌, append-nil, Bool, true, false, Option, Some, None, unwrap_or, Ok, Err, Result, IfOk, arith}
 use Rattle.std.specs.List.{AllByRecursion}
 use Rattle.std.specs.Option.{ForSome}
 use Rattle.swf_value.specs.Value.{Value}
@@ -49,7 +49,7 @@ use Rattle.swf_protocol.specs.declared.command.CommandFault.{CommandFault}
 use Rattle.swf_protocol.specs.declared.command.CommandFault.TheVariants as faults
 use Rattle.swf_protocol.specs.declared.reply.Reply.{Reply}
 use Rattle.swf_protocol.specs.declared.reply.Reply.TheVariants.{Memory}
-use Rattle.swf_cli.specs.Follows.{MayAdd}
+use Rattle.swf_cli.specs.Follows.{AddsNext, MayAdd}
 use Rattle.swf_cli.specs.Steps.{CommandDone, LineDone, Passes, Stand, IsFilled, IsBreak, or_memory, queried}
 use Rattle.swf_cli.specs.Turns.{Outcomes, Settled, Lacks, LineTurn, accepted, refused, fault_reply, settle_reply, query_reply}
 use Rattle.swf_cli.specs.Sorts.{sort_of, accepted_as}
@@ -205,26 +205,26 @@ steps_none limit = record { each = tt; most = omega arith }
 module _ {S : Type 0} (moment : S → ℕ) (left_since : S → ℕ → Image → List Piece → Type 0) (said : S → Option (List Piece)) (may_leave : S → Image → Type 0) (seen : S → Option Image)
     (only_now : (s : S) (image : Image) (pieces : List Piece) → left_since s (moment s) image pieces → may_leave s image × IsSaid (said s) pieces) where
   -- labels were added
-  pub done_by : (May : List Label → Type 0) (Does : List Label → Reply → Type 0) (old new : S) (before after : Core) (image : Image) (history labels : List Label) (reply : Reply)
+  pub done_by : (May : List Label → Type 0) (Next : List Label → Label → Type 0) (Does : List Label → Reply → Type 0) (old new : S) (before after : Core) (image : Image) (history labels : List Label) (reply : Reply)
       → Adds moment left_since said may_leave seen old new before after labels → seen old ≡ Some image → StandFor image (may_leave old) before history → Does labels reply
-      → CommandDone moment left_since said may_leave seen May Does history old new after (Ok reply)
-  done_by May Does old new before after image history labels reply a is stands does =
+      → CommandDone moment left_since said may_leave seen May Next Does history old new after (Ok reply)
+  done_by May Next Does old new before after image history labels reply a is stands does =
       let there = some_of (seen new) (seen old) image a.honest is in
       (labels, does, a.passes image is history stands, (there.0, there.1, a.stands image is history stands there.0 there.1))
 
   -- the store failed behind some labels
-  broken_by : (May : List Label → Type 0) (Does : List Label → Reply → Type 0) (old new : S) (before after : Core) (image : Image) (history labels : List Label)
+  broken_by : (May : List Label → Type 0) (Next : List Label → Label → Type 0) (Does : List Label → Reply → Type 0) (old new : S) (before after : Core) (image : Image) (history labels : List Label)
       → Breaks moment left_since said may_leave seen old new before labels → seen old ≡ Some image → StandFor image (may_leave old) before history
       → ((part : List Label) → Begins part labels → May part)
-      → CommandDone moment left_since said may_leave seen May Does history old new after (Err Store)
-  broken_by May Does old new before after image history labels b is stands may = (labels, may, b.passes image is history stands)
+      → CommandDone moment left_since said may_leave seen May Next Does history old new after (Err Store)
+  broken_by May Next Does old new before after image history labels b is stands may = (labels, may, b.passes image is history stands)
 
   -- the journal is full behind some labels
-  full_by : (May : List Label → Type 0) (Does : List Label → Reply → Type 0) (old new : S) (before after : Core) (image : Image) (history labels : List Label) (size : ℕ)
+  full_by : (May : List Label → Type 0) (Next : List Label → Label → Type 0) (Does : List Label → Reply → Type 0) (old new : S) (before after : Core) (image : Image) (history labels : List Label) (size : ℕ)
       → Adds moment left_since said may_leave seen old new before after labels → seen old ≡ Some image → StandFor image (may_leave old) before history
-      → ((part : List Label) → Begins part labels → May part) → IsFilled after size
-      → CommandDone moment left_since said may_leave seen May Does history old new after (Err (Full size))
-  full_by May Does old new before after image history labels size a is stands may filled =
+      → ((part : List Label) → Begins part labels → May part) → IsFilled (Next labels) after size
+      → CommandDone moment left_since said may_leave seen May Next Does history old new after (Err (Full size))
+  full_by May Next Does old new before after image history labels size a is stands may filled =
       let there = some_of (seen new) (seen old) image a.honest is in
       (labels, may, a.passes image is history stands, (there.0, there.1, a.stands image is history stands there.0 there.1), filled)
 
@@ -293,7 +293,7 @@ module _ (words : Words) where
     pub line_stays : (command : Result Command CommandFault) (old : S) (engine : Core) (reply : Reply) → ((history : List Label) → run history ≡ Some engine.world → LineTurn words history command [] reply)
         → LineDone words moment left_since said may_leave seen command old old engine engine (Ok reply)
     line_stays command old engine reply does = λ image is history stands.
-        done_by moment left_since said may_leave seen only_now (MayAdd words history command) (LineTurn words history command) old old engine engine image history [] reply (stays_adds moment left_since said may_leave seen only_now old engine) is stands (does history stands.run)
+        done_by moment left_since said may_leave seen only_now (MayAdd words history command) (AddsNext words history command) (LineTurn words history command) old old engine engine image history [] reply (stays_adds moment left_since said may_leave seen only_now old engine) is stands (does history stands.run)
 
     pub submit_done : (o : Outcome) (old new : S) (before after : Core) (result : Result Submitted EngineFault)
         → Submits moment left_since said may_leave seen old new before after (label_of before.world o) result
@@ -301,23 +301,24 @@ module _ (words : Words) where
     submit_done o old new before after (Ok (Accepted i)) h = λ image is history stands.
         let l = label_of before.world o in
         let e : world_at history ≡ before.world = world_of_run history before.world stands.run in
-        done_by moment left_since said may_leave seen only_now (MayAdd words history (Ok (Do o))) (LineTurn words history (Ok (Do o))) old new before after image history (l ∷ []) (accepted o i.place i.taken) h.0 is stands
+        done_by moment left_since said may_leave seen only_now (MayAdd words history (Ok (Do o))) (AddsNext words history (Ok (Do o))) (LineTurn words history (Ok (Do o))) old new before after image history (l ∷ []) (accepted o i.place i.taken) h.0 is stands
         (inl (outcome_in (world_at history) before.world o None (l ∷ []) (accepted o i.place i.taken) e h.1 (refl, ap (λ (n : ℕ). accepted o n i.taken) h.3 ∙ ap (accepted o before.world.count) h.4)))
     submit_done o old new before after (Ok (Refused r)) h = λ image is history stands.
         let e : world_at history ≡ before.world = world_of_run history before.world stands.run in
-        done_by moment left_since said may_leave seen only_now (MayAdd words history (Ok (Do o))) (LineTurn words history (Ok (Do o))) old new before after image history [] (refused r) (adds_none moment left_since said may_leave seen only_now old new before after h.2) is stands
+        done_by moment left_since said may_leave seen only_now (MayAdd words history (Ok (Do o))) (AddsNext words history (Ok (Do o))) (LineTurn words history (Ok (Do o))) old new before after image history [] (refused r) (adds_none moment left_since said may_leave seen only_now old new before after h.2) is stands
         (inl (outcome_in (world_at history) before.world o (Some r) [] (refused r) e h.0 (refl, refl)))
     submit_done o old new before after (Err Store) h = λ image is history stands.
         let e : world_at history ≡ before.world = world_of_run history before.world stands.run in
-        broken_by moment left_since said may_leave seen only_now (MayAdd words history (Ok (Do o))) (LineTurn words history (Ok (Do o))) old new before after image history (label_of before.world o ∷ []) h.0 is stands
+        broken_by moment left_since said may_leave seen only_now (MayAdd words history (Ok (Do o))) (AddsNext words history (Ok (Do o))) (LineTurn words history (Ok (Do o))) old new before after image history (label_of before.world o ∷ []) h.0 is stands
         (λ part b. may_outcome history before.world o part e h.1 b)
     submit_done o old new before after (Err (Damaged at)) h = absurd h
     submit_done o old new before after (Err (Full size)) h = λ image is history stands.
-        full_by moment left_since said may_leave seen only_now (MayAdd words history (Ok (Do o))) (LineTurn words history (Ok (Do o))) old new before after image history [] size (adds_none moment left_since said may_leave seen only_now old new before after h.2) is stands
+        full_by moment left_since said may_leave seen only_now (MayAdd words history (Ok (Do o))) (AddsNext words history (Ok (Do o))) (LineTurn words history (Ok (Do o))) old new before after image history [] size (adds_none moment left_since said may_leave seen only_now old new before after h.2) is stands
         (λ part b. inl (begins_none part b))
-        (subst (λ (c : Core). IsFilled c size) (sym h.2.1) (record { label = label_of before.world o; legal = h.1; full = h.0 }))
+        (subst (λ (c : Core). IsFilled (AddsNext words history (Ok (Do o)) []) c size) (sym h.2.1)
+        (record { label = label_of before.world o; next = (refl, ap (λ (w : World). label_of w o) (sym (world_of_run history before.world stands.run))); legal = h.1; full = h.0 }))
     submit_done o old new before after (Err OutOfMemory) h = λ image is history stands.
-        done_by moment left_since said may_leave seen only_now (MayAdd words history (Ok (Do o))) (LineTurn words history (Ok (Do o))) old new before after image history [] Memory (adds_none moment left_since said may_leave seen only_now old new before after h) is stands (inr (refl, refl))
+        done_by moment left_since said may_leave seen only_now (MayAdd words history (Ok (Do o))) (AddsNext words history (Ok (Do o))) (LineTurn words history (Ok (Do o))) old new before after image history [] Memory (adds_none moment left_since said may_leave seen only_now old new before after h) is stands (inr (refl, refl))
 
     pub submit_done_as : (o : Outcome) (old new : S) (before after : Core) (result : Result Submitted EngineFault) (r : Result Reply EngineFault)
         → Submits moment left_since said may_leave seen old new before after (label_of before.world o) result → submit_reply o result ≡ r
@@ -330,18 +331,18 @@ module _ (words : Words) where
     settle_done limit old new before after (Ok settled) h = λ image is history stands.
         let there = some_of (seen new) (seen old) image h.2.honest is in
         let stood = h.2.stands image is history stands there.0 there.1 in
-        done_by moment left_since said may_leave seen only_now (MayAdd words history (Ok (Settle (Some limit)))) (LineTurn words history (Ok (Settle (Some limit)))) old new before after image history h.0 (settle_reply settled.quiet settled.steps limit) h.2 is stands
+        done_by moment left_since said may_leave seen only_now (MayAdd words history (Ok (Settle (Some limit)))) (AddsNext words history (Ok (Settle (Some limit)))) (LineTurn words history (Ok (Settle (Some limit)))) old new before after image history h.0 (settle_reply settled.quiet settled.steps limit) h.2 is stands
         (inl (settled_in moment left_since said may_leave seen only_now history h.0 limit after.world settled (world_of_run (history ++ h.0) after.world stood.run) h.1 h.3 h.4 h.5))
     settle_done limit old new before after (Err Store) h = λ image is history stands.
-        broken_by moment left_since said may_leave seen only_now (MayAdd words history (Ok (Settle (Some limit)))) (LineTurn words history (Ok (Settle (Some limit)))) old new before after image history h.0 h.2 is stands
+        broken_by moment left_since said may_leave seen only_now (MayAdd words history (Ok (Settle (Some limit)))) (AddsNext words history (Ok (Settle (Some limit)))) (LineTurn words history (Ok (Settle (Some limit)))) old new before after image history h.0 h.2 is stands
         (λ part b. steps_begin part h.0 limit h.1 b)
     settle_done limit old new before after (Err (Damaged at)) h = absurd h
     settle_done limit old new before after (Err (Full size)) h = λ image is history stands.
-        full_by moment left_since said may_leave seen only_now (MayAdd words history (Ok (Settle (Some limit)))) (LineTurn words history (Ok (Settle (Some limit)))) old new before after image history h.0 size h.5 is stands
+        full_by moment left_since said may_leave seen only_now (MayAdd words history (Ok (Settle (Some limit)))) (AddsNext words history (Ok (Settle (Some limit)))) (LineTurn words history (Ok (Settle (Some limit)))) old new before after image history h.0 size h.5 is stands
         (λ part b. steps_begin part h.0 limit (steps_first h.0 (h.1 ∷ []) limit h.4) b)
-        (record { label = h.1; legal = h.3; full = h.6 })
+        (record { label = h.1; next = h.4; legal = h.3; full = h.6 })
     settle_done limit old new before after (Err OutOfMemory) h = λ image is history stands.
-        done_by moment left_since said may_leave seen only_now (MayAdd words history (Ok (Settle (Some limit)))) (LineTurn words history (Ok (Settle (Some limit)))) old new before after image history h.0 Memory h.2 is stands (inr (refl, h.1))
+        done_by moment left_since said may_leave seen only_now (MayAdd words history (Ok (Settle (Some limit)))) (AddsNext words history (Ok (Settle (Some limit)))) (LineTurn words history (Ok (Settle (Some limit)))) old new before after image history h.0 Memory h.2 is stands (inr (refl, h.1))
 
     pub settle_done_as : (limit : ℕ) (old new : S) (before after : Core) (result : Result HasSettled EngineFault) (r : Result Reply EngineFault)
         → Settles moment left_since said may_leave seen old new before after limit result → settled_reply limit result ≡ r

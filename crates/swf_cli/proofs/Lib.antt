@@ -6,3 +6,4 @@ pub mod OpeningLemmas
 pub mod SoundLemmas
 pub mod ShowLemmas
 pub mod CheckLemmas
+pub mod HeardLemmas

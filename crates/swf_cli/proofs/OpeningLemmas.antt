@@ -1,10 +1,11 @@
 -- How an opening goes before a session.
-use Rattle.std.proofs.Common.{◌≡◌, ◌≢◌, ◌∙◌, ap, sym, refl, subst, inl, inr, ⊎_elim, ℕ, List, [], ◌++◌, append-nil, Option, Some, Err, arith}
+use Rattle.std.proofs.Common.{◌≡◌, ◌≢◌, ◌∙◌, ap, sym, refl, subst, inl, inr, ⊎_elim, ℕ, ◌≤◌, List, [], ◌++◌, length, append-nil, Option, Some, arith}
 use Rattle.swf_store.specs.declared.image.Image.{Image}
 use Rattle.swf_store.specs.declared.said.Piece.{Piece}
-use Rattle.swf_store.specs.Said.{IsSaid}
+use Rattle.swf_store.specs.Said.{IsSaid, SaidPart}
 use Rattle.swf_store.specs.Stops.{Leaves, LeavesOnly}
-use Rattle.swf_store.proofs.Moments.{started, weaker}
+use Rattle.swf_store.proofs.Moments.{started, goes_on, weaker}
+use Rattle.swf_journal.specs.Opening.{IsUntouched}
 use Rattle.swf_meaning.specs.declared.label.Label.{Label}
 use Rattle.swf_host.specs.declared.host.Input.{Input}
 use Rattle.swf_engine.specs.declared.fault.EngineFault.{EngineFault}
@@ -14,12 +15,16 @@ use Rattle.swf_engine.specs.Damage.{IsDamaged}
 use Rattle.swf_engine.specs.History.{IsHistory}
 use Rattle.swf_engine.specs.Opening.{OpensHistory, IsOpened}
 use Rattle.swf_engine.proofs.HistoryLemmas.{left_history}
-use Rattle.swf_engine.proofs.LawLemmas.{history_one, damaged_none}
-use Rattle.swf_cli.specs.Finish.{IsShort, Ran, RunsOn, Tells, TellsDamage, ClosesWith}
-use Rattle.swf_cli.specs.Running.{SessionRun, TellsOfDamage}
+use Rattle.swf_engine.proofs.LawLemmas.{history_one, damaged_long, damaged_none}
+use Rattle.swf_protocol.specs.Spoken.{damaged_bytes}
+use Rattle.swf_cli.specs.declared.turn.After.TheVariants.{Stops}
+use Rattle.swf_cli.specs.Finish.{Ran, RunsOn, Tells, TellsDamage, ClosesWith}
+use Rattle.swf_cli.specs.Running.{KeepsDamaged, SessionRun, TellsOfDamage}
 use Rattle.swf_cli.specs.Steps.{IsSound, Stand}
 use Rattle.swf_cli.specs.declared.words.Words.{Words}
 use Rattle.swf_cli.specs.Moments.{IsMoment, Runs}
+use Rattle.swf_cli.specs.Heard.{TurnsTell}
+use Rattle.swf_cli.proofs.HeardLemmas.{tells_closed}
 use Rattle.swf_cli.proofs.SessionLemmas.{at_rest}
 
 -- before the first turn
@@ -63,7 +68,7 @@ module _ {S : Type 0} (moment : S → ℕ) (left_since : S → ℕ → Image →
     )
 
   -- where no engine was opened, of a store that was not damaged
-  pub closed_same : (fault : EngineFault) (opened new : S) (status : ℕ) → ((at : ℕ) → fault ≡ Damaged at → ⊥) → Tells fault opened new status (taken opened) (taken new) (said opened) (said new) → new ≡ opened
+  pub closed_same : (fault : EngineFault) (opened new : S) (status : ℕ) → ((at : ℕ) → fault ≡ Damaged at → ⊥) → Tells moment left_since said may_leave seen taken fault opened new status → new ≡ opened
   closed_same Store opened new status never tells = tells
   closed_same (Damaged at) opened new status never tells = absurd (never at refl)
   closed_same (Full size) opened new status never tells = absurd tells
@@ -71,10 +76,11 @@ module _ {S : Type 0} (moment : S → ℕ) (left_since : S → ℕ → Image →
 
   -- damage, where the status says so
   pub closed_damaged : (fault : EngineFault) (opened new : S) (image : Image) (first : List Input) (told : List Piece) (status h h_now t t_now : ℕ) → taken opened ≡ Some first → said opened ≡ Some told
-      → ((at : ℕ) → fault ≡ Damaged at → IsDamaged image at) → Tells fault opened new status (taken opened) (taken new) (said opened) (said new) → ClosesWith fault status h h_now t t_now → status ≡ 5
+      → ((at : ℕ) → fault ≡ Damaged at → IsDamaged image at) → Tells moment left_since said may_leave seen taken fault opened new status → ClosesWith fault status h h_now t t_now → status ≡ 5
       → (at : ℕ) × IsDamaged image at × TellsDamage at first told (taken new) (said new)
   closed_damaged Store opened new image first told status h h_now t t_now took is damaged tells closes five = absurd (omega (arith, closes.0))
-  closed_damaged (Damaged at) opened new image first told status h h_now t t_now took is damaged tells closes five = (at, damaged at refl, tells first took told is five)
+  closed_damaged (Damaged at) opened new image first told status h h_now t t_now took is damaged tells closes five =
+      (at, damaged at refl, record { taken = tells.taken_same ∙ took; told = tells.whole first took told is (ap Stops five) })
   closed_damaged (Full size) opened new image first told status h h_now t t_now took is damaged tells closes five = absurd closes
   closed_damaged OutOfMemory opened new image first told status h h_now t t_now took is damaged tells closes five = absurd (omega (arith, closes.0))
 
@@ -98,19 +104,69 @@ module _ {S : Type 0} (moment : S → ℕ) (left_since : S → ℕ → Image →
   opened_damage old opened new engine status opens sound = record {
     damaged = λ image is first took told said_is five. absurd (never image is five);
     refused = λ image is at d. absurd (damaged_none image (opens image is).history at (opens image is).was d);
+    kept = λ image is at d. absurd (damaged_none image (opens image is).history at (opens image is).was d);
     whole = λ image is before stands five. never image is five;
   }
     where
       never : (image : Image) → seen old ≡ Some image → status ≢ 5
       never image is = let o = opens image is in sound (o.history, opened_stand opened image engine o.history o.was o)
 
+  none_of : (at inputs : ℕ) (pieces now : List Piece) → now ≡ pieces → SaidPart 0 (damaged_bytes at) inputs pieces now
+  none_of at inputs pieces now same = record { part = []; rest = damaged_bytes at; begins = refl; told = inl same }
+
+  -- A damaged store was opened in vain, and nothing was said.
+  untouched_kept : (old opened : S) (image : Image) (at status : ℕ) → IsDamaged image at → IsUntouched moment left_since said may_leave seen old opened → said opened ≡ said old
+      → KeepsDamaged moment left_since said may_leave seen taken image old opened status
+  untouched_kept old opened image at status d u silent = record {
+    same = u.same;
+    stop = u.stop;
+    silent = λ five four. silent;
+    moments = λ inputs took pieces is. (
+      at,
+      d,
+      weaker moment left_since old opened (λ left now. may_leave old left × IsSaid (said old) now) (λ left now. may_leave old left × SaidPart 0 (damaged_bytes at) (length inputs) pieces now) u.any_moment
+          (λ left now h. (h.0, none_of at (length inputs) pieces now (h.1 pieces is))),
+    );
+  }
+
+  stops_is : (k n : ℕ) → Stops k ≡ Stops n → k ≡ n
+  stops_is k n e = cc
+
+  -- The store of a damaged journal is kept, whatever was said of it.
+  closed_kept : (fault : EngineFault) (old opened new : S) (image : Image) (at status : ℕ) → IsDamaged image at → ((there : ℕ) → fault ≡ Damaged there → IsDamaged image there)
+      → IsUntouched moment left_since said may_leave seen old opened → taken opened ≡ taken old → said opened ≡ said old → Tells moment left_since said may_leave seen taken fault opened new status
+      → KeepsDamaged moment left_since said may_leave seen taken image old new status
+  closed_kept Store old opened new image at status d damaged u took silent tells =
+      subst (λ (s : S). KeepsDamaged moment left_since said may_leave seen taken image old s status) (sym tells) (untouched_kept old opened image at status d u silent)
+  closed_kept (Damaged there) old opened new image at status d damaged u took silent tells = record {
+    same = tells.seen_same ∙ u.same;
+    stop = λ left may. u.stop left (tells.stop left may);
+    silent = λ five four. ⊎_elim
+        (λ e. absurd (five (stops_is status 5 e)))
+        (λ f. ⊎_elim (λ e. tells.quiet e ∙ silent) (λ e. absurd (four (stops_is status 4 e))) f)
+        tells.which;
+    moments = λ inputs was pieces is. (
+      there,
+      damaged there refl,
+      goes_on moment left_since old opened new (λ left now. may_leave old left × IsSaid (said old) now) (λ left now. may_leave opened left × SaidPart 0 (damaged_bytes there) (length inputs) pieces now)
+          (λ left now. may_leave old left × SaidPart 0 (damaged_bytes there) (length inputs) pieces now) u.any_moment (tells.leaves inputs (took ∙ was) pieces (silent ∙ is))
+          (λ left now h. (h.0, none_of there (length inputs) pieces now (h.1 pieces is)))
+          (λ left now h. (u.stop left h.0, h.1)),
+    );
+  }
+  closed_kept (Full size) old opened new image at status d damaged u took silent tells = absurd tells
+  closed_kept OutOfMemory old opened new image at status d damaged u took silent tells =
+      subst (λ (s : S). KeepsDamaged moment left_since said may_leave seen taken image old s status) (sym tells) (untouched_kept old opened image at status d u silent)
+
   -- What is told of damage where it was not.
   pub closed_damage : (fault : EngineFault) (old opened new : S) (status h h_now t t_now : ℕ) → taken opened ≡ taken old → said opened ≡ said old → taken new ≡ taken opened
       → ((image : Image) → seen old ≡ Some image → (at : ℕ) → fault ≡ Damaged at → IsDamaged image at)
-      → Tells fault opened new status (taken opened) (taken new) (said opened) (said new) → ClosesWith fault status h h_now t t_now → TellsOfDamage moment left_since said may_leave seen taken old new status
-  closed_damage fault old opened new status h h_now t t_now same silent kept damaged tells closes = record {
+      → ((image : Image) → seen old ≡ Some image → 25 ≤ length image.journal → IsUntouched moment left_since said may_leave seen old opened)
+      → Tells moment left_since said may_leave seen taken fault opened new status → ClosesWith fault status h h_now t t_now → TellsOfDamage moment left_since said may_leave seen taken old new status
+  closed_damage fault old opened new status h h_now t t_now same silent kept damaged untouched tells closes = record {
     damaged = λ image is first took told said_is five. closed_damaged fault opened new image first told status h h_now t t_now (same ∙ took) (silent ∙ said_is) (damaged image is) tells closes five;
     refused = λ image is at d. (kept ∙ same, (closed_other fault status h h_now t t_now closes).0, (closed_other fault status h h_now t t_now closes).1);
+    kept = λ image is at d. closed_kept fault old opened new image at status d (damaged image is) (untouched image is (damaged_long image at d)) same silent tells;
     whole = λ image is before stands. closed_whole fault status h h_now t t_now (λ at e. damaged_none image before at stands (damaged image is at e)) closes;
   }
 
@@ -120,8 +176,9 @@ module _ {S : Type 0} (moment : S → ℕ) (left_since : S → ℕ → Image →
         → ((image : Image) → seen old ≡ Some image → IsOpened moment left_since said may_leave seen image opened engine)
         → ((image : Image) → seen old ≡ Some image → (history : List Label) → IsHistory image history → OpensHistory moment left_since said may_leave seen old opened history)
         → RunsOn words moment left_since said may_leave seen taken opened new engine status → (IsSound moment left_since said may_leave seen opened engine → status ≢ 5)
+        → ((first : List Input) → taken opened ≡ Some first → (pieces : List Piece) → said opened ≡ Some pieces → TurnsTell moment left_since said may_leave seen taken new first pieces status)
         → SessionRun moment left_since said may_leave seen taken words old new status
-    session_opened old opened new engine status same silent opens any_moment ran sound = record {
+    session_opened old opened new engine status same silent opens any_moment ran sound heard = record {
       moments = λ image is first took told said_is before stands.
           let s = start image is first took told said_is before stands in
           let r = run image is first took told said_is before stands in
@@ -130,6 +187,7 @@ module _ {S : Type 0} (moment : S → ℕ) (left_since : S → ℕ → Image →
       full = λ image is first took told said_is before stands seven. (run image is first took told said_is before stands).full seven;
       short = λ image is first took told said_is before stands which. (run image is first took told said_is before stands).short which;
       damage = opened_damage old opened new engine status opens sound;
+      heard = λ first took told is. inl (heard first (same ∙ took) told (silent ∙ is));
     }
       where
         start : (image : Image) → seen old ≡ Some image → (first : List Input) → taken old ≡ Some first → (told : List Piece) → said old ≡ Some told → (before : List Label) → IsHistory image before
@@ -148,9 +206,10 @@ module _ {S : Type 0} (moment : S → ℕ) (left_since : S → ℕ → Image →
     pub session_closed : (fault : EngineFault) (old opened new : S) (status h h_now t t_now : ℕ) → taken opened ≡ taken old → said opened ≡ said old → taken new ≡ taken opened
         → ((image : Image) → seen old ≡ Some image → (at : ℕ) → fault ≡ Damaged at → IsDamaged image at)
         → ((image : Image) → seen old ≡ Some image → (history : List Label) → IsHistory image history → OpensHistory moment left_since said may_leave seen old opened history)
-        → Tells fault opened new status (taken opened) (taken new) (said opened) (said new) → ClosesWith fault status h h_now t t_now
+        → ((image : Image) → seen old ≡ Some image → 25 ≤ length image.journal → IsUntouched moment left_since said may_leave seen old opened)
+        → Tells moment left_since said may_leave seen taken fault opened new status → ClosesWith fault status h h_now t t_now
         → SessionRun moment left_since said may_leave seen taken words old new status
-    session_closed fault old opened new status h h_now t t_now same silent kept damaged any_moment tells closes = record {
+    session_closed fault old opened new status h h_now t t_now same silent kept damaged any_moment untouched tells closes = record {
       moments = λ image is first took told said_is before stands. (
         first,
         kept ∙ same ∙ took,
@@ -163,10 +222,12 @@ module _ {S : Type 0} (moment : S → ℕ) (left_since : S → ℕ → Image →
         turns = [];
         allowed = tt;
         more = [];
+        most = omega arith;
         taken = kept ∙ same ∙ took ∙ ap Some (sym (append-nil (first ++ []) ∙ append-nil first));
         told = ap said (unchanged image is before stands) ∙ silent ∙ said_is ∙ ap Some (sym (append-nil told));
       };
-      damage = closed_damage fault old opened new status h h_now t t_now same silent kept damaged tells closes;
+      damage = closed_damage fault old opened new status h h_now t t_now same silent kept damaged untouched tells closes;
+      heard = λ first took told is. tells_closed moment left_since said may_leave seen taken fault opened new first told status h h_now t t_now (same ∙ took) (silent ∙ is) tells closes;
     }
       where
         unchanged : (image : Image) → seen old ≡ Some image → (before : List Label) → IsHistory image before → new ≡ opened

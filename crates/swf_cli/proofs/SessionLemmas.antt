@@ -1,5 +1,5 @@
 -- Turn after turn, the session follows the meaning, and so it does at every moment.
-use Rattle.std.proofs.Common.{◌≡◌, ◌∙◌, ap, sym, refl, subst, ◌⊎◌, inl, inr, ⊎_elim, ℕ, suc, ◌+◌, List, [], ◌∷◌, ◌++◌, append-nil, append_assoc, length, length-append, Bool, true, false, Option, Some, None, map, arith}
+use Rattle.std.proofs.Common.{◌≡◌, ◌∙◌, ap, sym, refl, subst, ◌⊎◌, inl, inr, ⊎_elim, ℕ, suc, ◌+◌, ◌≤◌, List, [], ◌∷◌, ◌++◌, append-nil, append_assoc, length, length-append, Bool, true, false, Option, Some, None, map, arith}
 use Rattle.std.proofs.lemmas.List.{map-append}
 use Rattle.swf_store.specs.declared.image.Image.{Image}
 use Rattle.swf_store.specs.declared.said.Piece.{Piece}
@@ -115,10 +115,10 @@ module _ (words : Words) where
     -- a moment behind these turns
     moment_at : (answered unsaid : List Turn) (opened : List Input) (part : List Label) (all : List Input) (image : Image) (pieces : List Piece)
         → AreTurns words before (answered ++ unsaid) → IsGoing words before (answered ++ unsaid) opened part → HaveReplies answered
-        → IsHistory image (before ++ (labels_of (answered ++ unsaid) ++ part)) → all ≡ first ++ (inputs_of (answered ++ unsaid) ++ opened)
-        → (pieces ≡ told ++ pieces_of (length first) answered) ⊎ ((last : Piece) × (pieces ≡ told ++ (pieces_of (length first) answered ++ last ∷ [])) × IsLastPiece unsaid last)
+        → IsHistory image (before ++ (labels_of (answered ++ unsaid) ++ part)) → all ≡ first ++ (inputs_of (answered ++ unsaid) ++ opened) → length unsaid + length opened ≤ 1
+        → (pieces ≡ told ++ pieces_of (length first) answered) ⊎ ((last : Piece) × (pieces ≡ told ++ (pieces_of (length first) answered ++ last ∷ [])) × IsLastPiece unsaid opened last)
         → IsMoment words before first told all image pieces
-    moment_at answered unsaid opened part all image pieces allowed going replies stands all_is are = record {
+    moment_at answered unsaid opened part all image pieces allowed going replies stands all_is one are = record {
       history = before ++ (labels_of (answered ++ unsaid) ++ part);
       stands = stands;
       once = once_of_legal (before ++ (labels_of (answered ++ unsaid) ++ part)) stands.legal;
@@ -136,6 +136,7 @@ module _ (words : Words) where
         inputs_are = refl;
         labels_are = refl;
         replies_are = heard_all (length first) answered;
+        one = one;
       };
       prompt = prompts (length first) answered replies;
       pieces_are = are;
@@ -165,11 +166,12 @@ module _ (words : Words) where
           (subst (AreTurns words before) (sym e) allowed) refl (have_replies before ts allowed opens)
           (subst (λ (us : List Turn). IsHistory image (before ++ (labels_of us ++ []))) (sym e) (subst (λ (l : List Label). IsHistory image (before ++ l)) (sym (append-nil (labels_of ts))) stands))
           (ap (λ (l : List Input). first ++ l) (sym (append-nil (inputs_of (ts ++ [])) ∙ ap inputs_of e)))
+          (omega arith)
           (inl are)
 
       -- an input was taken, and a part of its labels is there
       at_open : (input : Input) (part : List Label) (image : Image) (pieces : List Piece) → MayBegin words (before ++ labels_of ts) input part → IsHistory image ((before ++ labels_of ts) ++ part)
-          → (pieces ≡ told ++ pieces_of (length first) ts) ⊎ ((last : Piece) × (pieces ≡ told ++ (pieces_of (length first) ts ++ last ∷ [])) × IsLastPiece [] last)
+          → (pieces ≡ told ++ pieces_of (length first) ts) ⊎ ((last : Piece) × (pieces ≡ told ++ (pieces_of (length first) ts ++ last ∷ [])) × IsLastPiece [] (input ∷ []) last)
           → IsMoment words before first told ((first ++ inputs_of ts) ++ input ∷ []) image pieces
       at_open input part image pieces may stands are =
           let e : ts ++ [] ≡ ts = append-nil ts in
@@ -179,6 +181,7 @@ module _ (words : Words) where
           (have_replies before ts allowed opens)
           (subst (λ (us : List Turn). IsHistory image (before ++ (labels_of us ++ part))) (sym e) (subst (λ (l : List Label). IsHistory image l) (append_assoc before (labels_of ts) part) stands))
           (append_assoc first (inputs_of ts) (input ∷ []) ∙ ap (λ (us : List Turn). first ++ (inputs_of us ++ input ∷ [])) (sym e))
+          (omega arith)
           are
 
       module _ (t : Turn) (answered : IsAnswered words (before ++ labels_of ts) t.input t.labels t.reply) where
@@ -190,13 +193,14 @@ module _ (words : Words) where
 
         -- the turn's labels are there, and its reply was not said, or only a part of it
         at_unsaid : (image : Image) (pieces : List Piece) → IsHistory image ((before ++ labels_of ts) ++ t.labels)
-            → (pieces ≡ told ++ pieces_of (length first) ts) ⊎ ((last : Piece) × (pieces ≡ told ++ (pieces_of (length first) ts ++ last ∷ [])) × IsLastPiece (t ∷ []) last)
+            → (pieces ≡ told ++ pieces_of (length first) ts) ⊎ ((last : Piece) × (pieces ≡ told ++ (pieces_of (length first) ts ++ last ∷ [])) × IsLastPiece (t ∷ []) [] last)
             → IsMoment words before first told ((first ++ inputs_of ts) ++ t.input ∷ []) image pieces
         at_unsaid image pieces stands are =
             moment_at ts (t ∷ []) [] [] ((first ++ inputs_of ts) ++ t.input ∷ []) image pieces
             (allowed-snoc before ts t allowed opens answered) refl (have_replies before ts allowed opens)
             (subst (λ (l : List Label). IsHistory image (before ++ l)) (sym (append-nil (labels_of (ts ++ t ∷ [])))) (labels_join image stands))
             (inputs_join ∙ ap (λ (l : List Input). first ++ l) (sym (append-nil (inputs_of (ts ++ t ∷ [])))))
+            (omega arith)
             are
 
         -- its reply was said whole
@@ -209,6 +213,7 @@ module _ (words : Words) where
             (subst (AreTurns words before) (sym f) (allowed-snoc before ts t allowed opens answered)) refl (replies-snoc ts t reply (have_replies before ts allowed opens) e)
             (subst (λ (vs : List Turn). IsHistory image (before ++ (labels_of vs ++ []))) (sym f) (subst (λ (l : List Label). IsHistory image (before ++ l)) (sym (append-nil (labels_of us))) (labels_join image stands)))
             (inputs_join ∙ ap (λ (l : List Input). first ++ l) (sym (append-nil (inputs_of (us ++ [])) ∙ ap inputs_of f)))
+            (omega arith)
             (inl are)
 
         -- the piece that says the reply, or the first of it
@@ -245,7 +250,7 @@ module _ (words : Words) where
 
       -- the same of a turn that the store or a full journal broke
       broken_moment : (input : Input) (group : List Label) (line : List Heard) → ((part : List Label) → Begins part group → MayBegin words (before ++ labels_of ts) input part)
-          → ((one : Heard) → line ≡ one ∷ [] → (size : ℕ) × (one.bytes ≡ full_bytes size)) → (image : Image) (pieces : List Piece)
+          → ((one : Heard) → line ≡ one ∷ [] → (size : ℕ) × (one.bytes ≡ full_bytes size) × (one.conn ≡ conn_of input)) → (image : Image) (pieces : List Piece)
           → TurnLeft (before ++ labels_of ts) (length (first ++ inputs_of ts)) (told ++ pieces_of (length first) ts) group line image pieces
           → IsMoment words before first told ((first ++ inputs_of ts) ++ input ∷ []) image pieces
       broken_moment input group line may is_full image pieces (inl h) = at_open input h.0.part image pieces (may h.0.part h.0.begins) h.0.stands (inl h.1)
@@ -254,7 +259,7 @@ module _ (words : Words) where
           let piece : Piece = record { conn = h.0.conn; bytes = h.3.part; inputs = length (first ++ inputs_of ts) + 1 } in
           let all = may group (record { rest = []; joined = sym (append-nil group) }) in
           ⊎_elim (λ same. at_open input group image pieces all h.2 (inl same))
-          (λ more. at_open input group image pieces all h.2 (inr (piece, more ∙ append_assoc told (pieces_of (length first) ts) (piece ∷ []), (full.0, h.3.rest, sym full.1 ∙ h.3.begins)))) h.3.told
+          (λ more. at_open input group image pieces all h.2 (inr (piece, more ∙ append_assoc told (pieces_of (length first) ts) (piece ∷ []), (full.2, full.0, h.3.rest, sym full.1 ∙ h.3.begins)))) h.3.told
 
   module _ {S : Type 0} (moment : S → ℕ) (left_since : S → ℕ → Image → List Piece → Type 0) (said : S → Option (List Piece)) (may_leave : S → Image → Type 0) (seen : S → Option Image) (taken : S → Option (List Input)) where
     -- the session so far, in so many turns, since some state
@@ -351,18 +356,20 @@ module _ (words : Words) where
       which_stopped : Nothing moment left_since said may_leave seen taken now new (before ++ labels_of s.turns) (first ++ inputs_of s.turns) (told ++ pieces_of (length first) s.turns)
           ⊎ Unsaid words moment left_since said may_leave seen taken now new (before ++ labels_of s.turns) (first ++ inputs_of s.turns) (told ++ pieces_of (length first) s.turns)
           ⊎ Broken words moment left_since said may_leave seen taken now new (before ++ labels_of s.turns) (first ++ inputs_of s.turns) (told ++ pieces_of (length first) s.turns)
-          → (more : List Input) × (taken new ≡ Some ((first ++ inputs_of s.turns) ++ more)) × Leaves moment left_since start new (IsMoment words before first told ((first ++ inputs_of s.turns) ++ more))
+          → (more : List Input) × (length more ≤ 1) × (taken new ≡ Some ((first ++ inputs_of s.turns) ++ more)) × Leaves moment left_since start new (IsMoment words before first told ((first ++ inputs_of s.turns) ++ more))
       which_stopped (inl n) = (
         [],
+        omega arith,
         n.took ∙ ap Some (sym (append-nil (first ++ inputs_of s.turns))),
         subst (λ (l : List Input). Leaves moment left_since start new (IsMoment words before first told l)) (sym (append-nil (first ++ inputs_of s.turns))) (
             goes_on moment left_since start now new (IsMoment words before first told (first ++ inputs_of s.turns)) (λ image pieces. IsHistory image (before ++ labels_of s.turns) × (pieces ≡ told ++ pieces_of (length first) s.turns))
             (IsMoment words before first told (first ++ inputs_of s.turns)) s.leaves n.leaves (λ image pieces m. m)
             (λ image pieces h. at_rest before first told s.turns s.allowed s.opens image pieces h.0 h.1)),
       )
-      which_stopped (inr (inl u)) = (u.turn.input ∷ [], u.turned.took, turn_moments u.turn u.answered u.turned)
+      which_stopped (inr (inl u)) = (u.turn.input ∷ [], omega arith, u.turned.took, turn_moments u.turn u.answered u.turned)
       which_stopped (inr (inr b)) = (
         b.input ∷ [],
+        omega arith,
         b.turned.took,
         moments (TurnLeft (before ++ labels_of s.turns) (length (first ++ inputs_of s.turns)) (told ++ pieces_of (length first) s.turns) b.group b.line) (b.input ∷ []) b.turned.leaves
             (broken_moment before first told s.turns s.allowed s.opens b.input b.group b.line b.turned.may b.is_full),
@@ -375,15 +382,16 @@ module _ (words : Words) where
       turn_stops status d =
           let stopped = which_stopped d.0 in record {
             all = (first ++ inputs_of s.turns) ++ stopped.0;
-            took = stopped.1;
-            leaves = stopped.2;
+            took = stopped.2;
+            leaves = stopped.3;
             finish = λ zero. absurd (d.1 zero);
             full = λ seven. record { engine = after; turns = s.turns; allowed = s.allowed; told = d.2 seven };
             short = λ which. record {
               turns = s.turns;
               allowed = s.allowed;
               more = stopped.0;
-              taken = stopped.1;
+              most = stopped.1;
+              taken = stopped.2;
               told = d.3 (λ four. ⊎_elim (λ three. omega arith) (λ six. omega arith) which) (λ seven. ⊎_elim (λ three. omega arith) (λ six. omega arith) which);
             };
           }

@@ -1,5 +1,5 @@
 -- Line after line, the status of each instance is said.
-use Rattle.std.proofs.Common.{◌≡◌, ◌≢◌, ◌∙◌, ap, sym, refl, subst, ◌⊎◌, inl, inr, ⊎_elim, ℕ, ◌+◌, List, [], ◌∷◌, ◌++◌, append-nil, append_assoc, length, length-append, map, true, false, Option, Some, None, option_map, Ok, Err, Result, slice_get, arith}
+use Rattle.std.proofs.Common.{◌≡◌, ◌≢◌, ◌∙◌, ap, sym, refl, subst, ◌⊎◌, inl, inr, ⊎_elim, ℕ, ◌+◌, ◌≤◌, List, [], ◌∷◌, ◌++◌, append-nil, append_assoc, length, length-append, Option, Some, None, option_map, Err, Result, slice_get, arith}
 use Rattle.std.proofs.lemmas.List.{map-append}
 use Rattle.std.proofs.lemmas.Option.{slice_get-map}
 use Rattle.swf_store.specs.declared.image.Image.{Image}
@@ -8,9 +8,9 @@ use Rattle.swf_store.specs.Disk.{NothingNew}
 use Rattle.swf_store.specs.Said.{IsSaid, SaidPart, and_piece}
 use Rattle.swf_store.specs.Stops.{Leaves, LeavesOnly}
 use Rattle.swf_store.proofs.Moments.{goes_on, started}
+use Rattle.swf_journal.specs.Opening.{IsUntouched}
 use Rattle.swf_meaning.specs.declared.label.Label.{Label}
 use Rattle.swf_meaning.specs.declared.label.Query.TheVariants.{Status}
-use Rattle.swf_runs.specs.Runs.{world_at}
 use Rattle.swf_meaning.specs.World.{Instance, World}
 use Rattle.swf_runs.proofs.OnceLemmas.{once_of_legal}
 use Rattle.swf_runs.proofs.RunLemmas.{world_of_run}
@@ -32,13 +32,13 @@ use Rattle.swf_engine.proofs.LawLemmas.{damaged_none}
 use Rattle.swf_protocol.specs.Spoken.{spoken}
 use Rattle.swf_protocol.specs.declared.reply.Reply.{Reply}
 use Rattle.swf_cli.specs.declared.turn.After.{After}
-use Rattle.swf_cli.specs.declared.turn.After.TheVariants.{GoesOn, Ends, Stops}
+use Rattle.swf_cli.specs.declared.turn.After.TheVariants.{GoesOn, Stops}
 use Rattle.swf_cli.specs.Finish.{Tells, ClosesWith}
 use Rattle.swf_cli.specs.Moments.{Runs}
 use Rattle.swf_cli.specs.Running.{ShowRun}
-use Rattle.swf_cli.specs.Shown.{lines_in, lines_of, line_pieces, IsShowing, IsShown, IsPartShown, Showed, ShowsOn}
+use Rattle.swf_cli.specs.Shown.{lines_in, lines_of, line_pieces, IsShowing, Showed, ShowsOn}
 use Rattle.swf_cli.specs.Statuses.{IsBlamed}
-use Rattle.swf_cli.specs.Steps.{IsSound, Stand, Says, queried}
+use Rattle.swf_cli.specs.Steps.{Stand, Says, queried}
 use Rattle.swf_cli.specs.Turns.{query_reply}
 use Rattle.swf_cli.proofs.OpeningLemmas.{opened_stand, opened_start, failed_runs, closed_same, closed_other, opened_damage, closed_damage}
 
@@ -269,9 +269,10 @@ module _ {S : Type 0} (moment : S → ℕ) (left_since : S → ℕ → Image →
     pub show_closed : (fault : EngineFault) (old opened new : S) (status h h_now t t_now : ℕ) → taken opened ≡ taken old → said opened ≡ said old → taken new ≡ taken opened
         → ((image : Image) → seen old ≡ Some image → (at : ℕ) → fault ≡ Damaged at → IsDamaged image at)
         → ((image : Image) → seen old ≡ Some image → (history : List Label) → IsHistory image history → OpensHistory moment left_since said may_leave seen old opened history)
-        → Tells fault opened new status (taken opened) (taken new) (said opened) (said new) → ClosesWith fault status h h_now t t_now
+        → ((image : Image) → seen old ≡ Some image → 25 ≤ length image.journal → IsUntouched moment left_since said may_leave seen old opened)
+        → Tells moment left_since said may_leave seen taken fault opened new status → ClosesWith fault status h h_now t t_now
         → ShowRun moment left_since said may_leave seen taken old new status
-    show_closed fault old opened new status h h_now t t_now same silent kept damaged any_moment tells closes = record {
+    show_closed fault old opened new status h h_now t t_now same silent kept damaged any_moment untouched tells closes = record {
       moments = λ image is first took told said_is before stands. (
         kept ∙ same ∙ took,
         subst (λ (s : S). Runs moment left_since said may_leave (IsShowing before first told) old s) (sym (unchanged image is before stands))
@@ -285,7 +286,7 @@ module _ {S : Type 0} (moment : S → ℕ) (left_since : S → ℕ → Image →
         taken = kept ∙ same ∙ took;
         told = ap said (unchanged image is before stands) ∙ silent ∙ said_is ∙ ap Some (sym (append-nil told));
       };
-      damage = closed_damage moment left_since said may_leave seen taken only_now fault old opened new status h h_now t t_now same silent kept damaged tells closes;
+      damage = closed_damage moment left_since said may_leave seen taken only_now fault old opened new status h h_now t t_now same silent kept damaged untouched tells closes;
     }
       where
         unchanged : (image : Image) → seen old ≡ Some image → (before : List Label) → IsHistory image before → new ≡ opened

@@ -1,9 +1,8 @@
 -- Where engine and store stand for a history, no turn finds damage, and they stand for one after it.
-use Rattle.std.proofs.Common.{◌≡◌, ◌≢◌, ◌∙◌, ap, sym, subst, ⊎_elim, ℕ, List, ◌++◌, Bool, true, false, Option, Some, Ok, Err, Result, arith}
+use Rattle.std.proofs.Common.{◌≡◌, ◌∙◌, ap, sym, subst, ⊎_elim, ℕ, List, ◌++◌, Bool, true, false, Option, Ok, Err, Result, arith}
 use Rattle.swf_store.specs.declared.image.Image.{Image}
 use Rattle.swf_store.specs.declared.said.Piece.{Piece}
 use Rattle.swf_store.specs.Disk.{NothingNew}
-use Rattle.swf_meaning.specs.declared.label.Label.{Label}
 use Rattle.swf_host.specs.declared.host.Input.{Input}
 use Rattle.swf_engine.specs.declared.fault.EngineFault.{EngineFault}
 use Rattle.swf_engine.specs.declared.fault.EngineFault.TheVariants.{Store, Damaged, Full, OutOfMemory}

@@ -30,9 +30,9 @@ use Rattle.swf_protocol.specs.declared.reply.Reply.TheVariants.{TooLong}
 use Rattle.swf_cli.specs.declared.answer.Answered.{Answered}
 use Rattle.swf_cli.specs.declared.turn.After.{After}
 use Rattle.swf_cli.specs.declared.turn.After.TheVariants.{GoesOn, Ends, Stops}
-use Rattle.swf_cli.specs.Follows.{Heard, MayAdd, MayBegin, conn_of, heard}
+use Rattle.swf_cli.specs.Follows.{Heard, AddsNext, MayAdd, MayBegin, conn_of, heard}
 use Rattle.swf_cli.specs.Statuses.{IsBlamed}
-use Rattle.swf_cli.specs.Steps.{CommandDone, LineDone, AskDone, MayAsk, Passes, Stand, IsFilled, TurnLeft, Turned, TurnDone, Says, reply_of, follows_end}
+use Rattle.swf_cli.specs.Steps.{CommandDone, LineDone, AskDone, AsksNext, MayAsk, Passes, Stand, IsFilled, TurnLeft, Turned, TurnDone, Says, reply_of, follows_end}
 use Rattle.swf_cli.specs.Turns.{Outcomes, LineTurn, AskTurn, IsAnswered, is_long, ends}
 use Rattle.swf_cli.proofs.AnswerLemmas.{begins_none, may_outcome, steps_begin, done_by}
 use Rattle.swf_cli.specs.declared.words.Words.{Words}
@@ -98,14 +98,14 @@ module _ (words : Words) where
   module _ {S : Type 0} (moment : S → ℕ) (left_since : S → ℕ → Image → List Piece → Type 0) (said : S → Option (List Piece)) (may_leave : S → Image → Type 0) (seen : S → Option Image)
       (only_now : (s : S) (image : Image) (pieces : List Piece) → left_since s (moment s) image pieces → may_leave s image × IsSaid (said s) pieces) where
     -- a command's answer says more
-    pub command_as : (May More : List Label → Type 0) (Does Tells : List Label → Reply → Type 0) (history : List Label) (old new : S) (after : Core) (result : Result Reply EngineFault)
-        → ((part : List Label) → May part → More part) → ((labels : List Label) (reply : Reply) → Does labels reply → Tells labels reply)
-        → CommandDone moment left_since said may_leave seen May Does history old new after result → CommandDone moment left_since said may_leave seen More Tells history old new after result
-    command_as May More Does Tells history old new after (Ok reply) m d h = (h.0, d h.0 reply h.1, h.2, h.3)
-    command_as May More Does Tells history old new after (Err Store) m d h = (h.0, (λ part b. m part (h.1 part b)), h.2)
-    command_as May More Does Tells history old new after (Err (Damaged at)) m d h = h
-    command_as May More Does Tells history old new after (Err (Full size)) m d h = (h.0, (λ part b. m part (h.1 part b)), h.2, h.3, h.4)
-    command_as May More Does Tells history old new after (Err OutOfMemory) m d h = h
+    pub command_as : (May More : List Label → Type 0) (Next Then : List Label → Label → Type 0) (Does Tells : List Label → Reply → Type 0) (history : List Label) (old new : S) (after : Core) (result : Result Reply EngineFault)
+        → ((part : List Label) → May part → More part) → ((labels : List Label) (label : Label) → Next labels label → Then labels label) → ((labels : List Label) (reply : Reply) → Does labels reply → Tells labels reply)
+        → CommandDone moment left_since said may_leave seen May Next Does history old new after result → CommandDone moment left_since said may_leave seen More Then Tells history old new after result
+    command_as May More Next Then Does Tells history old new after (Ok reply) m n d h = (h.0, d h.0 reply h.1, h.2, h.3)
+    command_as May More Next Then Does Tells history old new after (Err Store) m n d h = (h.0, (λ part b. m part (h.1 part b)), h.2)
+    command_as May More Next Then Does Tells history old new after (Err (Damaged at)) m n d h = h
+    command_as May More Next Then Does Tells history old new after (Err (Full size)) m n d h = (h.0, (λ part b. m part (h.1 part b)), h.2, h.3, record { label = h.4.label; next = n h.0 h.4.label h.4.next; legal = h.4.legal; full = h.4.full })
+    command_as May More Next Then Does Tells history old new after (Err OutOfMemory) m n d h = h
 
     ask_turn : (b : Bool) (history : List Label) (line : List ℕ) (labels : List Label) (reply : Reply) → b ≡ false → LineTurn words history (command_of line) labels reply → AskTurn words b history line labels reply
     ask_turn true history line labels reply e h = absurd (cc)
@@ -115,8 +115,9 @@ module _ (words : Words) where
     pub asked_short : (line : List ℕ) (old new : S) (before after : Core) (result : Result Reply EngineFault) → is_long line ≡ false
         → LineDone words moment left_since said may_leave seen (command_of line) old new before after result → AskDone words moment left_since said may_leave seen line old new before after result
     asked_short line old new before after result short h = λ image is history stands.
-        command_as (MayAdd words history (command_of line)) (MayAsk words history line) (LineTurn words history (command_of line)) (AskTurn words (is_long line) history line) history old new after result
+        command_as (MayAdd words history (command_of line)) (MayAsk words history line) (AddsNext words history (command_of line)) (AsksNext words history line) (LineTurn words history (command_of line)) (AskTurn words (is_long line) history line) history old new after result
         (λ part m. may_short (is_long line) history line part short m)
+        (λ labels label n. (short, n))
         (λ labels reply d. ask_turn (is_long line) history line labels reply short d)
         (h image is history stands)
 
@@ -155,7 +156,7 @@ module _ (words : Words) where
     -- an Ask that is too long
     pub asked_long : (line : List ℕ) (old : S) (engine : Core) → is_long line ≡ true → AskDone words moment left_since said may_leave seen line old old engine engine (Ok TooLong)
     asked_long line old engine long = λ image is history stands.
-        done_by moment left_since said may_leave seen only_now (MayAsk words history line) (AskTurn words (is_long line) history line) old old engine engine image history [] TooLong
+        done_by moment left_since said may_leave seen only_now (MayAsk words history line) (AsksNext words history line) (AskTurn words (is_long line) history line) old old engine engine image history [] TooLong
         (stays_adds moment left_since said may_leave seen only_now old engine) is stands (long_turn (is_long line) history line long)
 
     -- an input that adds nothing
@@ -249,31 +250,34 @@ module _ (words : Words) where
           )
 
       -- a turn that tells that the journal is full
-      pub full_done : (old two new : S) (after : Core) (history : List Label) (inputs : List Input) (pieces : List Piece) (input : Input) (labels : List Label) (conn size : ℕ) (r : After)
-          → ((part : List Label) → Begins part labels → MayBegin words history input part) → taken two ≡ Some (inputs ++ input ∷ []) → said two ≡ Some pieces
+      pub full_done : (old two new : S) (after : Core) (history : List Label) (inputs : List Input) (pieces : List Piece) (conn : ℕ) (line : List ℕ) (labels : List Label) (size : ℕ) (r : After)
+          → ((part : List Label) → Begins part labels → MayBegin words history (Asks conn line) part) → taken two ≡ Some (inputs ++ Asks conn line ∷ []) → said two ≡ Some pieces
           → Leaves moment left_since old two (TurnLeft history (length inputs) pieces labels ((record { conn = conn; bytes = full_bytes size }) ∷ [])) → Stand moment left_since said may_leave seen two after (history ++ labels)
-          → IsFilled after size
+          → IsFilled (AsksNext words history line labels) after size
           → Says moment left_since said may_leave seen taken two new conn (full_bytes size) (Stops 7) r
           → TurnDone words moment left_since said may_leave seen taken old new after history inputs pieces r
-      full_done old two new after history inputs pieces input labels conn size GoesOn may took is first stand filled s = absurd (⊎_elim (λ d. cc) (λ f. ⊎_elim (λ g. cc) (λ g. cc) f) s.which)
-      full_done old two new after history inputs pieces input labels conn size Ends may took is first stand filled s = absurd (⊎_elim (λ d. cc) (λ f. ⊎_elim (λ g. cc) (λ g. cc) f) s.which)
-      full_done old two new after history inputs pieces input labels conn size (Stops k) may took is first stand filled s =
+      full_done old two new after history inputs pieces conn line labels size GoesOn may took is first stand filled s = absurd (⊎_elim (λ d. cc) (λ f. ⊎_elim (λ g. cc) (λ g. cc) f) s.which)
+      full_done old two new after history inputs pieces conn line labels size Ends may took is first stand filled s = absurd (⊎_elim (λ d. cc) (λ f. ⊎_elim (λ g. cc) (λ g. cc) f) s.which)
+      full_done old two new after history inputs pieces conn line labels size (Stops k) may took is first stand filled s =
           let status : (k ≡ 7) ⊎ ((k ≡ 6) ⊎ (k ≡ 4)) = ⊎_elim (λ d. inl (cc)) (λ f. ⊎_elim (λ g. inr (inl (cc))) (λ g. inr (inr (cc))) f) s.which in (
             inr (inr (record {
-              input = input;
+              input = Asks conn line;
               group = labels;
               line = (record { conn = conn; bytes = full_bytes size }) ∷ [];
-              turned = turned_said old two new after history inputs pieces input labels (record { conn = conn; bytes = full_bytes size }) (Stops 7) (Stops k) may took is first stand s;
-              is_full = λ one e. let same : record { conn = conn; bytes = full_bytes size } ≡ one = cc in (size, ap (λ (h : Heard). h.bytes) (sym same));
+              turned = turned_said old two new after history inputs pieces (Asks conn line) labels (record { conn = conn; bytes = full_bytes size }) (Stops 7) (Stops k) may took is first stand s;
+              is_full = λ one e. let same : record { conn = conn; bytes = full_bytes size } ≡ one = cc in (size, ap (λ (h : Heard). h.bytes) (sym same), ap (λ (h : Heard). h.conn) (sym same));
             })),
             ⊎_elim (λ seven. (λ zero. absurd (omega arith))) (λ f. ⊎_elim (λ six. (λ zero. absurd (omega arith))) (λ four. (λ zero. absurd (omega arith))) f) status,
-            (λ seven. (
-              labels,
-              size,
-              stand_said two new conn (full_bytes size) (Stops 7) (Stops k) after (history ++ labels) s stand,
-              filled,
-              (conn, say_whole two new conn (full_bytes size) (Stops 7) (Stops k) inputs input pieces s took is (ap Stops seven)),
-            )),
+            (λ seven. record {
+              conn = conn;
+              line = line;
+              group = labels;
+              size = size;
+              took = s.taken_same ∙ took;
+              stands = stand_said two new conn (full_bytes size) (Stops 7) (Stops k) after (history ++ labels) s stand;
+              filled = filled;
+              told = say_whole two new conn (full_bytes size) (Stops 7) (Stops k) inputs (Asks conn line) pieces s took is (ap Stops seven);
+            }),
             (λ not_four not_seven. ⊎_elim (λ seven. absurd (not_seven seven)) (λ f. ⊎_elim (λ six. s.quiet (ap Stops six) ∙ is) (λ four. absurd (not_four four)) f) status),
           )
 
@@ -288,9 +292,9 @@ module _ (words : Words) where
         -- the answer to an Ask
         answered_as : (two : S) (after : Core) (conn : ℕ) (line : List ℕ) (result : Result Answered EngineFault) (is : Result Answered EngineFault) → Comes old one (Asks conn line)
             → AskDone words moment left_since said may_leave seen line one two engine after (reply_of result) → result ≡ is
-            → CommandDone moment left_since said may_leave seen (MayAsk words history line) (AskTurn words (is_long line) history line) history one two after (reply_of is)
+            → CommandDone moment left_since said may_leave seen (MayAsk words history line) (AsksNext words history line) (AskTurn words (is_long line) history line) history one two after (reply_of is)
         answered_as two after conn line result is came ask e =
-            subst (λ (x : Result Answered EngineFault). CommandDone moment left_since said may_leave seen (MayAsk words history line) (AskTurn words (is_long line) history line) history one two after (reply_of x)) e
+            subst (λ (x : Result Answered EngineFault). CommandDone moment left_since said may_leave seen (MayAsk words history line) (AsksNext words history line) (AskTurn words (is_long line) history line) history one two after (reply_of x)) e
             (ask image (came.same ∙ seen_is) history (still_stands image (may_leave old) (may_leave one) engine history stands came.stop))
 
         pub asked_reply : (two new : S) (after : Core) (conn : ℕ) (line : List ℕ) (result : Result Answered EngineFault) (answered : Answered) (r : After) → Comes old one (Asks conn line)
@@ -311,7 +315,7 @@ module _ (words : Words) where
             → TurnDone words moment left_since said may_leave seen taken old new after history inputs pieces r
         asked_full two new after conn line result size r came ask e took silent says =
             let done = answered_as two after conn line result (Err (Full size)) came ask e in
-            full_done old two new after history inputs pieces (Asks conn line) done.0 conn size r
+            full_done old two new after history inputs pieces conn line done.0 size r
             done.1
             (took ∙ all_taken old one (Asks conn line) inputs came taken_is) (silent ∙ came.silent ∙ said_is)
             (begun old one two history done.0 (length inputs) pieces ((record { conn = conn; bytes = full_bytes size }) ∷ []) (come_leaves (Asks conn line) came) (came.silent ∙ said_is) done.2)

@@ -3,45 +3,45 @@ use Rattle.std.specs.Prelude.{◌≡◌, ℕ, List, [], ◌∷◌, Bool, true, f
 use Rattle.swf_cli.specs.declared.arguments.Expects.{Expects}
 use Rattle.swf_cli.specs.declared.arguments.Expects.TheVariants.{Any, Value, Other}
 use Rattle.swf_cli.specs.declared.arguments.Progress.{Progress}
+use Rattle.swf_cli.specs.declared.arguments.Setting.{Setting}
 use Rattle.swf_cli.specs.declared.words.Mode.{Mode}
 use Rattle.swf_cli.specs.declared.words.Words.{Words}
-use Rattle.swf_cli.specs.Words.{Apart, told_apart, with_value, with_other, steps_of, mode_of, both}
+use Rattle.swf_cli.specs.Words.{Apart, Settings, told_apart, with_value, with_other, set_steps, set_all, mode_of, both}
 
 -- the words to come, told apart
 abbrev pub told_behind : Expects → List (List ℕ) → Option Apart
-told_behind Any ws = told_apart false ws
-told_behind Value ws = told_apart true ws
+told_behind Any ws = told_apart None ws
+told_behind (Value o) ws = told_apart (Some o) ws
 told_behind Other ws = Some (record { values = []; others = ws })
 
 -- with what was read before
-abbrev pub steps_with : Option ℕ → List (List ℕ) → Option ℕ
-steps_with None vs = steps_of vs
-steps_with (Some n) [] = Some n
-steps_with (Some n) (v ∷ vs) = None
-
 abbrev pub mode_with : Option Mode → List (List ℕ) → Option Mode
 mode_with None ws = mode_of ws
 mode_with (Some m) [] = Some m
 mode_with (Some m) (w ∷ ws) = None
 
-abbrev pub meaning_with : Option ℕ → Option Mode → Option Apart → Option Words
-meaning_with steps mode None = None
-meaning_with steps mode (Some a) = both (steps_with steps a.values) (mode_with mode a.others)
+abbrev pub meaning_with : Option Settings → Option Mode → Option Apart → Option Words
+meaning_with s mode None = None
+meaning_with s mode (Some a) = both (set_all s a.values) (mode_with mode a.others)
+
+-- what options have set so far
+abbrev pub settings_of : Progress → Option Settings
+settings_of p = Some (set_steps p.steps)
 
 -- what is meant behind what was read, by the words to come
 abbrev pub meant : Progress → List (List ℕ) → Option Words
-meant p ws = meaning_with p.steps p.mode (told_behind p.expects ws)
+meant p ws = meaning_with (settings_of p) p.mode (told_behind p.expects ws)
 
 -- a word was taken, or no words with it have a meaning
 abbrev pub Takes : Bool → Progress → List ℕ → Progress → Type 0
 Takes true old w new = (ws : List (List ℕ)) → meant old (w ∷ ws) ≡ meant new ws
 Takes false old w new = (ws : List (List ℕ)) → meant old (w ∷ ws) ≡ None
 
--- the same of a value of `--steps`, and of a word that is left
-abbrev pub TakesValue : Bool → Progress → List ℕ → Progress → Type 0
-TakesValue true old w new = (new.expects ≡ old.expects) × ((a : Option Apart) → meaning_with old.steps old.mode (with_value w a) ≡ meaning_with new.steps new.mode a)
-TakesValue false old w new = (a : Option Apart) → meaning_with old.steps old.mode (with_value w a) ≡ None
+-- the same of a value of an option, and of a word that is left
+abbrev pub TakesValue : Bool → Progress → Setting × List ℕ → Progress → Type 0
+TakesValue true old v new = (new.expects ≡ old.expects) × ((a : Option Apart) → meaning_with (settings_of old) old.mode (with_value v a) ≡ meaning_with (settings_of new) new.mode a)
+TakesValue false old v new = (a : Option Apart) → meaning_with (settings_of old) old.mode (with_value v a) ≡ None
 
 abbrev pub TakesOther : Bool → Progress → List ℕ → Progress → Type 0
-TakesOther true old w new = (new.expects ≡ old.expects) × ((a : Option Apart) → meaning_with old.steps old.mode (with_other w a) ≡ meaning_with new.steps new.mode a)
-TakesOther false old w new = (a : Option Apart) → meaning_with old.steps old.mode (with_other w a) ≡ None
+TakesOther true old w new = (new.expects ≡ old.expects) × ((a : Option Apart) → meaning_with (settings_of old) old.mode (with_other w a) ≡ meaning_with (settings_of new) new.mode a)
+TakesOther false old w new = (a : Option Apart) → meaning_with (settings_of old) old.mode (with_other w a) ≡ None

@@ -1,5 +1,5 @@
 -- How a session ends.
-use Rattle.std.specs.Prelude.{◌≡◌, ◌⊎◌, ℕ, ◌+◌, ◌-◌, ◌^◌, List, [], ◌∷◌, ◌++◌, length, true, Option, Some}
+use Rattle.std.specs.Prelude.{◌≡◌, ◌⊎◌, ◌≤◌, ℕ, ◌+◌, ◌-◌, ◌^◌, List, [], ◌∷◌, ◌++◌, length, true, Option, Some}
 use Rattle.swf_store.specs.declared.image.Image.{Image}
 use Rattle.swf_store.specs.declared.said.Piece.{Piece}
 use Rattle.swf_meaning.specs.declared.label.Label.{Label}
@@ -10,13 +10,13 @@ use Rattle.swf_engine.specs.declared.fault.EngineFault.{EngineFault}
 use Rattle.swf_engine.specs.declared.fault.EngineFault.TheVariants.{Store, Damaged, Full, OutOfMemory}
 use Rattle.swf_store.specs.Said.{and_piece}
 use Rattle.swf_store.specs.Stops.{Leaves}
-use Rattle.std.specs.Option.{ForSome}
 use Rattle.swf_cli.specs.Statuses.{IsBlamed}
 use Rattle.swf_protocol.specs.Spoken.{damaged_bytes}
 use Rattle.swf_cli.specs.Turns.{Turn, AreTurns, labels_of, inputs_of, ends}
 use Rattle.swf_cli.specs.Follows.{conn_of, heard}
 use Rattle.swf_cli.specs.Moments.{IsMoment}
-use Rattle.swf_cli.specs.Steps.{piece_of, Stand, IsTold}
+use Rattle.swf_cli.specs.Steps.{piece_of, Stand, IsTold, Says}
+use Rattle.swf_cli.specs.declared.turn.After.TheVariants.{Stops}
 use Rattle.swf_cli.specs.declared.words.Words.{Words}
 
 -- the last turn ends the input
@@ -44,12 +44,13 @@ pub record Finished (words : Words) (before : List Label) (first : List Input) (
   pub told : said_now ≡ Some (said ++ pieces_of (length first) turns)
   pub stands : (image : Image) → may_leave image → IsHistory image (before ++ labels_of turns)
 
--- Where the store failed or memory was missing, whole replies were said and no part of another, and what else was taken is
--- behind their inputs.
+-- Where the store failed or memory was missing, whole replies were said and no part of another, and at most one input more was
+-- taken.
 pub record IsShort (words : Words) (before : List Label) (first : List Input) (said : List Piece) (taken_now : Option (List Input)) (said_now : Option (List Piece)) : Type 0 where
   pub turns : List Turn
   pub allowed : AreTurns words before turns
   pub more : List Input
+  pub most : length more ≤ 1
   pub taken : taken_now ≡ Some ((first ++ inputs_of turns) ++ more)
   pub told : said_now ≡ Some (said ++ pieces_of (length first) turns)
 
@@ -65,22 +66,22 @@ ClosesWith (Damaged at) status host host_now store store_now = ((status ≡ 5) �
 ClosesWith (Full size) status host host_now store store_now = ⊥
 ClosesWith OutOfMemory status host host_now store store_now = (status ≡ 6) × (host_now ≡ host) × (store_now ≡ store)
 
--- only damage is told
-abbrev pub Tells : {S : Type 0} → EngineFault → S → S → ℕ → Option (List Input) → Option (List Input) → Option (List Piece) → Option (List Piece) → Type 0
-Tells Store old new status taken taken_now said said_now = new ≡ old
-Tells (Damaged at) old new status taken taken_now said said_now =
-    ForSome taken (λ inputs. ForSome said (λ pieces. status ≡ 5 → TellsDamage at inputs pieces taken_now said_now))
-Tells (Full size) old new status taken taken_now said said_now = ⊥
-Tells OutOfMemory old new status taken taken_now said said_now = new ≡ old
+module _ {S : Type 0} (moment : S → ℕ) (left_since : S → ℕ → Image → List Piece → Type 0) (said : S → Option (List Piece)) (may_leave : S → Image → Type 0) (seen : S → Option Image) (taken : S → Option (List Input)) where
+  -- only damage is told, to connection 0
+  abbrev pub Tells : EngineFault → S → S → ℕ → Type 0
+  Tells Store old new status = new ≡ old
+  Tells (Damaged at) old new status = Says moment left_since said may_leave seen taken old new 0 (damaged_bytes at) (Stops 5) (Stops status)
+  Tells (Full size) old new status = ⊥
+  Tells OutOfMemory old new status = new ≡ old
 
 module _ (words : Words) {S : Type 0} (moment : S → ℕ) (left_since : S → ℕ → Image → List Piece → Type 0) (said : S → Option (List Piece)) (may_leave : S → Image → Type 0) (seen : S → Option Image) (taken : S → Option (List Input)) where
-  -- Where the journal is full: turns were taken and answered, and behind their labels and perhaps some steps more engine and store
-  -- stand for a history whose next label is legal and has no room. That was said whole, last.
+  -- Where the journal is full: turns were taken and answered, and one command more was asked, whose next label is legal and has no
+  -- room. That was said whole, last, to who asked.
   pub record TellsFull (new : S) (before : List Label) (first : List Input) (pieces : List Piece) : Type 0 where
     pub engine : Core
     pub turns : List Turn
     pub allowed : AreTurns words before turns
-    pub told : IsTold moment left_since said may_leave seen taken new engine (before ++ labels_of turns) (first ++ inputs_of turns) (pieces ++ pieces_of (length first) turns)
+    pub told : IsTold words moment left_since said may_leave seen taken new engine (before ++ labels_of turns) (first ++ inputs_of turns) (pieces ++ pieces_of (length first) turns)
 
   -- What turns make of a store that stands for a history since some state. `all` are the inputs in the end.
   pub record Ran (start new : S) (before : List Label) (first : List Input) (pieces : List Piece) (status : ℕ) : Type 0 where

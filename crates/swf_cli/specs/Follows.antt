@@ -1,5 +1,5 @@
 -- What inputs and replies are to a history: turns, of which the last may have begun.
-use Rattle.std.specs.Prelude.{◌≡◌, ◌⊎◌, ℕ, List, [], ◌∷◌, ◌++◌, true, false, Option, Some, None, Result, Ok, unwrap_or, flat_map}
+use Rattle.std.specs.Prelude.{◌≡◌, ◌⊎◌, ◌≤◌, ℕ, ◌+◌, List, [], ◌∷◌, ◌++◌, length, true, false, Option, Some, None, Result, Ok, unwrap_or, flat_map}
 use Rattle.swf_meaning.specs.declared.label.Label.{Label}
 use Rattle.swf_runs.specs.Runs.{world_at}
 use Rattle.swf_host.specs.declared.host.Input.{Input}
@@ -48,6 +48,12 @@ module _ (words : Words) where
   MayAdd before (Ok (Settle limit)) part = AreSteps part (unwrap_or limit words.steps)
   MayAdd before command part = part ≡ []
 
+  -- the label that a command adds next, behind these that it has added
+  abbrev pub AddsNext : List Label → Result Command CommandFault → List Label → Label → Type 0
+  AddsNext before (Ok (Do o)) part label = (part ≡ []) × (label ≡ label_of (world_at before) o)
+  AddsNext before (Ok (Settle limit)) part label = AreSteps (part ++ label ∷ []) (unwrap_or limit words.steps)
+  AddsNext before command part label = ⊥
+
   -- an input has added these labels so far
   abbrev pub MayBegin : List Label → Input → List Label → Type 0
   MayBegin before (Asks conn line) part = (is_long line ≡ true → part ≡ []) × (is_long line ≡ false → MayAdd before (command_of line) part)
@@ -59,8 +65,8 @@ module _ (words : Words) where
   IsGoing before ts (i ∷ []) part = AreOpen ts × MayBegin (before ++ labels_of ts) i part
   IsGoing before ts (i ∷ j ∷ is) part = ⊥
 
-  -- The inputs fall into turns, each with the labels that it adds, behind the history before them. The replies are those of a
-  -- beginning of the turns. Of the last turn a part of the labels may be there.
+  -- The inputs fall into turns, each with the labels that it adds, behind the history before them. The replies are those of all
+  -- turns but perhaps the last, of which a part of the labels may be there.
   pub record Follows (before : List Label) (inputs : List Input) (replies : List Heard) (history : List Label) : Type 0 where
     pub answered : List Turn
     -- turns whose labels are whole, and whose replies are not
@@ -72,3 +78,5 @@ module _ (words : Words) where
     pub inputs_are : inputs ≡ inputs_of (answered ++ unsaid) ++ «open»
     pub labels_are : history ≡ before ++ (labels_of (answered ++ unsaid) ++ part)
     pub replies_are : replies ≡ replies_of answered
+    -- of all that was taken no more than the last is not answered
+    pub one : length unsaid + length «open» ≤ 1

@@ -6,6 +6,7 @@ pub mod Follows
 pub mod Moments
 pub mod Steps
 pub mod Finish
+pub mod Heard
 pub mod Shown
 pub mod Running
 pub mod Sorts

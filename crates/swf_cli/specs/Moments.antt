@@ -28,10 +28,12 @@ pub record IsCut (bytes line : List ℕ) : Type 0 where
   pub joined : line ≡ bytes ++ rest
   pub some : rest ≢ []
 
--- the last piece: a part of the next reply, or the line that tells of a full journal, whole or in part
-abbrev pub IsLastPiece : List Turn → Piece → Type 0
-IsLastPiece [] p = (size : ℕ) × (rest : List ℕ) × (full_bytes size ≡ p.bytes ++ rest)
-IsLastPiece (t ∷ ts) p = (reply : Reply) × (t.reply ≡ Some reply) × (p.conn ≡ conn_of t.input) × IsCut p.bytes (spoken reply)
+-- the last piece, behind turns and inputs that are not answered: a part of the next reply, or the line that tells of a full journal,
+-- whole or in part, to who asked
+abbrev pub IsLastPiece : List Turn → List Input → Piece → Type 0
+IsLastPiece [] [] p = ⊥
+IsLastPiece [] (i ∷ is) p = (p.conn ≡ conn_of i) × (size : ℕ) × (rest : List ℕ) × (full_bytes size ≡ p.bytes ++ rest)
+IsLastPiece (t ∷ ts) is p = (reply : Reply) × (t.reply ≡ Some reply) × (p.conn ≡ conn_of t.input) × IsCut p.bytes (spoken reply)
 
 -- The image stands for a history that begins with the one before, and the inputs that were taken so far and the whole replies
 -- among the pieces follow it. `all` are the inputs that were taken in the end.
@@ -45,7 +47,7 @@ pub record IsMoment (words : Words) (before : List Label) (first : List Input) (
   pub whole : List Piece
   pub follows : Follows words before taken (map heard_of whole) history
   pub prompt : ArePrompt (length first) whole
-  pub pieces_are : (pieces ≡ said ++ whole) ⊎ ((last : Piece) × (pieces ≡ said ++ (whole ++ last ∷ [])) × IsLastPiece follows.unsaid last)
+  pub pieces_are : (pieces ≡ said ++ whole) ⊎ ((last : Piece) × (pieces ≡ said ++ (whole ++ last ∷ [])) × IsLastPiece follows.unsaid follows.«open» last)
 
 module _ {S : Type 0} (moment : S → ℕ) (left_since : S → ℕ → Image → List Piece → Type 0) (told : S → Option (List Piece)) (may_leave : S → Image → Type 0) where
   -- Until the opening's first sync has succeeded a stop leaves what it might have left at first, and nothing was said. From then

@@ -1,17 +1,22 @@
 -- What the program does, by what its words mean.
-use Rattle.std.specs.Prelude.{◌≡◌, ◌≢◌, ◌⊎◌, ℕ, List, ◌∷◌, [], ◌++◌, length, Option, Some}
+use Rattle.std.specs.Prelude.{◌≡◌, ◌≢◌, ◌⊎◌, ℕ, List, length, Option, Some}
 use Rattle.std.specs.Option.{ForSome}
 use Rattle.swf_store.specs.declared.image.Image.{Image}
 use Rattle.swf_store.specs.declared.said.Piece.{Piece}
+use Rattle.swf_store.specs.Disk.{NothingNew}
+use Rattle.swf_store.specs.Said.{SaidPart}
+use Rattle.swf_store.specs.Stops.{Leaves}
 use Rattle.swf_meaning.specs.declared.label.Label.{Label}
 use Rattle.swf_host.specs.declared.host.Input.{Input}
 use Rattle.swf_engine.specs.Damage.{IsDamaged}
 use Rattle.swf_engine.specs.History.{IsHistory}
+use Rattle.swf_protocol.specs.Spoken.{damaged_bytes}
 use Rattle.swf_check.specs.Checking.{CheckRun}
 use Rattle.swf_cli.specs.declared.words.Mode.{Mode}
 use Rattle.swf_cli.specs.declared.words.Mode.TheVariants.{Check, Session, Show}
 use Rattle.swf_cli.specs.declared.words.Words.{Words}
 use Rattle.swf_cli.specs.Finish.{Finished, IsShort, TellsFull, TellsDamage}
+use Rattle.swf_cli.specs.Heard.{TurnsTell}
 use Rattle.swf_cli.specs.Moments.{IsMoment, Runs}
 use Rattle.swf_cli.specs.Shown.{IsShowing, IsShown, IsPartShown}
 
@@ -20,11 +25,20 @@ module _ {S : Type 0} (moment : S → ℕ) (left_since : S → ℕ → Image →
   abbrev pub Told : S → (Image → List Input → List Piece → List Label → Type 0) → Type 0
   Told old P = ForSome (seen old) (λ image. ForSome (taken old) (λ inputs. ForSome (said old) (λ pieces. (before : List Label) → IsHistory image before → P image inputs pieces before)))
 
+  -- The store stays as it was, and nothing is said but the line that tells of damage: whole at 5, in part at 4, and else none of it.
+  pub record KeepsDamaged (image : Image) (old new : S) (status : ℕ) : Type 0 where
+    pub same : seen new ≡ seen old
+    pub stop : NothingNew (may_leave old) (may_leave new)
+    pub silent : status ≢ 5 → status ≢ 4 → said new ≡ said old
+    pub moments : ForSome (taken old) (λ inputs. ForSome (said old) (λ pieces.
+        (at : ℕ) × IsDamaged image at × Leaves moment left_since old new (λ left now. may_leave old left × SaidPart 0 (damaged_bytes at) (length inputs) pieces now)))
+
   -- 5 comes only where the journal is damaged, which is told; then no input is taken. One that stands for a history is not.
   pub record TellsOfDamage (old new : S) (status : ℕ) : Type 0 where
     pub damaged : ForSome (seen old) (λ image. ForSome (taken old) (λ inputs. ForSome (said old) (λ pieces.
         status ≡ 5 → (at : ℕ) × IsDamaged image at × TellsDamage at inputs pieces (taken new) (said new))))
     pub refused : ForSome (seen old) (λ image. (at : ℕ) → IsDamaged image at → (taken new ≡ taken old) × (status ≢ 0) × (status ≢ 7))
+    pub kept : ForSome (seen old) (λ image. (at : ℕ) → IsDamaged image at → KeepsDamaged image old new status)
     pub whole : ForSome (seen old) (λ image. (before : List Label) → IsHistory image before → status ≢ 5)
 
   pub record SessionRun (words : Words) (old new : S) (status : ℕ) : Type 0 where
@@ -38,6 +52,10 @@ module _ {S : Type 0} (moment : S → ℕ) (left_since : S → ℕ → Image →
     -- At 3 and 6 whole replies were said, and no part of another.
     pub short : Told old (λ image inputs pieces before. (status ≡ 3) ⊎ (status ≡ 6) → IsShort words before inputs pieces (taken new) (said new))
     pub damage : TellsOfDamage old new status
+    -- Whatever the store tells, at 0 each input was replied to, and at 5 damage was told: to who asked last, or to connection 0 where
+    -- no engine was opened.
+    pub heard : ForSome (taken old) (λ first. ForSome (said old) (λ pieces.
+        TurnsTell moment left_since said may_leave seen taken new first pieces status ⊎ ((at : ℕ) × TellsDamage at first pieces (taken new) (said new))))
 
   pub record ShowRun (old new : S) (status : ℕ) : Type 0 where
     -- A stop at any moment leaves a journal of the same history, and a beginning of its lines was said.

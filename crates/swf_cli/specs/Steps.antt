@@ -8,6 +8,7 @@ use Rattle.swf_store.specs.Said.{SaidPart, and_piece}
 use Rattle.swf_store.specs.Stops.{Leaves, LeavesOnly}
 use Rattle.swf_meaning.specs.declared.label.Label.{Label}
 use Rattle.swf_host.specs.declared.host.Input.{Input}
+use Rattle.swf_host.specs.declared.host.Input.TheVariants.{Ask as Asks, Closed}
 use Rattle.swf_engine.specs.declared.fault.EngineFault.{EngineFault}
 use Rattle.swf_engine.specs.declared.fault.EngineFault.TheVariants.{Store, Damaged, Full, OutOfMemory}
 use Rattle.swf_engine.specs.Core.{Core, StandFor}
@@ -19,7 +20,7 @@ use Rattle.swf_world.specs.Refusals.{refusal}
 use Rattle.swf_world.specs.declared.query.QueryFault.{QueryFault}
 use Rattle.swf_world.specs.declared.query.QueryFault.TheVariants.{UnknownInstance, OutOfMemory as NoMemory}
 use Rattle.swf_protocol.specs.Line.{command_of}
-use Rattle.swf_protocol.specs.Spoken.{full_bytes}
+use Rattle.swf_protocol.specs.Spoken.{spoken, damaged_bytes, full_bytes}
 use Rattle.swf_protocol.specs.declared.command.Command.{Command}
 use Rattle.swf_protocol.specs.declared.command.CommandFault.{CommandFault}
 use Rattle.swf_protocol.specs.declared.reply.Reply.{Reply}
@@ -28,12 +29,13 @@ use Rattle.swf_cli.specs.declared.answer.Answered.{Answered}
 use Rattle.swf_cli.specs.declared.turn.After.{After}
 use Rattle.swf_cli.specs.declared.turn.After.TheVariants.{GoesOn, Ends, Stops}
 use Rattle.swf_cli.specs.Turns.{Turn, LineTurn, AskTurn, IsAnswered, is_long, ends}
-use Rattle.swf_cli.specs.Follows.{Heard, MayAdd, MayBegin, conn_of, heard}
+use Rattle.swf_cli.specs.Follows.{Heard, AddsNext, MayAdd, MayBegin, conn_of, heard}
 use Rattle.swf_cli.specs.declared.words.Words.{Words}
 
--- a label that would be taken, and whose frame would end past the most bytes of a journal
-pub record IsFilled (engine : Core) (size : ℕ) : Type 0 where
+-- a label that comes next and would be taken, and whose frame would end past the most bytes of a journal
+pub record IsFilled (Next : Label → Type 0) (engine : Core) (size : ℕ) : Type 0 where
   pub label : Label
+  pub next : Next label
   pub legal : refusal engine.world label ≡ None
   pub full : IsFull engine (label ∷ []) size
 
@@ -74,6 +76,10 @@ IsBreak (Err OutOfMemory) = ⊥
 -- a line has added these labels so far
 abbrev pub MayAsk : Words → List Label → List ℕ → List Label → Type 0
 MayAsk words history line part = (is_long line ≡ true → part ≡ []) × (is_long line ≡ false → MayAdd words history (command_of line) part)
+
+-- the label that a line adds next, behind these that it has added
+abbrev pub AsksNext : Words → List Label → List ℕ → List Label → Label → Type 0
+AsksNext words history line part label = (is_long line ≡ false) × AddsNext words history (command_of line) part label
 
 -- whether what follows a turn is the end of the input
 abbrev pub follows_end : Bool → After
@@ -119,13 +125,13 @@ module _ {S : Type 0} (moment : S → ℕ) (left_since : S → ℕ → Image →
   StaysSound host engine (Stops s) = s ≢ 5
 
   -- a command was done, which added labels and owes the reply; or the store failed, or the journal is full, behind some labels
-  abbrev pub CommandDone : (List Label → Type 0) → (List Label → Reply → Type 0) → List Label → S → S → Core → Result Reply EngineFault → Type 0
-  CommandDone May Does history old new after (Ok reply) = (labels : List Label) × Does labels reply × Passes old new history labels × Stand new after (history ++ labels)
-  CommandDone May Does history old new after (Err Store) = (labels : List Label) × ((part : List Label) → Begins part labels → May part) × Passes old new history labels
-  CommandDone May Does history old new after (Err (Damaged at)) = ⊥
-  CommandDone May Does history old new after (Err (Full size)) =
-      (labels : List Label) × ((part : List Label) → Begins part labels → May part) × Passes old new history labels × Stand new after (history ++ labels) × IsFilled after size
-  CommandDone May Does history old new after (Err OutOfMemory) = ⊥
+  abbrev pub CommandDone : (List Label → Type 0) → (List Label → Label → Type 0) → (List Label → Reply → Type 0) → List Label → S → S → Core → Result Reply EngineFault → Type 0
+  CommandDone May Next Does history old new after (Ok reply) = (labels : List Label) × Does labels reply × Passes old new history labels × Stand new after (history ++ labels)
+  CommandDone May Next Does history old new after (Err Store) = (labels : List Label) × ((part : List Label) → Begins part labels → May part) × Passes old new history labels
+  CommandDone May Next Does history old new after (Err (Damaged at)) = ⊥
+  CommandDone May Next Does history old new after (Err (Full size)) =
+      (labels : List Label) × ((part : List Label) → Begins part labels → May part) × Passes old new history labels × Stand new after (history ++ labels) × IsFilled (Next labels) after size
+  CommandDone May Next Does history old new after (Err OutOfMemory) = ⊥
 
   module _ (taken : S → Option (List Input)) where
     -- bytes were said to a connection, or they are not made for want of memory, or the host failed
@@ -139,28 +145,44 @@ module _ {S : Type 0} (moment : S → ℕ) (left_since : S → ℕ → Image →
       pub seen_same : seen new ≡ seen old
       pub taken_same : taken new ≡ taken old
 
+    -- Whatever the store tells: an input was taken, and one reply was said to who asked.
+    pub record IsReplied (new : S) (inputs : List Input) (pieces : List Piece) : Type 0 where
+      pub input : Input
+      pub reply : Reply
+      pub took : taken new ≡ Some (inputs ++ input ∷ [])
+      pub told : said new ≡ Some (and_piece (conn_of input) (spoken reply) (length inputs + 1) pieces)
+
+    -- a line was asked, and to who asked it damage was told
+    pub record IsDamageTold (new : S) (inputs : List Input) (pieces : List Piece) : Type 0 where
+      pub conn : ℕ
+      pub line : List ℕ
+      pub at : ℕ
+      pub took : taken new ≡ Some (inputs ++ Asks conn line ∷ [])
+      pub told : said new ≡ Some (and_piece conn (damaged_bytes at) (length inputs + 1) pieces)
+
+    -- What a turn tells: one that goes on a reply, the last one a reply, or nothing where no input comes any more, and one that stops
+    -- with 5 damage.
+    abbrev pub TurnTells : S → List Input → List Piece → After → Type 0
+    TurnTells new inputs pieces GoesOn = IsReplied new inputs pieces
+    TurnTells new inputs pieces Ends = ((taken new ≡ Some (inputs ++ Closed ∷ [])) × (said new ≡ Some pieces)) ⊎ IsReplied new inputs pieces
+    TurnTells new inputs pieces (Stops s) = s ≡ 5 → IsDamageTold new inputs pieces
+
     -- no input was taken
     pub record Nothing (old new : S) (history : List Label) (inputs : List Input) (pieces : List Piece) : Type 0 where
       pub took : taken new ≡ Some inputs
       pub leaves : Leaves moment left_since old new (λ image now. IsHistory image history × (now ≡ pieces))
-
-    -- What is left where the journal is full, behind this history: engine and store stand for it and some labels more, the next
-    -- frame does not fit, and that was said.
-    abbrev pub IsTold : S → Core → List Label → List Input → List Piece → Type 0
-    IsTold new after history inputs pieces = (group : List Label) × (size : ℕ) × Stand new after (history ++ group) × IsFilled after size
-        × ((conn : ℕ) × (said new ≡ Some (and_piece conn (full_bytes size) (length inputs + 1) pieces)))
 
 -- by the words of the program
 module _ (words : Words) {S : Type 0} (moment : S → ℕ) (left_since : S → ℕ → Image → List Piece → Type 0) (said : S → Option (List Piece)) (may_leave : S → Image → Type 0) (seen : S → Option Image) where
   -- where engine and store stood for a history before it, a line was answered so
   abbrev pub LineDone : Result Command CommandFault → S → S → Core → Core → Result Reply EngineFault → Type 0
   LineDone command old new before after result = ForSome (seen old) (λ image. (history : List Label) → StandFor image (may_leave old) before history
-      → CommandDone moment left_since said may_leave seen (MayAdd words history command) (LineTurn words history command) history old new after result)
+      → CommandDone moment left_since said may_leave seen (MayAdd words history command) (AddsNext words history command) (LineTurn words history command) history old new after result)
 
   -- the same of an Ask, which may be too long
   abbrev pub AskDone : List ℕ → S → S → Core → Core → Result Reply EngineFault → Type 0
   AskDone line old new before after result = ForSome (seen old) (λ image. (history : List Label) → StandFor image (may_leave old) before history
-      → CommandDone moment left_since said may_leave seen (MayAsk words history line) (AskTurn words (is_long line) history line) history old new after result)
+      → CommandDone moment left_since said may_leave seen (MayAsk words history line) (AsksNext words history line) (AskTurn words (is_long line) history line) history old new after result)
 
   module _ (taken : S → Option (List Input)) where
     -- a turn has taken this input; while it added the group nothing was said, and then a part of these bytes, if there are some
@@ -190,11 +212,23 @@ module _ (words : Words) {S : Type 0} (moment : S → ℕ) (left_since : S → �
       pub group : List Label
       pub line : List Heard
       pub turned : Turned old new history inputs pieces input group line
-      pub is_full : (one : Heard) → line ≡ one ∷ [] → (size : ℕ) × (one.bytes ≡ full_bytes size)
+      pub is_full : (one : Heard) → line ≡ one ∷ [] → (size : ℕ) × (one.bytes ≡ full_bytes size) × (one.conn ≡ conn_of input)
+
+    -- What is left where the journal is full, behind this history: a line was asked which has added some labels, engine and store
+    -- stand for them, and its next label does not fit. That was said to who asked.
+    pub record IsTold (new : S) (after : Core) (history : List Label) (inputs : List Input) (pieces : List Piece) : Type 0 where
+      pub conn : ℕ
+      pub line : List ℕ
+      pub group : List Label
+      pub size : ℕ
+      pub took : taken new ≡ Some (inputs ++ Asks conn line ∷ [])
+      pub stands : Stand moment left_since said may_leave seen new after (history ++ group)
+      pub filled : IsFilled (AsksNext words history line group) after size
+      pub told : said new ≡ Some (and_piece conn (full_bytes size) (length inputs + 1) pieces)
 
     abbrev pub TurnDone : S → S → Core → List Label → List Input → List Piece → After → Type 0
     TurnDone old new after history inputs pieces GoesOn = Whole old new after history inputs pieces false
     TurnDone old new after history inputs pieces Ends = Whole old new after history inputs pieces true
     TurnDone old new after history inputs pieces (Stops s) =
         (Nothing moment left_since said may_leave seen taken old new history inputs pieces ⊎ Unsaid old new history inputs pieces ⊎ Broken old new history inputs pieces)
-        × (s ≢ 0) × (s ≡ 7 → IsTold moment left_since said may_leave seen taken new after history inputs pieces) × (s ≢ 4 → s ≢ 7 → said new ≡ Some pieces)
+        × (s ≢ 0) × (s ≡ 7 → IsTold new after history inputs pieces) × (s ≢ 4 → s ≢ 7 → said new ≡ Some pieces)

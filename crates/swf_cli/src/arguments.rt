@@ -1,7 +1,7 @@
 // Reading the words of the command line.
 ghost use Rattle.std.specs.Prelude.{◌≡◌, [], Ok, option_map};
 ghost use Rattle.swf_text.specs.Same.{same};
-ghost use Rattle.swf_cli.specs.Words.{texts, parts, value_in, is_dashed, mode_named, words_of};
+ghost use Rattle.swf_cli.specs.Words.{texts, parts, option_named, value_in, is_dashed, mode_named, words_of};
 ghost use Rattle.swf_cli.specs.Arguments.{meant, Takes, TakesValue, TakesOther};
 
 use crate::words::{Mode, Words};
@@ -11,13 +11,21 @@ use swf_protocol::budget_of;
 /// How many steps a settling takes at most where no word says it.
 const STEPS: u32 = 1000;
 
+/// An option.
+#[derive(Clone, Copy)]
+enum Setting {
+    Steps,
+    Calls,
+    Workers,
+}
+
 /// What the next word may be.
 #[derive(Clone, Copy)]
 enum Expects {
-    /// An option, its end, or another word.
+    /// An option, the end of the options, or another word.
     Any,
     /// The value of the option before.
-    Value,
+    Value(Setting),
     /// Another word, since the options have ended.
     Other,
 }
@@ -43,14 +51,28 @@ fn parts(word: &str) -> Option<(&str, &str)>
     word.split_once('=')
 }
 
-// The value in a word that is `--steps=` and a value.
-fn value_in(word: &str) -> Option<&str>
-    ensures { option_map (λ v. v.now) result ≡ value_in word.now }
+// The option of a name.
+fn option_named(word: &str) -> Option<Setting>
+    ensures { result ≡ option_named word.now }
 {
-    match parts(word) {
-        Some((name, value)) if is(name, "--steps") => Some(value),
-        _ => None,
+    if is(word, "--steps") {
+        Some(Setting::Steps)
+    } else if is(word, "--calls") {
+        Some(Setting::Calls)
+    } else if is(word, "--workers") {
+        Some(Setting::Workers)
+    } else {
+        None
     }
+}
+
+// The option and the value in a word that is an option's name, `=` and a value.
+fn value_in(word: &str) -> Option<(Setting, &str)>
+    ensures { option_map (λ p. (p.0, p.1.now)) result ≡ value_in word.now }
+{
+    let (name, value) = parts(word)?;
+    let setting = option_named(name)?;
+    Some((setting, value))
 }
 
 fn is_dashed(word: &str) -> bool
@@ -74,9 +96,21 @@ fn mode_named(word: &str) -> Option<Mode>
     }
 }
 
-// Takes a value of `--steps`, which stands at most once.
-fn take_value(progress: &mut Progress, word: &str) -> bool
-    ensures { TakesValue result progress.old word.now progress.new }
+// Takes a value of an option, which stands at most once. The value has the option's form. `--calls` and `--workers` are known,
+// and no value of them is taken yet.
+fn take_value(progress: &mut Progress, setting: Setting, word: &str) -> bool
+    ensures { TakesValue result progress.old (setting, word.now) progress.new }
+{
+    match setting {
+        Setting::Steps => take_steps(progress, word),
+        Setting::Calls => false,
+        Setting::Workers => false,
+    }
+}
+
+// Takes a value of `--steps`: a number from 1 to 1,000,000.
+fn take_steps(progress: &mut Progress, word: &str) -> bool
+    ensures { TakesValue result progress.old (Setting.Steps, word.now) progress.new }
 {
     if progress.steps.is_some() {
         return false;
@@ -111,9 +145,8 @@ fn take_any(progress: &mut Progress, word: &str) -> bool
     requires { progress.old.expects ≡ Expects.Any }
     ensures { Takes result progress.old word.now progress.new }
 {
-    let named = is(word, "--steps");
-    if named {
-        progress.expects = Expects::Value;
+    if let Some(setting) = option_named(word) {
+        progress.expects = Expects::Value(setting);
         return true;
     }
     let ends = is(word, "--");
@@ -121,8 +154,8 @@ fn take_any(progress: &mut Progress, word: &str) -> bool
         progress.expects = Expects::Other;
         return true;
     }
-    if let Some(value) = value_in(word) {
-        return take_value(progress, value);
+    if let Some((setting, value)) = value_in(word) {
+        return take_value(progress, setting, value);
     }
     let dashed = is_dashed(word);
     if dashed {
@@ -137,9 +170,9 @@ fn take_word(progress: &mut Progress, word: &str) -> bool
 {
     match progress.expects {
         Expects::Any => take_any(progress, word),
-        Expects::Value => {
+        Expects::Value(setting) => {
             progress.expects = Expects::Any;
-            take_value(progress, word)
+            take_value(progress, setting, word)
         }
         Expects::Other => take_other(progress, word),
     }
@@ -153,7 +186,7 @@ fn meaning(progress: &Progress) -> Option<Words>
         return None;
     };
     match progress.expects {
-        Expects::Value => None,
+        Expects::Value(_) => None,
         Expects::Any | Expects::Other => Some(Words {
             steps: progress.steps.unwrap_or(STEPS),
             mode,

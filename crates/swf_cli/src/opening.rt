@@ -10,7 +10,7 @@ use swf_host::Host;
 /// The status where no engine could be opened.
 pub fn not_opened<H: Host>(alloc: Global, host: &mut H, fault: EngineFault) -> u8
     requires { (size : ℕ) → fault ≡ EngineFault.Full size → ⊥ }
-    ensures tells { Tells fault host.old host.new result (H.taken host.old) (H.taken host.new) (H.said host.old) (H.said host.new) }
+    ensures tells { Tells H.moment H.left_since H.said H.may_leave H.seen H.taken fault host.old host.new result }
     ensures taken { H.taken host.new ≡ H.taken host.old }
     ensures closes { ClosesWith fault result (H.host_faults host.old) (H.host_faults host.new) (H.store_faults host.old) (H.store_faults host.new) }
 {

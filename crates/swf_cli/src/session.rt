@@ -1,7 +1,9 @@
 // The session: an engine is opened, and then one turn comes after another.
 ghost use Rattle.std.specs.Prelude.{◌≡◌, ◌≢◌, ◌≤◌, ℕ};
+ghost use Rattle.std.specs.Option.{ForSome};
 ghost use Rattle.swf_engine.specs.Core.{IsEngineOf};
 ghost use Rattle.swf_cli.specs.Finish.{RunsOn};
+ghost use Rattle.swf_cli.specs.Heard.{TurnsTell};
 ghost use Rattle.swf_cli.specs.Running.{SessionRun};
 ghost use Rattle.swf_cli.specs.Statuses.{IsStatus, IsBlamed};
 ghost use Rattle.swf_cli.specs.Steps.{IsSound};
@@ -18,6 +20,7 @@ fn take_turns<H: Host>(alloc: Global, words: &Words, host: &mut H, engine: &mut 
     requires place { IsEngineOf (H.seen host.old) engine.old }
     requires words { words.now.steps ≤ 1000000 }
     ensures ran { RunsOn words.now H.moment H.left_since H.said H.may_leave H.seen H.taken host.old host.new engine.old result }
+    ensures tells { ForSome (H.taken host.old) (λ first. ForSome (H.said host.old) (λ pieces. TurnsTell H.moment H.left_since H.said H.may_leave H.seen H.taken host.new first pieces result)) }
     ensures sound { IsSound H.moment H.left_since H.said H.may_leave H.seen host.old engine.old → result ≢ 5 }
     ensures blamed { IsBlamed result (H.host_faults host.old) (H.host_faults host.new) (H.store_faults host.old) (H.store_faults host.new) }
     ensures which { IsStatus Mode.Session result }

@@ -7,9 +7,8 @@ ghost use Rattle.swf_engine.specs.Core.{IsEngineOf, StandFor};
 ghost use Rattle.swf_protocol.specs.Line.{command_of, is_quit};
 ghost use Rattle.swf_protocol.specs.Sayable.{IsSayable};
 ghost use Rattle.swf_protocol.specs.Spoken.{spoken, damaged_bytes, full_bytes};
-ghost use Rattle.swf_store.specs.Said.{and_piece};
 ghost use Rattle.swf_cli.specs.Statuses.{IsBlamed};
-ghost use Rattle.swf_cli.specs.Steps.{AskDone, IsBreak, IsSound, IsStop, Says, StaysSound, TurnDone, reply_of, follows_end, status_of};
+ghost use Rattle.swf_cli.specs.Steps.{AskDone, IsBreak, IsSound, IsStop, Says, StaysSound, TurnDone, TurnTells, reply_of, follows_end, status_of};
 ghost use Rattle.swf_cli.specs.Turns.{is_long};
 
 use crate::answer::{Answered, answer_line};
@@ -134,9 +133,22 @@ fn say_last<H: Host>(host: &mut H, conn: u64, line: &[u8]) -> After
     }
 }
 
+// Says a line behind which the program stops, since the journal is damaged, and answers the status.
+fn say_damaged<H: Host>(host: &mut H, conn: u64, line: &[u8]) -> u8
+    ensures says { Says H.moment H.left_since H.said H.may_leave H.seen H.taken host.old host.new conn line.now (After.Stops 5) (After.Stops result) }
+    ensures taken { H.taken host.new ≡ H.taken host.old }
+    ensures blamed { IsBlamed result (H.host_faults host.old) (H.host_faults host.new) (H.store_faults host.old) (H.store_faults host.new) }
+    ensures which { (result ≡ 5) ⊎ (result ≡ 6) ⊎ (result ≡ 4) }
+{
+    match host.say(conn, line) {
+        Ok(()) => DAMAGED,
+        Err(_) => HOST_FAULT,
+    }
+}
+
 /// Says to a connection where the journal is damaged, and answers the status.
 pub fn say_damage<H: Host>(alloc: Global, host: &mut H, conn: u64, at: u64) -> u8
-    ensures told { ForSome (H.taken host.old) (λ inputs. ForSome (H.said host.old) (λ pieces. result ≡ 5 → H.said host.new ≡ Some (and_piece conn (damaged_bytes at) (length inputs) pieces))) }
+    ensures says { Says H.moment H.left_since H.said H.may_leave H.seen H.taken host.old host.new conn (damaged_bytes at) (After.Stops 5) (After.Stops result) }
     ensures taken { H.taken host.new ≡ H.taken host.old }
     ensures blamed { IsBlamed result (H.host_faults host.old) (H.host_faults host.new) (H.store_faults host.old) (H.store_faults host.new) }
     ensures which { (result ≡ 5) ⊎ (result ≡ 6) ⊎ (result ≡ 4) }
@@ -144,10 +156,7 @@ pub fn say_damage<H: Host>(alloc: Global, host: &mut H, conn: u64, at: u64) -> u
     let Ok(line) = damaged_line(alloc, at) else {
         return NO_MEMORY;
     };
-    match host.say(conn, &line) {
-        Ok(()) => DAMAGED,
-        Err(_) => HOST_FAULT,
-    }
+    say_damaged(host, conn, &line)
 }
 
 /// Takes the next input, and says its reply.
@@ -158,6 +167,8 @@ pub fn take_turn<H: Host>(alloc: Global, words: &Words, host: &mut H, engine: &m
     ensures turn { ForSome (H.seen host.old) (λ image. ForSome (H.taken host.old) (λ inputs. ForSome (H.said host.old) (λ pieces.
         (history : List Label) → StandFor image (H.may_leave host.old) engine.old history
         → TurnDone words.now H.moment H.left_since H.said H.may_leave H.seen H.taken host.old host.new engine.new history inputs pieces result))) }
+    // Whatever the store tells, each turn says its reply, and damage is told to who asked and ends with 5.
+    ensures tells { ForSome (H.taken host.old) (λ inputs. ForSome (H.said host.old) (λ pieces. TurnTells H.moment H.left_since H.said H.may_leave H.seen H.taken host.new inputs pieces result)) }
     // Where engine and store stand for a history no damage is found, and they stand for one after it.
     ensures sound { IsSound H.moment H.left_since H.said H.may_leave H.seen host.old engine.old → StaysSound H.moment H.left_since H.said H.may_leave H.seen host.new engine.new result }
     ensures which { IsStop result }

@@ -1,2 +1,5 @@
 pub mod ReachLemmas
-pub mod SearchLemmas
+pub mod StepLemmas
+pub mod Groups
+pub mod Closing
+pub mod Running

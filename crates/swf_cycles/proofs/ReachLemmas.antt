@@ -23,7 +23,7 @@ pub either : (P : Type 0) (a b : Bool) → (a || b) ≡ true → (a ≡ true →
 either P true b p f g = f refl
 either P false b p f g = g p
 
-abbrev Reaches : List (List ℕ) → ℕ → ℕ → ℕ → Type 0
+abbrev pub Reaches : List (List ℕ) → ℕ → ℕ → ℕ → Type 0
 Reaches g k i j = reaches g k i j ≡ true
 
 -- a call is a way by no function

@@ -1,2 +1,2 @@
 pub mod Cycles
-pub mod Reached
+pub mod Search

@@ -1,6 +1,6 @@
 //! Which of several numbered things come to call themselves.
 #![tactic(auto)]
 
-mod reached;
+mod search;
 
-pub use reached::calls_itself;
+pub use search::calling_themselves;

@@ -1,14 +1,7 @@
--- What is said of an error, and the order of its members.
-use Rattle.std.proofs.Common.{◌≡◌, ℕ, pos, List, [], ◌∷◌, Option, Some, None, codes, ap, sym, refl}
+-- The order of the members of an error.
+use Rattle.std.proofs.Common.{ℕ, pos, List, Option, Some, None, codes, refl}
 use Rattle.swf_value.specs.Value.{Members, member, no_members, int, text, Ascending}
-use Rattle.swf_document.specs.Errors.{detail_of, given}
-
-pub detail_given : (d : List ℕ) → (d ≡ [] → ⊥) → Some d ≡ detail_of d
-detail_given [] h = absurd (h refl)
-detail_given (c ∷ cs) h = refl
-
-pub detail_absent : (d : List ℕ) → d ≡ [] → None ≡ detail_of d
-detail_absent d e = ap detail_of (sym e)
+use Rattle.swf_document.specs.Errors.{given}
 
 abbrev pub problem_members : List ℕ → ℕ → Option (List ℕ) → Option (List ℕ) → Option (List ℕ) → Members
 problem_members u n t d i = given (codes "detail") d (given (codes "instance") i (member (codes "status") (int (pos n)) (given (codes "title") t (member (codes "type") (text u) no_members))))

@@ -1,5 +1,5 @@
 -- Standard errors, how an error is printed, and which ones a filter matches (DSL reference, "Error" and "Catch"; RFC 9457).
-use Rattle.std.specs.Prelude.{◌&&◌, ◌==◌, ◌++◌, ℕ, pos, List, [], ◌∷◌, Bool, true, false, codes, Option, Some, None}
+use Rattle.std.specs.Prelude.{◌&&◌, ◌==◌, ◌++◌, ℕ, pos, List, Bool, true, false, codes, Option, Some, None}
 use Rattle.swf_text.specs.Pointer.{pointer}
 use Rattle.swf_text.specs.Same.{same}
 use Rattle.swf_value.specs.Value.{Value, int, text, object, Members, member, no_members}
@@ -28,15 +28,10 @@ kind_status kinds.Timeout = 408
 kind_status kinds.Communication = 500
 kind_status kinds.Runtime = 500
 
--- a detail that says nothing is left out
-abbrev pub detail_of : List ℕ → Option (List ℕ)
-detail_of [] = None
-detail_of (c ∷ cs) = Some (c ∷ cs)
-
 -- a standard error of the task at a place
 abbrev pub standard : ErrorKind → List (List ℕ) → List ℕ → Problem
 standard k place detail =
-    record { uri = codes "https://serverlessworkflow.io/spec/1.0.0/errors/" ++ kind_word k; status = kind_status k; title = Some (kind_word k); detail = detail_of detail; instance = Some (pointer place) }
+    record { uri = codes "https://serverlessworkflow.io/spec/1.0.0/errors/" ++ kind_word k; status = kind_status k; title = Some (kind_word k); detail = Some detail; instance = Some (pointer place) }
 
 abbrev pub given : List ℕ → Option (List ℕ) → Members → Members
 given k None ms = ms

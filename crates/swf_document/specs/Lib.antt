@@ -10,5 +10,4 @@ pub mod TaskNode
 pub mod TaskFalls
 pub mod DocumentCode
 pub mod FaultWord
-pub mod Forms
 pub mod Errors

@@ -4,6 +4,7 @@
 mod boxed;
 mod call;
 mod common;
+mod crossing;
 mod document;
 mod error;
 mod event;
@@ -18,6 +19,7 @@ mod template;
 pub use boxed::{Boxed, unboxed};
 pub use call::{Callee, Endpoint, HttpSpec, Method};
 pub use common::{Case, Common, Flow};
+pub use crossing::{document_crosses, problem_crosses};
 pub use document::{DocKey, Document, NamedError, NamedRetry};
 pub use error::{ErrorFilter, ErrorKind, ErrorRef, ErrorSpec, Problem, matches_filter};
 pub use event::{Correlation, Filter, ListenMode, ListenSpec};

@@ -3,14 +3,14 @@ ghost use Rattle.std.specs.Prelude.{◌≡◌, ◌++◌, IfOk, IsTrue, chars, co
 ghost use Rattle.swf_text.specs.Same.{is_ascii};
 ghost use Rattle.swf_value.specs.Node.{members_of};
 ghost use Rattle.swf_value.specs.Value.{int, member};
-ghost use Rattle.swf_document.specs.Errors.{kind_word, detail_of, standard, given, problem_value};
+ghost use Rattle.swf_document.specs.Errors.{kind_word, standard, given, problem_value};
 
 use crate::error::{ErrorKind, Problem};
 use std::alloc::{AllocError, Global};
 use swf_text::{Place, Text, TextBuilder, pointer_text, word};
 use swf_value::{Json, Member, member};
 
-/// A standard error of the task at a place. A detail that is empty is left out.
+/// A standard error of the task at a place. It keeps the detail that it is given, also an empty one.
 pub fn standard_error(
     alloc: Global,
     kind: ErrorKind,
@@ -21,13 +21,13 @@ pub fn standard_error(
 {
     let uri = standard_uri(alloc, kind)?;
     let title = word(alloc, kind.word())?;
-    let detail = unless_empty(Text::copy_of(alloc, detail)?);
+    let detail = Text::copy_of(alloc, detail)?;
     let instance = pointer_text(alloc, place)?;
     Ok(Problem {
         uri,
         status: kind.status(),
         title: Some(title),
-        detail,
+        detail: Some(detail),
         instance: Some(instance),
     })
 }
@@ -40,13 +40,6 @@ fn standard_uri(alloc: Global, kind: ErrorKind) -> Result<Text, AllocError>
     uri.push_ascii("https://serverlessworkflow.io/spec/1.0.0/errors/")?;
     uri.push_ascii(kind.word())?;
     uri.into_text(alloc)
-}
-
-/// A text, unless it is empty.
-fn unless_empty(text: Text) -> Option<Text>
-    ensures { result ≡ detail_of text }
-{
-    if text.is("") { None } else { Some(text) }
 }
 
 /// An error as a value.

@@ -1,5 +1,5 @@
 -- An image stands for at most one history, and a damaged one for none.
-use Rattle.std.proofs.Common.{◌≡◌, ◌≢◌, ◌∙◌, ap, sym, refl, subst, inl, inr, ⊎_elim, ℕ, List, [], ◌∷◌, ◌++◌, length, take, drop, true, false, Option, Some, None, is_some, option_and_then, append_assoc, arith}
+use Rattle.std.proofs.Common.{◌≡◌, ◌≢◌, ◌≤◌, ◌∙◌, ap, sym, refl, subst, inl, inr, ⊎_elim, ℕ, List, [], ◌∷◌, ◌++◌, length, take, drop, true, false, Option, Some, None, is_some, option_and_then, append_assoc, arith}
 use Rattle.std.specs.List.{AllByRecursion}
 use Rattle.std.proofs.lemmas.List.{append_cancel_left, take_at}
 use Rattle.swf_store.specs.declared.image.Image.{Image}
@@ -146,3 +146,8 @@ damaged_none image history at h damaged = ⊎_elim
     (λ long. bad_frame image history at h long.1 d.1 d.1.bad)
     h.stands)
     damaged
+
+-- a damaged journal has room for a frame
+pub damaged_long : (image : Image) (at : ℕ) → IsDamaged image at → 25 ≤ length image.journal
+damaged_long image at (inl header) = header.long
+damaged_long image at (inr frame) = frame.0

@@ -1,12 +1,12 @@
 -- How labels are told one after another, and that what is told of a journal is told of its history.
-use Rattle.std.proofs.Common.{◌≡◌, ◌≢◌, ◌∙◌, ap, sym, refl, subst, inl, inr, ◌⊎◌, ⊎_elim, ℕ, ◌+◌, ◌-◌, ◌<◌, ◌≤◌, min, List, [], ◌∷◌, ◌++◌, length, map, take, drop, get_or, true, false, Option, Some, Vec, Global, Result, Ok, Err, append-nil, append_assoc, length-append, length-take, length-drop, arith}
+use Rattle.std.proofs.Common.{◌≡◌, ◌≢◌, ◌∙◌, ap, sym, refl, subst, inl, inr, ⊎_elim, ℕ, ◌+◌, ◌-◌, ◌<◌, ◌≤◌, min, List, [], ◌∷◌, ◌++◌, length, map, take, drop, get_or, false, Option, Vec, Global, Result, Ok, Err, append_assoc, length-append, length-take, length-drop, arith}
 use Rattle.std.specs.List.{AllByRecursion}
 use Rattle.std.proofs.lemmas.List.{append_cancel_left, drop_all, take_all, take_more, drop-append-le, take-append-le, map-append, length-map}
 use Rattle.swf_value.specs.Value.{Value}
 use Rattle.swf_store.specs.declared.image.File.TheVariants.{Journal}
 use Rattle.swf_store.specs.declared.image.Image.{Image}
 use Rattle.swf_journal.specs.Frames.{header, open_gate, frames_bytes, next_gate}
-use Rattle.swf_journal.specs.Opening.{HasNoHeader, IsFrame, IsDamage}
+use Rattle.swf_journal.specs.Opening.{HasNoHeader, IsDamage}
 use Rattle.swf_journal.specs.Place.{Place, HasRead}
 use Rattle.swf_journal.specs.Stands.{Fits, IsShutAfter}
 use Rattle.swf_journal.specs.declared.fault.OpenFault.{OpenFault}
@@ -14,10 +14,9 @@ use Rattle.swf_journal.specs.declared.fault.OpenFault.TheVariants.{Store as Open
 use Rattle.swf_journal.proofs.FrameLemmas.{length-header}
 use Rattle.swf_journal.proofs.StandsLemmas.{first_is, peeled, behind_is, no_damage, shut_stands, stands_for_one}
 use Rattle.swf_meaning.specs.declared.label.Label.{Label}
-use Rattle.swf_meaning.specs.declared.label.Answer.{Answer}
-use Rattle.swf_meaning.specs.declared.label.Answer.TheVariants.{Status, History}
+use Rattle.swf_meaning.specs.declared.label.Answer.TheVariants.{History}
 use Rattle.swf_meaning.specs.declared.label.Query.{Query}
-use Rattle.swf_meaning.specs.declared.label.Query.TheVariants.{Status as OfStatus, History as OfHistory}
+use Rattle.swf_meaning.specs.declared.label.Query.TheVariants.{History as OfHistory}
 use Rattle.swf_meaning.specs.Printed.{printed, most_told, told_from, history_value, labels_value}
 use Rattle.swf_record.specs.Encodes.{Encodes}
 use Rattle.swf_world.specs.Answers.{answer}

@@ -1,5 +1,5 @@
 -- Where a journal is damaged: the first place at which what was acknowledged does not fit.
-use Rattle.std.specs.Prelude.{◌≡◌, ◌≢◌, ◌⊎◌, ℕ, ◌+◌, ◌≤◌, List, [], ◌∷◌, ◌++◌, length, take, Option, Some, None, Ok, Err}
+use Rattle.std.specs.Prelude.{◌≡◌, ◌≢◌, ◌⊎◌, ℕ, ◌+◌, ◌≤◌, List, ◌∷◌, ◌++◌, length, take, Some, None, Ok, Err}
 use Rattle.std.specs.List.{AllByRecursion}
 use Rattle.swf_store.specs.declared.image.Image.{Image}
 use Rattle.swf_journal.specs.Frames.{header, frames_bytes, next_gate}

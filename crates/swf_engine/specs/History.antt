@@ -1,5 +1,5 @@
 -- The history that an image stands for: the labels in the frames of its journal, which are a legal run.
-use Rattle.std.specs.Prelude.{◌≡◌, ◌⊎◌, ℕ, List, [], ◌∷◌, ◌++◌}
+use Rattle.std.specs.Prelude.{◌≡◌, ℕ, List, [], ◌∷◌, ◌++◌}
 use Rattle.swf_store.specs.declared.image.Image.{Image}
 use Rattle.swf_journal.specs.Stands.{Stands}
 use Rattle.swf_meaning.specs.declared.label.Label.{Label}

@@ -1,5 +1,5 @@
 -- What a call of an engine adds to a history, and what a stop at any moment of it leaves.
-use Rattle.std.specs.Prelude.{◌≡◌, ℕ, ◌+◌, ◌<◌, ◌≤◌, Bool, true, false, List, [], ◌∷◌, ◌++◌, length, Option, Some, is_some, Result, Ok, Err}
+use Rattle.std.specs.Prelude.{◌≡◌, ℕ, ◌+◌, ◌<◌, ◌≤◌, true, List, ◌++◌, length, Option, Some, is_some}
 use Rattle.std.specs.Option.{ForSome}
 use Rattle.std.specs.List.{AllByRecursion}
 use Rattle.swf_store.specs.declared.image.Image.{Image}
@@ -7,8 +7,7 @@ use Rattle.swf_store.specs.declared.said.Piece.{Piece}
 use Rattle.swf_store.specs.Stops.{LeavesOnly}
 use Rattle.swf_meaning.specs.declared.label.Label.{Label}
 use Rattle.swf_meaning.specs.declared.label.Label.TheVariants.{Load, Start, Event, Reply, Moment, Step}
-use Rattle.swf_runs.specs.Runs.{run_from, is_quiet}
-use Rattle.swf_meaning.specs.World.{World}
+use Rattle.swf_runs.specs.Runs.{run_from}
 use Rattle.swf_record.specs.Encodes.{labels_bytes}
 use Rattle.swf_engine.specs.History.{IsGrown}
 use Rattle.swf_engine.specs.Core.{Core, StandFor, most_bytes}

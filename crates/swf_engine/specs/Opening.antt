@@ -1,6 +1,5 @@
 -- What an opening makes of a store.
 use Rattle.std.specs.Prelude.{◌≡◌, ◌⊎◌, ℕ, List, Option, Some}
-use Rattle.std.specs.Option.{ForSome}
 use Rattle.swf_store.specs.declared.image.Image.{Image}
 use Rattle.swf_store.specs.declared.said.Piece.{Piece}
 use Rattle.swf_store.specs.Stops.{LeavesOnly}

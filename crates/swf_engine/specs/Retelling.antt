@@ -1,5 +1,5 @@
 -- How a history is told again from the frames of a journal: their labels from a place on, at most so many.
-use Rattle.std.specs.Prelude.{◌≡◌, ◌⊎◌, ℕ, ◌+◌, ◌-◌, ◌<◌, ◌≤◌, List, [], ◌++◌, length, map, Bool, true, false, Option, Some, Result, Ok, Err}
+use Rattle.std.specs.Prelude.{◌≡◌, ◌⊎◌, ℕ, ◌+◌, ◌-◌, ◌<◌, ◌≤◌, List, ◌++◌, length, map, Bool, true, false, Result, Ok, Err}
 use Rattle.std.specs.List.{AllByRecursion}
 use Rattle.swf_value.specs.Value.{Value}
 use Rattle.swf_journal.specs.Frames.{header, frames_bytes, next_gate}
@@ -15,7 +15,7 @@ use Rattle.swf_meaning.specs.Printed.{printed, most_told, told_from, labels_valu
 use Rattle.swf_meaning.specs.World.{World}
 use Rattle.swf_world.specs.Answers.{answer}
 use Rattle.swf_world.specs.declared.query.QueryFault.{QueryFault}
-use Rattle.swf_world.specs.declared.query.QueryFault.TheVariants.{UnknownInstance, OutOfMemory as NoMemory}
+use Rattle.swf_world.specs.declared.query.QueryFault.TheVariants.{OutOfMemory as NoMemory}
 use Rattle.swf_engine.specs.declared.fault.EngineFault.{EngineFault}
 use Rattle.swf_engine.specs.declared.fault.EngineFault.TheVariants.{Store, Damaged, Full, OutOfMemory}
 use Rattle.swf_engine.specs.Damage.{IsMisspelled}

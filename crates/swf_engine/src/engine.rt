@@ -8,7 +8,6 @@ ghost use Rattle.swf_meaning.specs.declared.label.Label.{Label};
 ghost use Rattle.swf_record.specs.Encodes.{Nests};
 ghost use Rattle.swf_world.specs.Answers.{IsOfWorld};
 ghost use Rattle.swf_world.specs.Latest.{label_of};
-ghost use Rattle.swf_world.specs.Waits.{is_due};
 ghost use Rattle.swf_engine.specs.Answers.{Submits, Steps, Settles, IsSmall};
 ghost use Rattle.swf_engine.specs.Causes.{EngineCause, WhereUsable};
 ghost use Rattle.swf_engine.specs.Core.{IsEngineOf, StandFor, most_bytes};
@@ -19,7 +18,6 @@ use crate::add::add_label;
 use crate::retelling::retell;
 use std::alloc::Global;
 use std::marker::Model;
-use swf_duration::Moment;
 use swf_journal::Journal;
 use swf_meaning::{Answer, Outcome, Query};
 use swf_store::Store;
@@ -181,20 +179,6 @@ impl Engine {
             Query::Pending => Ok(self.world.answer(query)),
             Query::Outbox(_) => Ok(self.world.answer(query)),
         }
-    }
-
-    /// The moment that was reached last. It takes no memory.
-    pub fn now(&self) -> Moment
-        ensures { result ≡ self.now.world.now }
-    {
-        self.world.now()
-    }
-
-    /// Whether a moment, in milliseconds, is above now, and some strand waits until it, or until one before it. It takes no memory.
-    pub fn due(&self, moment: u64) -> bool
-        ensures { result ≡ is_due self.now.world moment }
-    {
-        self.world.due(moment)
     }
 
     /// The id of the instance of that number, from 0, in start order. It takes no memory.

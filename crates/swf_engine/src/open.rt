@@ -1,9 +1,10 @@
 // How an engine is opened: the frames of its journal are read, and their labels replayed.
-ghost use Rattle.std.specs.Prelude.{◌≡◌, ℕ, true, false, List, Ok, Err, IfOk, IfErr, is_some};
+ghost use Rattle.std.specs.Prelude.{◌≡◌, ◌≤◌, ℕ, true, false, List, length, Ok, Err, IfOk, IfErr, is_some};
 ghost use Rattle.std.specs.Option.{ForSome};
 ghost use Rattle.swf_store.specs.declared.image.File.TheVariants.{Journal as JournalFile};
 ghost use Rattle.swf_store.specs.Disk.{NothingNew};
 ghost use Rattle.swf_store.specs.Stops.{LeavesOnly};
+ghost use Rattle.swf_journal.specs.Opening.{IsUntouched};
 ghost use Rattle.swf_journal.specs.Place.{IsReadingOf};
 ghost use Rattle.swf_meaning.specs.declared.label.Label.{Label};
 ghost use Rattle.swf_engine.specs.Causes.{EngineCause};
@@ -30,6 +31,8 @@ impl Engine {
     pub fn open_on<S: Store>(alloc: Global, store: &mut S) -> Result<Engine, EngineFault>
         ensures place { IfOk result (λ engine. IsEngineOf (S.seen store.new) engine) }
         ensures opened { ForSome (S.seen store.old) (λ image. IfOk result (λ engine. IsOpened S.moment S.left_since S.said S.may_leave S.seen image store.new engine)) }
+        // A journal that has room for a frame is only read, whether damage is found or not.
+        ensures untouched { ForSome (S.seen store.old) (λ image. 25 ≤ length image.journal → IsUntouched S.moment S.left_since S.said S.may_leave S.seen store.old store.new) }
         // Until its first sync has succeeded a stop leaves what it might have left before, and from then on the same history.
         ensures any_moment { ForSome (S.seen store.old) (λ image. (history : List Label) → IsHistory image history → OpensHistory S.moment S.left_since S.said S.may_leave S.seen store.old store.new history) }
         ensures damaged { ForSome (S.seen store.old) (λ image. (at : ℕ) → result ≡ Err (EngineFault.Damaged at) → IsDamaged image at) }

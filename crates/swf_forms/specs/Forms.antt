@@ -1,11 +1,11 @@
 -- The forms of the texts in a document (DSL 1.0.0, reference; SemVer 2.0.0; RFC 1123 labels; RFC 9110, section 9; RFC 6570, section 3.2.2).
-use Rattle.std.specs.Prelude.{◌==◌, ◌&&◌, ◌||◌, ◌-◌, ◌+◌, ℕ, List, [], ◌∷◌, Bool, true, false, not, codes, length, drop, take, map, slice_index, nat_le, Option, Some, None, is_some, if◌then◌else◌}
-use Rattle.std.specs.List.{list_any, position_or_len}
+use Rattle.std.specs.Prelude.{◌==◌, ◌&&◌, ◌||◌, ◌-◌, ◌+◌, ℕ, List, [], ◌∷◌, Bool, true, false, not, codes, length, drop, take, map, slice_index, nat_le, nat_lt, Option, Some, None, is_some, if◌then◌else◌}
+use Rattle.std.specs.List.{list_all, list_any, position_or_len, starts_with}
 use Rattle.std.specs.Char.{to_ascii_lowercase}
 use Rattle.std.specs.Str.{encode_utf8_all}
+use Rattle.swf_text.specs.Ascii.{is_digit, is_lower}
 use Rattle.swf_text.specs.Same.{same}
 use Rattle.swf_expr.specs.Name.{is_name, starts_name, goes_on_name}
-use Rattle.swf_document.specs.Forms.{is_dsl, is_label, is_blank, is_mark}
 use Rattle.swf_document.specs.declared.call.Method.{Method}
 use Rattle.swf_document.specs.declared.call.Method.TheVariants as method
 use Rattle.swf_document.specs.declared.fault.FaultKind.{FaultKind}
@@ -15,6 +15,26 @@ use Rattle.swf_forms.specs.declared.form.Brace.TheVariants as brace
 use Rattle.swf_forms.specs.declared.form.Form.{Form}
 use Rattle.swf_forms.specs.declared.form.Form.TheVariants as form
 use Rattle.swf_forms.specs.Expression.{parses, is_version}
+
+-- `1.0.` and digits
+abbrev pub is_dsl : List ℕ → Bool
+is_dsl t = starts_with ◌==◌ t (codes "1.0.") && nat_lt 4 (length t) && list_all is_digit (drop 4 t)
+
+abbrev pub is_label_end : ℕ → Bool
+is_label_end c = is_lower c || is_digit c
+
+abbrev pub is_label_char : ℕ → Bool
+is_label_char c = is_label_end c || c == 45
+
+-- 1 to 63 lower-case letters, digits and `-`, with a letter or digit at both ends
+abbrev pub is_label : List ℕ → Bool
+is_label t = nat_lt 0 (length t) && nat_le (length t) 63 && list_all is_label_char t && is_label_end (slice_index t 0) && is_label_end (slice_index t (length t - 1))
+
+abbrev pub is_blank : ℕ → Bool
+is_blank c = c == 32 || c == 9 || c == 13 || c == 10
+
+abbrev pub is_mark : ℕ → Bool
+is_mark c = not (is_blank c)
 
 -- without the blanks at its start
 abbrev pub after_blanks : List ℕ → List ℕ

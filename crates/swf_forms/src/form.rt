@@ -4,12 +4,11 @@ ghost use Rattle.std.specs.List.{list_all, list_any, position_or_len, starts_wit
 ghost use Rattle.std.specs.Str.{encode_utf8_all};
 ghost use Rattle.swf_text.specs.Same.{same, is_ascii};
 ghost use Rattle.swf_expr.specs.Name.{is_name, is_word as is_name_word, is_keyword, starts_name, goes_on_name};
-ghost use Rattle.swf_document.specs.Forms.{is_dsl, is_label_end, is_label_char, is_label, is_blank, is_mark};
 ghost use Rattle.swf_forms.specs.declared.form.Brace.TheVariants.{Outside};
 ghost use Rattle.swf_document.specs.declared.fault.FaultKind.TheVariants.{BadText};
 ghost use Rattle.swf_forms.specs.declared.form.Form.TheVariants.{Callee, Expression, Endpoint};
 ghost use Rattle.swf_forms.specs.Expression.{parses, is_version};
-ghost use Rattle.swf_forms.specs.Forms.{after_blanks, end_of, trimmed, is_enclosed, inner, bare, is_like, method_of, reserved, is_variable, brace_after, is_outside, brace_in, is_pattern, unless, choice, enclosed_fault, text_verdict};
+ghost use Rattle.swf_forms.specs.Forms.{is_dsl, is_label_end, is_label_char, is_label, is_blank, is_mark, after_blanks, end_of, trimmed, is_enclosed, inner, bare, is_like, method_of, reserved, is_variable, brace_after, is_outside, brace_in, is_pattern, unless, choice, enclosed_fault, text_verdict};
 
 use crate::expression::{is_version, parses};
 use std::alloc::{AllocError, Global};

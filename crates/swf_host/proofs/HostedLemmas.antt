@@ -1,20 +1,20 @@
 -- What a stop leaves of a host in memory through each call of it.
-use Rattle.std.proofs.Common.{◌≡◌, inl, inr, ⊎_elim, ℕ, ◌+◌, ◌<◌, ◌≤◌, List, [], ◌∷◌, ◌++◌, Some, Result, Ok, Err, length, take, drop, get_or, refl, sym, ◌∙◌, ap, subst, arith, append-nil}
+use Rattle.std.proofs.Common.{◌≡◌, ◌⊎◌, true, inl, inr, ⊎_elim, ℕ, ◌+◌, ◌/◌, ◌<◌, ◌≤◌, List, [], ◌∷◌, ◌++◌, Some, Result, Ok, Err, length, take, drop, get_or, refl, sym, ◌∙◌, ap, subst, arith, append-nil}
 use Rattle.std.proofs.lemmas.Bool.{cases_lt}
-use Rattle.std.proofs.lemmas.List.{take_all, take-append-le, drop-append-le, get_or-drop, get_or_push, get_or_append_left, length_push, length-drop, map-append}
+use Rattle.std.proofs.lemmas.List.{take_all, take-append-drop, take-append-le, drop-append-le, get_or-drop, get_or_push, get_or_append_left, length_push, length-drop, map-append}
 use Rattle.std.proofs.lemmas.List.Elements.{All-take, All-push}
 use Rattle.swf_store.specs.declared.call.Call.{Call}
 use Rattle.swf_store.specs.declared.image.Image.{Image}
 use Rattle.swf_store.specs.declared.said.Piece.{Piece}
 use Rattle.swf_store.specs.Memory.{Memory, Takes, state_of, state_after, and_listed, and_lack}
 use Rattle.swf_store.specs.Replay.{IsLeft}
-use Rattle.swf_store.specs.Said.{IsSaid, MayHaveSaid, and_piece}
+use Rattle.swf_store.specs.Said.{AfterSay, IsSaid, MayHaveSaid, and_piece}
 use Rattle.swf_store.specs.Stops.{Elapses}
 use Rattle.swf_store.proofs.Chain.{state_after_listed}
 use Rattle.swf_host.specs.declared.host.Input.{Input}
 use Rattle.swf_host.specs.declared.script.Said.{Said}
 use Rattle.swf_host.specs.Hosted.{Hosted, StopsSince, SaidBy, SaidFrom, pieces_of, piece_of}
-use Rattle.swf_host.specs.Script.{Play, AfterSaid}
+use Rattle.swf_host.specs.Script.{Play, AfterSaid, failed, half, is_among, lacked, piece_said, say_counted}
 
 -- the same host: no moment more
 pub stands : (memory : Memory) (old new : List Said) (Q : List Piece → Type 0) → new ≡ old
@@ -104,12 +104,13 @@ call_elapses call old after said (Ok x) takes by = subst (λ m. Goes old said ca
 call_elapses call old after said (Err e) takes by =
     ⊎_elim (λ f. subst (λ m. Goes old said call by m) (sym f.0) (goes_listed old said call by)) (λ lack. subst (λ m. Goes old said call by m) (sym lack) (goes_lack old said call by)) takes.failed
 
-module _ (conn : ℕ) (bytes : List ℕ) (memory : Memory) (p : Play) where
+-- a piece is said, which is the first of some bytes
+module _ (conn : ℕ) (bytes part rest : List ℕ) (begins : bytes ≡ part ++ rest) (memory : Memory) (p : Play) where
   abbrev calls : ℕ
   calls = length memory.calls
 
   abbrev one : Said
-  one = record { conn = conn; bytes = bytes; inputs = length p.taken; calls = calls }
+  one = record { conn = conn; bytes = part; inputs = length p.taken; calls = calls }
 
   abbrev said : List Said
   said = p.said
@@ -117,7 +118,7 @@ module _ (conn : ℕ) (bytes : List ℕ) (memory : Memory) (p : Play) where
   abbrev now : List Said
   now = p.said ++ one ∷ []
 
-  now_are : pieces_of now ≡ and_piece conn bytes (length p.taken) (pieces_of said)
+  now_are : pieces_of now ≡ and_piece conn part (length p.taken) (pieces_of said)
   now_are = map-append piece_of said (one ∷ [])
 
   abbrev May : List Piece → Type 0
@@ -128,10 +129,10 @@ module _ (conn : ℕ) (bytes : List ℕ) (memory : Memory) (p : Play) where
       let taken : p.taken ≡ inputs = cc in
       let told : pieces_of said ≡ before = cc in
       record {
-        part = bytes;
-        rest = [];
-        begins = sym (append-nil bytes);
-        told = inr (now_are ∙ ap (λ (l : List Input). and_piece conn bytes (length l) (pieces_of said)) taken ∙ ap (λ (l : List Piece). and_piece conn bytes (length inputs) l) told);
+        part = part;
+        rest = rest;
+        begins = begins;
+        told = inr (now_are ∙ ap (λ (l : List Input). and_piece conn part (length l) (pieces_of said)) taken ∙ ap (λ (l : List Piece). and_piece conn part (length inputs) l) told);
       }
 
   -- behind the new piece all calls had been made
@@ -191,9 +192,30 @@ pub say_elapses : {T E : Type 0} (conn : ℕ) (bytes : List ℕ) (memory : Memor
     → Elapses (length memory.calls + length p.said) (length memory.calls + length q.said) (StopsSince memory p.said) (StopsSince memory q.said) (IsLeft (state_of memory)) (MayHaveSaid conn bytes (Some p.taken) (Some (pieces_of p.said)))
 say_elapses conn bytes memory p q (Ok x) after =
     subst (λ l. Elapses (length memory.calls + length p.said) (length memory.calls + length l) (StopsSince memory p.said) (StopsSince memory l) (IsLeft (state_of memory)) (MayHaveSaid conn bytes (Some p.taken) (Some (pieces_of p.said))))
-    (sym (ap (λ (r : Play). r.said) after.1)) (spoke_elapses conn bytes memory p)
-say_elapses conn bytes memory p q (Err e) after =
-    stands memory p.said q.said _ (⊎_elim (λ f. ap (λ (r : Play). r.said) f.1) (λ f. ap (λ (r : Play). r.said) f.1) after)
+    (sym (ap (λ (r : Play). r.said) after.1)) (spoke_elapses conn bytes bytes [] (sym (append-nil bytes)) memory p)
+say_elapses conn bytes memory p q (Err e) (inl cut) =
+    subst (λ l. Elapses (length memory.calls + length p.said) (length memory.calls + length l) (StopsSince memory p.said) (StopsSince memory l) (IsLeft (state_of memory)) (MayHaveSaid conn bytes (Some p.taken) (Some (pieces_of p.said))))
+    (sym (ap (λ (r : Play). r.said) cut.1)) (spoke_elapses conn bytes (half bytes) (drop (length bytes / 2) bytes) (sym (take-append-drop (length bytes / 2) bytes)) memory p)
+say_elapses conn bytes memory p q (Err e) (inr lack) = stands memory p.said q.said _ (ap (λ (r : Play). r.said) lack)
+
+-- what was said is told
+pub say_told : {T E : Type 0} (conn : ℕ) (bytes : List ℕ) (number : ℕ) (p q : Play) (result : Result T E) → AfterSaid conn bytes number p result q → AfterSay conn bytes (length p.taken) result (pieces_of p.said) (Some (pieces_of q.said))
+say_told conn bytes number p q (Ok x) after = ap (λ (r : Play). Some (pieces_of r.said)) after.1 ∙ ap Some (map-append piece_of p.said ((record { conn = conn; bytes = bytes; inputs = length p.taken; calls = number }) ∷ []))
+say_told conn bytes number p q (Err e) (inl cut) = (
+  pieces_of q.said,
+  refl,
+  record {
+    part = half bytes;
+    rest = drop (length bytes / 2) bytes;
+    begins = sym (take-append-drop (length bytes / 2) bytes);
+    told = inr (ap (λ (r : Play). pieces_of r.said) cut.1 ∙ map-append piece_of p.said ((record { conn = conn; bytes = half bytes; inputs = length p.taken; calls = number }) ∷ []));
+  },
+)
+say_told conn bytes number p q (Err e) (inr lack) = (
+  pieces_of q.said,
+  refl,
+  record { part = bytes; rest = []; begins = sym (append-nil bytes); told = inl (ap (λ (r : Play). pieces_of r.said) lack) },
+)
 
 -- a call of the store of a host
 pub host_takes : {T E : Type 0} (call : Call) (inside host : Hosted) (after : Memory) (result : Result T E) → inside ≡ host → Takes call inside.store after result → Takes call host.store after result
@@ -212,3 +234,18 @@ host_says conn bytes inside host number made q result is are counted after =
     subst (λ (h : Hosted). Elapses (length h.store.calls + length h.play.said) (length inside.store.calls + length q.said) (StopsSince h.store h.play.said) (StopsSince inside.store q.said) (IsLeft (state_of inside.store)) (MayHaveSaid conn bytes (Some h.play.taken) (Some (pieces_of h.play.said))))
     is (say_elapses conn bytes inside.store inside.play q result
     (subst (λ n. AfterSaid conn bytes n inside.play result q) (counted ∙ ap (λ (l : List Call). length l) are) after))
+
+-- what it said is told
+pub host_told : {T E : Type 0} (conn : ℕ) (bytes : List ℕ) (inside host : Hosted) (number : ℕ) (q : Play) (result : Result T E) → inside ≡ host → AfterSaid conn bytes number inside.play result q
+    → (inputs : List Input) → Some host.play.taken ≡ Some inputs → (before : List Piece) → Some (pieces_of host.play.said) ≡ Some before → AfterSay conn bytes (length inputs) result before (Some (pieces_of q.said))
+host_told conn bytes inside host number q result is after inputs taken before said =
+    let all : inside.play.taken ≡ inputs = cc in
+    let told : pieces_of inside.play.said ≡ before = cc in
+    subst (λ (l : List Input). AfterSay conn bytes (length l) result before (Some (pieces_of q.said))) all
+    (subst (λ (l : List Piece). AfterSay conn bytes (length inside.play.taken) result l (Some (pieces_of q.said))) told (say_told conn bytes number inside.play q result after))
+
+-- a call of `say` whose number is listed
+pub say_cut : (conn : ℕ) (bytes : List ℕ) (number : ℕ) (p mid q : Play) → mid ≡ say_counted p → is_among p.says p.failing_say ≡ true → (q ≡ failed (piece_said conn (half bytes) number mid)) ⊎ (q ≡ lacked mid)
+    → ((is_among p.says p.failing_say ≡ true) × (q ≡ failed (piece_said conn (half bytes) number (say_counted p)))) ⊎ (q ≡ lacked (say_counted p))
+say_cut conn bytes number p mid q is listed (inl cut) = inl (listed, cut ∙ ap (λ (r : Play). failed (piece_said conn (half bytes) number r)) is)
+say_cut conn bytes number p mid q is listed (inr lack) = inr (lack ∙ ap lacked is)

@@ -4,4 +4,3 @@ pub mod HostedLaws
 pub mod HostedView
 pub mod Script
 pub mod Taken
-pub mod Turns

@@ -1,5 +1,5 @@
 -- A script that a host follows, and what it does at each call.
-use Rattle.std.specs.Prelude.{◌≡◌, ◌+◌, ◌-◌, ◌^◌, ◌⊎◌, ◌==◌, ℕ, min, Bool, true, false, List, [], ◌∷◌, ◌++◌, length, Option, Some, None, Result, Ok, Err, slice_get}
+use Rattle.std.specs.Prelude.{◌≡◌, ◌+◌, ◌-◌, ◌/◌, ◌^◌, ◌⊎◌, ◌==◌, ℕ, min, Bool, true, false, List, [], ◌∷◌, ◌++◌, length, take, Option, Some, None, Result, Ok, Err, slice_get}
 use Rattle.std.specs.List.{list_any}
 use Rattle.swf_host.specs.declared.host.Input.{Input}
 use Rattle.swf_host.specs.declared.host.Input.TheVariants.{Closed}
@@ -70,7 +70,12 @@ abbrev pub AfterNext : {E : Type 0} → Play → Result Input E → Play → Typ
 AfterNext p (Ok i) q = (is_among p.nexts p.failing_next ≡ false) × (i ≡ coming p.script p.at) × (q ≡ input_taken i (next_counted p))
 AfterNext p (Err e) q = ((is_among p.nexts p.failing_next ≡ true) × (q ≡ failed (next_counted p))) ⊎ ((is_among p.nexts p.failing_next ≡ false) × (q ≡ lacked (next_counted p)))
 
--- a call of `say` fails exactly where its number is listed, or memory is missing; else the bytes are kept whole
+-- the first half of some bytes
+abbrev pub half : List ℕ → List ℕ
+half bytes = take (length bytes / 2) bytes
+
+-- A call of `say` fails exactly where its number is listed, or memory is missing. Else the bytes are kept whole, and of a call whose
+-- number is listed the first half.
 abbrev pub AfterSaid : {T E : Type 0} → ℕ → List ℕ → ℕ → Play → Result T E → Play → Type 0
 AfterSaid conn bytes calls p (Ok u) q = (is_among p.says p.failing_say ≡ false) × (q ≡ piece_said conn bytes calls (say_counted p))
-AfterSaid conn bytes calls p (Err e) q = ((is_among p.says p.failing_say ≡ true) × (q ≡ failed (say_counted p))) ⊎ ((is_among p.says p.failing_say ≡ false) × (q ≡ lacked (say_counted p)))
+AfterSaid conn bytes calls p (Err e) q = ((is_among p.says p.failing_say ≡ true) × (q ≡ failed (piece_said conn (half bytes) calls (say_counted p)))) ⊎ (q ≡ lacked (say_counted p))

@@ -5,10 +5,8 @@ mod console_host;
 mod host;
 mod memory_host;
 mod script;
-mod turn;
 
 pub use console_host::{ConsoleHost, MOST_LINE};
 pub use host::{Host, Input};
 pub use memory_host::MemoryHost;
 pub use script::{Said, Turn};
-pub use turn::{TurnFault, append_then_say, two_turns};

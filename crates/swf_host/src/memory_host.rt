@@ -1,9 +1,10 @@
 // A host in memory over a store in memory. It follows a script, and tells everything.
 ghost use Rattle.std.specs.Prelude.{◌≡◌, length};
+ghost use Rattle.std.specs.Option.{ForSome};
 ghost use Rattle.swf_store.specs.Faults.{HasCause};
 ghost use Rattle.swf_store.specs.Memory.{state_of};
 ghost use Rattle.swf_store.specs.Replay.{IsLeft};
-ghost use Rattle.swf_store.specs.Said.{MayHaveSaid};
+ghost use Rattle.swf_store.specs.Said.{AfterSay, MayHaveSaid};
 ghost use Rattle.swf_store.specs.Stops.{Elapses};
 ghost use Rattle.swf_host.specs.Hosted.{pieces_of};
 ghost use Rattle.swf_host.specs.Script.{first_play, AfterNext, AfterSaid};
@@ -45,7 +46,8 @@ impl Model for MemoryHost {
 
 impl MemoryHost {
     /// A host of this store and script. The calls of `next` and of `say` that the two lists number from 0 fail; such a
-    /// `next` uses up no turn. Besides they fail where no memory is found to keep what they tell.
+    /// `next` uses up no turn, and such a `say` says the first half of its bytes. Besides they fail where no memory is found to
+    /// keep what they tell.
     pub fn new(
         alloc: Global,
         store: MemoryStore,
@@ -165,6 +167,7 @@ impl Host for MemoryHost {
     fn say(&mut self, conn: u64, bytes: &[u8]) -> Result<(), Failed>
         ensures cause { HasCause self.old.play.faults self.new.play.faults result }
         ensures time { Elapses (⟦<MemoryHost as Store>⟧.moment self.old) (⟦<MemoryHost as Store>⟧.moment self.new) (⟦<MemoryHost as Store>⟧.left_since self.old) (⟦<MemoryHost as Store>⟧.left_since self.new) (IsLeft (state_of self.new.store)) (MayHaveSaid conn bytes.now (Some self.old.play.taken) (Some (pieces_of self.old.play.said))) }
+        ensures said { ForSome (Some self.old.play.taken) (λ inputs. ForSome (Some (pieces_of self.old.play.said)) (λ before. AfterSay conn bytes.now (length inputs) result before (Some (pieces_of self.new.play.said)))) }
         ensures play { AfterSaid conn bytes.now (length self.old.store.calls) self.old.play result self.new.play }
         ensures store { self.new.store ≡ self.old.store }
     {

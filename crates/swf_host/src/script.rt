@@ -1,7 +1,7 @@
 // A script that a host follows, and all that was taken and said.
-ghost use Rattle.std.specs.Prelude.{◌≡◌, IfOk, OnOk, OnErr};
-ghost use Rattle.swf_host.specs.Script.{coming, play, first_play, input_taken, piece_said, AfterNext, AfterSaid};
-ghost use Rattle.swf_store.specs.Faults.{HasCause};
+ghost use Rattle.std.specs.Prelude.{◌≡◌, ◌⊎◌, IfOk, OnOk, OnErr};
+ghost use Rattle.swf_host.specs.Script.{coming, failed, half, lacked, play, first_play, input_taken, piece_said, AfterNext, AfterSaid};
+ghost use Rattle.swf_store.specs.Faults.{HasCause, RoseOnce};
 
 use crate::Input;
 use std::alloc::{AllocError, Global};
@@ -100,6 +100,30 @@ impl Script {
         Ok(())
     }
 
+    // A call that finds no memory fails.
+    fn lack(&mut self) -> Failed
+        ensures play { play self.new ≡ lacked (play self.old) }
+        ensures rose { RoseOnce self.old.faults self.new.faults }
+    {
+        self.lacks = self.lacks.saturating_add(1);
+        self.faults = self.faults.saturating_add(1);
+        Failed
+    }
+
+    // A call that fails says the first half of its bytes.
+    fn cut(&mut self, alloc: Global, conn: u64, bytes: &[u8], calls: u64) -> Failed
+        ensures play { (play self.new ≡ failed (piece_said conn (half bytes.now) calls (play self.old))) ⊎ (play self.new ≡ lacked (play self.old)) }
+        ensures rose { RoseOnce self.old.faults self.new.faults }
+    {
+        match self.keep(alloc, conn, &bytes[..bytes.len() / 2], calls) {
+            Ok(()) => {
+                self.faults = self.faults.saturating_add(1);
+                Failed
+            }
+            Err(_) => self.lack(),
+        }
+    }
+
     pub(crate) fn next(&mut self, alloc: Global) -> Result<Input, Failed>
         ensures play { AfterNext (play self.old) result (play self.new) }
         ensures cause { HasCause self.old.faults self.new.faults result }
@@ -112,11 +136,7 @@ impl Script {
         }
         match self.take(alloc) {
             Ok(input) => Ok(input),
-            Err(_) => {
-                self.lacks = self.lacks.saturating_add(1);
-                self.faults = self.faults.saturating_add(1);
-                Err(Failed)
-            }
+            Err(_) => Err(self.lack()),
         }
     }
 
@@ -133,16 +153,11 @@ impl Script {
         let call = self.says;
         self.says = call.saturating_add(1);
         if self.failing_say.contains(&call) {
-            self.faults = self.faults.saturating_add(1);
-            return Err(Failed);
+            return Err(self.cut(alloc, conn, bytes, calls));
         }
         match self.keep(alloc, conn, bytes, calls) {
             Ok(()) => Ok(()),
-            Err(_) => {
-                self.lacks = self.lacks.saturating_add(1);
-                self.faults = self.faults.saturating_add(1);
-                Err(Failed)
-            }
+            Err(_) => Err(self.lack()),
         }
     }
 }

@@ -14,7 +14,7 @@ use Rattle.swf_store.specs.Stops.{LeavesOnly}
 use Rattle.swf_store.proofs.Moments.{goes_on_only}
 use Rattle.swf_journal.specs.declared.reading.Head.TheVariants.{Shut, Cut, Open}
 use Rattle.swf_journal.specs.Frames.{header, open_gate, length_bytes, frames_bytes}
-use Rattle.swf_journal.specs.Opening.{begun, opened, IsFrame, IsHead, IsDamage, KeepsFrames}
+use Rattle.swf_journal.specs.Opening.{begun, opened, IsFrame, IsHead, IsDamage, IsUntouched, KeepsFrames}
 use Rattle.swf_journal.specs.Place.{Place, HasRead, IsReadingOf}
 use Rattle.swf_journal.specs.Stands.{IsShutAfter, StandsFor}
 use Rattle.swf_journal.proofs.FrameLemmas.{length-header, length-length_bytes, same_length, parts_are, frames_push, next_push, fit_push}
@@ -202,3 +202,13 @@ begun_reading old new place honest file gate made = λ image seen.
       is.1 ∙ ap (λ (i : Image). length i.journal) same ∙ ap (λ (f : File). length (bytes_of image f)) (sym file),
       omega (arith, gate, is.2),
     )
+
+module _ {S : Type 0} (moment : S → ℕ) (left_since : S → ℕ → Image → List Piece → Type 0) (said : S → Option (List Piece)) (may_leave : S → Image → Type 0) (seen : S → Option Image) where
+  -- one look after another touches nothing
+  pub looks_untouched : (old mid new : S) → said mid ≡ said old → seen mid ≡ seen old → NothingNew (may_leave old) (may_leave mid) → LeavesOnly moment left_since said old mid (may_leave old)
+      → seen new ≡ seen mid → NothingNew (may_leave mid) (may_leave new) → LeavesOnly moment left_since said mid new (may_leave mid) → IsUntouched moment left_since said may_leave seen old new
+  looks_untouched old mid new silent same stop first same' stop' second = record {
+    same = same' ∙ same;
+    stop = λ image may. stop image (stop' image may);
+    any_moment = goes_on_only moment left_since said old mid new (may_leave old) (may_leave mid) (may_leave old) silent first second (λ image may. may) (λ image may. stop image may);
+  }

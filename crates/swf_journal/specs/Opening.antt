@@ -4,6 +4,7 @@ use Rattle.std.specs.declared.alloc.Global.{Global}
 use Rattle.swf_store.specs.declared.image.File.TheVariants.{Journal}
 use Rattle.swf_store.specs.declared.image.Image.{Image}
 use Rattle.swf_store.specs.declared.said.Piece.{Piece}
+use Rattle.swf_store.specs.Disk.{NothingNew}
 use Rattle.swf_store.specs.Stops.{LeavesOnly}
 use Rattle.swf_store.specs.Files.{with_bytes}
 use Rattle.swf_journal.specs.declared.reading.Head.{Head}
@@ -56,3 +57,9 @@ abbrev pub Opens : {S : Type 0} → (S → ℕ) → (S → ℕ → Image → Lis
 Opens {S} moment left_since said may_leave old new image =
     LeavesOnly moment left_since said old new (may_leave old)
     ⊎ ((synced : S) × (said synced ≡ said old) × LeavesOnly moment left_since said old synced (may_leave old) × LeavesOnly moment left_since said synced new (KeepsFrames image))
+
+-- the store is as it was: what reads give, and what a stop at any moment may leave
+pub record IsUntouched {S : Type 0} (moment : S → ℕ) (left_since : S → ℕ → Image → List Piece → Type 0) (said : S → Option (List Piece)) (may_leave : S → Image → Type 0) (seen : S → Option Image) (old new : S) : Type 0 where
+  pub same : seen new ≡ seen old
+  pub stop : NothingNew (may_leave old) (may_leave new)
+  pub any_moment : LeavesOnly moment left_since said old new (may_leave old)

@@ -10,8 +10,8 @@ ghost use Rattle.swf_store.specs.Put.{put};
 ghost use Rattle.swf_store.specs.Stops.{LeavesOnly};
 ghost use Rattle.swf_journal.specs.Causes.{OpenCause};
 ghost use Rattle.swf_journal.specs.Frames.{header};
-ghost use Rattle.swf_journal.specs.JournalCalls.{IsBegun, IsBegunSynced};
-ghost use Rattle.swf_journal.specs.Opening.{begun, opened, HasNoHeader, KeepsFrames, Opens};
+ghost use Rattle.swf_journal.specs.JournalCalls.{IsBegun, IsBegunSynced, header_calls};
+ghost use Rattle.swf_journal.specs.Opening.{begun, opened, HasNoHeader, IsUntouched, KeepsFrames, Opens};
 ghost use Rattle.swf_journal.specs.Place.{HasRead, IsReadingOf};
 ghost use Rattle.swf_journal.specs.Stands.{Stands, IsShutAfter};
 
@@ -46,6 +46,8 @@ pub fn begin<S: Store>(store: &mut S) -> Result<Reading, OpenFault>
     // Until its first sync has succeeded a stop leaves what it might have left before,
     // and from then on a journal that stands for the same frames.
     ensures any_moment { ForSome (S.seen store.old) (Opens S.moment S.left_since S.said S.may_leave store.old store.new) }
+    // A journal that has room for a frame is only read.
+    ensures untouched { ForSome (S.seen store.old) (λ image. 25 ≤ length image.journal → IsUntouched S.moment S.left_since S.said S.may_leave S.seen store.old store.new) }
 
     ensures damaged { ForSome (S.seen store.old) (λ image. (at : ℕ) → result ≡ Err (OpenFault.Damaged at) → (at ≡ 0) × (25 ≤ length image.journal) × (take 16 image.journal ≢ header)) }
     ensures enough { IsErrOf result OpenFault.OutOfMemory → ⊥ }
@@ -71,6 +73,7 @@ pub fn begin_again<S: Store>(store: &mut S) -> Result<Reading, OpenFault>
     ensures any_moment { LeavesOnly S.moment S.left_since S.said store.old store.new (S.may_leave store.old) }
     ensures said { S.said store.new ≡ S.said store.old }
     ensures beside { S.beside store.new ≡ S.beside store.old }
+    ensures calls { Makes (header_calls false) (S.calls store.old) (S.calls store.new) result }
     ensures cause { OpenCause (S.store_faults store.old) (S.store_faults store.new) result }
 {
     let size = journal_size(store)?;
@@ -84,6 +87,7 @@ pub fn begin_again<S: Store>(store: &mut S) -> Result<Reading, OpenFault>
 fn sync_first<S: Store>(store: &mut S) -> Result<(), Failed>
     ensures durable { ForSome (S.seen store.old) (λ image. OnOk result (Only image (S.may_leave store.new))) }
     ensures seen { S.seen store.new ≡ S.seen store.old }
+    ensures stop { NothingNew (S.may_leave store.old) (S.may_leave store.new) }
     ensures any_moment { LeavesOnly S.moment S.left_since S.said store.old store.new (S.may_leave store.old) }
     ensures said { S.said store.new ≡ S.said store.old }
     ensures beside { S.beside store.new ≡ S.beside store.old }
@@ -103,6 +107,7 @@ fn begin_synced<S: Store>(store: &mut S) -> Result<Reading, OpenFault>
     ensures durable { ForSome (S.seen store.old) (λ image. OnOk result (Only (opened image) (S.may_leave store.new))) }
     ensures honest { is_some (S.seen store.new) ≡ is_some (S.seen store.old) }
     ensures any_moment { ForSome (S.seen store.old) (λ image. LeavesOnly S.moment S.left_since S.said store.old store.new (KeepsFrames image)) }
+    ensures untouched { ForSome (S.seen store.old) (λ image. 25 ≤ length image.journal → IsUntouched S.moment S.left_since S.said S.may_leave S.seen store.old store.new) }
     ensures damaged { ForSome (S.seen store.old) (λ image. (at : ℕ) → result ≡ Err (OpenFault.Damaged at) → (at ≡ 0) × (25 ≤ length image.journal) × (take 16 image.journal ≢ header)) }
     ensures enough { IsErrOf result OpenFault.OutOfMemory → ⊥ }
     ensures said { S.said store.new ≡ S.said store.old }

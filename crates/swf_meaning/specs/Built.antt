@@ -1,22 +1,23 @@
 -- Which kinds of task are built, and so which documents can be loaded.
 use Rattle.std.specs.Prelude.{ℕ, List, [], ◌∷◌, Bool, true, false, Option, Some, None, if◌then◌else◌}
-use Rattle.swf_document.specs.Task.{Tasks, no_tasks, named, Task, task, Kind, do_all, emit, for, fork, listen, raise, set, switch, try, wait, Handler, no_handler, handler}
+use Rattle.swf_document.specs.Task.{Tasks, no_tasks, named, Task, task, Kind, call, do_all, emit, for, fork, listen, raise, run, set, switch, try, wait, Handler, no_handler, handler}
 use Rattle.swf_document.specs.declared.document.Document.{Document}
 use Rattle.swf_document.specs.declared.fault.Fault.{Fault}
 use Rattle.swf_document.specs.declared.fault.FaultKind.TheVariants.{NotInProfile}
 
 abbrev pub is_built : Kind → Bool
+is_built (call c) = false
 is_built (do_all ts) = true
 is_built (emit e) = true
 is_built (for l ts) = true
 is_built (fork c ts) = true
 is_built (listen l) = true
 is_built (raise e) = true
+is_built (run s) = false
 is_built (set e) = true
 is_built (switch cs) = true
 is_built (try c ts h) = true
 is_built (wait d) = true
-is_built k = false
 
 abbrev pub or_else : {A : Type 0} → Option A → Option A → Option A
 or_else (Some a) b = Some a
@@ -33,11 +34,18 @@ abbrev mutual
   unbuilt_task (task c k) = if is_built k then unbuilt_kind k else Some c.place
 
   unbuilt_kind : Kind → Option (List (List ℕ))
+  unbuilt_kind (call c) = None
   unbuilt_kind (do_all ts) = unbuilt ts
+  unbuilt_kind (emit e) = None
   unbuilt_kind (for l ts) = unbuilt ts
   unbuilt_kind (fork c ts) = unbuilt ts
+  unbuilt_kind (listen l) = None
+  unbuilt_kind (raise e) = None
+  unbuilt_kind (run s) = None
+  unbuilt_kind (set e) = None
+  unbuilt_kind (switch cs) = None
   unbuilt_kind (try c ts h) = or_else (unbuilt_handler h) (unbuilt ts)
-  unbuilt_kind k = None
+  unbuilt_kind (wait d) = None
 
   unbuilt_handler : Handler → Option (List (List ℕ))
   unbuilt_handler no_handler = None

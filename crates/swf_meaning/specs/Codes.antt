@@ -1,19 +1,19 @@
 -- Codes for labels, nodes and worlds, by which a ghost name tells them apart.
-use Rattle.std.specs.Prelude.{◌≡◌, refl, ℕ, List}
-use Rattle.std.specs.Coded.{Coded, codes, coded_list, coded_ℕ}
+use Rattle.std.specs.Prelude.{◌≡◌, refl, ℕ}
+use Rattle.std.specs.Coded.{Coded, codes, coded_list}
 use base.Stored.{Gv, gnil, gnum, gcons}
 use mathlib.Core.Path.{ap}
 use Rattle.swf_value.specs.ValueCode.{value_code, members_code}
 use Rattle.swf_cloudevents.specs.Codes.{event_code}
 use Rattle.swf_document.specs.Code.{head, tail}
-use Rattle.swf_document.specs.DocumentCode.{key_code, document_code}
+use Rattle.swf_document.specs.DocumentCode.{document_code}
 use Rattle.swf_document.specs.TaskCode.{task_code}
 use Rattle.swf_document.specs.declared.common.Flow.{Flow}
 use Rattle.swf_document.specs.declared.error.Problem.{Problem}
 use Rattle.swf_meaning.specs.declared.heard.Heard.{Heard}
 use Rattle.swf_meaning.specs.declared.label.Label.{Label}
-use Rattle.swf_meaning.specs.Node.{Node, Fresh, Live, Done, Fault, Inside, At, Later, Sleep, Hear, Forked, Nodes, no_nodes, branch, Round, Seq, Each, Try, Catch}
-use Rattle.swf_meaning.specs.World.{Instance, Loaded, World}
+use Rattle.swf_meaning.specs.Node.{Node, Fresh, Live, Done, Fault, Inside, At, Later, Sleep, Hear, Forked, Nodes, no_nodes, branch, Round, Seq, Each, Try, Catch, Running}
+use Rattle.swf_meaning.specs.World.{Instance, World}
 
 pub label_code : Coded Label
 label_code = hlevel (codes, value_code, members_code)
@@ -26,6 +26,9 @@ problem_code = hlevel codes
 
 pub heard_code : Coded Heard
 heard_code = hlevel (codes, event_code)
+
+pub running_code : Coded Running
+running_code = hlevel (codes, task_code, value_code)
 
 abbrev number_in : Gv → ℕ
 number_in gnil = 0
@@ -48,7 +51,7 @@ code_round_inj x y p = cc
 abbrev mutual
   code_node : Node → Gv
   code_node (Fresh t v) = gcons (gnum 0) (gcons (task_code.code t) (value_code.code v))
-  code_node (Live t v u k) = gcons (gnum 1) (gcons (task_code.code t) (gcons (value_code.code v) (gcons (value_code.code u) (code_inside k))))
+  code_node (Live r k) = gcons (gnum 1) (gcons (running_code.code r) (code_inside k))
   code_node (Done w f) = gcons (gnum 2) (gcons (value_code.code w) (flow_code.code f))
   code_node (Fault p) = gcons (gnum 3) (problem_code.code p)
 
@@ -66,10 +69,7 @@ abbrev mutual
 mutual
   pub code_node_inj : (x y : Node) → code_node x ≡ code_node y → x ≡ y
   code_node_inj (Fresh t v) (Fresh s w) p = λ i. Fresh (task_code.inj t s (ap (λ g. head (tail g)) p) i) (value_code.inj v w (ap (λ g. tail (tail g)) p) i)
-  code_node_inj (Live t v u k) (Live s w x l) p =
-      λ i. Live (task_code.inj t s (ap (λ g. head (tail g)) p) i) (value_code.inj v w (ap (λ g. head (tail (tail g))) p) i)
-      (value_code.inj u x (ap (λ g. head (tail (tail (tail g)))) p) i)
-      (code_inside_inj k l (ap (λ g. tail (tail (tail (tail g)))) p) i)
+  code_node_inj (Live r k) (Live s l) p = λ i. Live (running_code.inj r s (ap (λ g. head (tail g)) p) i) (code_inside_inj k l (ap (λ g. tail (tail g)) p) i)
   code_node_inj (Done v f) (Done w g) p = λ i. Done (value_code.inj v w (ap (λ g. head (tail g)) p) i) (flow_code.inj f g (ap (λ g. tail (tail g)) p) i)
   code_node_inj (Fault p) (Fault q) e = ap Fault (problem_code.inj p q (ap tail e))
   code_node_inj x y p = cc

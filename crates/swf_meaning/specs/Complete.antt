@@ -1,56 +1,69 @@
 -- How a task ends: with its output and its context, or with an error (DSL, "Data flow", "Output" and "Export"; "Error").
-use Rattle.std.specs.Prelude.{ℕ, List, Option, Some, None, codes, if◌then◌else◌}
+use Rattle.std.specs.Prelude.{ℕ, List, Bool, Option, Some, None, Result, Ok, Err, codes, if◌then◌else◌}
+use Rattle.swf_expr.specs.Expr.{Tree}
 use Rattle.swf_value.specs.Value.{Value}
+use Rattle.swf_jq_builtins.specs.Operations.{is_true}
+use Rattle.swf_jq_eval.specs.declared.vars.Variable.{Variable}
 use Rattle.swf_cloudevents.specs.declared.event.Event.{Event}
-use Rattle.swf_document.specs.Errors.{standard}
 use Rattle.swf_document.specs.Task.{Task}
 use Rattle.swf_document.specs.Template.{Template}
 use Rattle.swf_document.specs.declared.common.Flow.{Flow}
-use Rattle.swf_document.specs.declared.error.ErrorKind.{ErrorKind}
 use Rattle.swf_document.specs.declared.error.ErrorKind.TheVariants as kinds
-use Rattle.swf_transform.specs.Fill.{fill, transformed, is_within, message}
-use Rattle.swf_transform.specs.declared.got.Got.{Got}
-use Rattle.swf_transform.specs.declared.got.Got.TheVariants as gots
-use Rattle.swf_meaning.specs.Node.{Node, Done, Fault}
-use Rattle.swf_meaning.specs.Parts.{common_of, place_of}
-use Rattle.swf_meaning.specs.Sight.{Sight, within, behind}
+use Rattle.swf_document.specs.declared.error.Problem.{Problem}
+use Rattle.swf_transform.specs.Fill.{fill, first_of, transformed, is_within}
+use Rattle.swf_meaning.specs.Line.{Line, before, within, behind}
+use Rattle.swf_meaning.specs.Node.{Node, Done, Fault, Running}
+use Rattle.swf_meaning.specs.Parts.{common_of}
+use Rattle.swf_meaning.specs.Rule.{◌>>=◌, fails, value_of}
 
--- what a step leads to: the node in place of the one that took it, the context, and the event that goes out, where one does
+-- what a step leads to: the node in place of the one that took it, the context, how many of the instance's numbers it used, and the
+-- event that goes out, where one does
 pub record Stepped : Type 0 where
   pub node : Node
   pub context : Value
+  pub used : ℕ
   pub emitted : Option Event
 
--- the context stays
-abbrev pub becomes : Sight → Node → Stepped
-becomes s n = record { node = n; context = s.context; emitted = None }
+-- the context stays, and nothing goes out
+abbrev pub becomes : Line → Node → Stepped
+becomes l n = record { node = n; context = l.context; used = 0; emitted = None }
 
--- the task ends in a standard error at its place
-abbrev pub fails : Sight → Task → ErrorKind → List ℕ → Stepped
-fails s t k detail = becomes s (Fault (standard k (place_of t) detail))
+-- a task whose rule ends in an error ends in it
+abbrev pub step_of : Line → Result Stepped Problem → Stepped
+step_of l (Ok m) = m
+step_of l (Err p) = becomes l (Fault p)
 
--- goes on with a value that was evaluated for a task, or ends in the error
-abbrev pub with_got : Sight → Task → Got Value → (Value → Stepped) → Stepped
-with_got s t (gots.Value v) f = f v
-with_got s t (gots.Raised m) f = fails s t kinds.Expression (message m)
-with_got s t gots.TooLarge f = fails s t kinds.Runtime (codes "value limit")
-with_got s t gots.Limit f = fails s t kinds.Runtime (codes "expression limit")
+-- an expression is asked on a value
+abbrev pub asked : Task → List Variable → Value → Tree → Result Bool Problem
+asked t vars u e = do
+  v ← value_of t (first_of e vars u)
+  Ok (is_true v)
+
+-- Enter: `input.from` on the raw input
+abbrev pub input_of : Line → Task → Value → Result Value Problem
+input_of l t v = value_of t (transformed (common_of t).input_from (before l t v) v)
+
+-- `output.as` on the raw output
+abbrev pub output_of : Line → Running → Value → Result Value Problem
+output_of l r raw = value_of r.task (transformed (common_of r.task).output_as (within l r) raw)
 
 abbrev pub finished : Value → Flow → Value → Stepped
-finished w f c = record { node = Done w f; context = c; emitted = None }
+finished w f c = record { node = Done w f; context = c; used = 0; emitted = None }
 
 -- the transformed output w becomes the task's, and what `export.as` gives the context
-abbrev pub exported : Sight → Task → Value → Value → Flow → Value → Option Template → Stepped
-exported s t v u f w None = finished w f s.context
-exported s t v u f w (Some e) = with_got s t (fill e (behind s t v u w) w) (finished w f)
+abbrev pub exported : Line → Running → Flow → Value → Option Template → Result Stepped Problem
+exported l r f w None = Ok (finished w f l.context)
+exported l r f w (Some e) = do
+  c ← value_of r.task (fill e (behind l r w) w)
+  Ok (finished w f c)
 
 -- Complete: the limit on the raw output, `output.as`, `export.as`, and control goes on by f
-abbrev pub complete_by : Sight → Task → Value → Value → Flow → Value → Stepped
-complete_by s t v u f raw =
+abbrev pub complete_by : Line → Running → Flow → Value → Result Stepped Problem
+complete_by l r f raw =
     if is_within raw
-    then with_got s t (transformed (common_of t).output_as (within s t v u) raw) (λ w. exported s t v u f w (common_of t).export_as)
-    else fails s t kinds.Runtime (codes "value limit")
+    then (output_of l r raw >>= λ w. exported l r f w (common_of r.task).export_as)
+    else fails r.task kinds.Runtime (codes "value limit")
 
 -- by the task's own `then`
-abbrev pub complete : Sight → Task → Value → Value → Value → Stepped
-complete s t v u raw = complete_by s t v u (common_of t).flow raw
+abbrev pub complete : Line → Running → Value → Result Stepped Problem
+complete l r raw = complete_by l r (common_of r.task).flow raw

@@ -1,14 +1,16 @@
 -- A task whose branches run beside each other (DSL reference, "Fork").
-use Rattle.std.specs.Prelude.{◌+◌, ℕ, zero, suc, List, [], ◌∷◌, Bool, nat_le, codes, Option, Some, None, option_map, if◌then◌else◌}
+use Rattle.std.specs.Prelude.{◌+◌, ℕ, zero, suc, List, [], ◌∷◌, Bool, false, nat_le, codes, Option, Some, None, option_map, Result, Ok, Err, if◌then◌else◌}
 use Rattle.swf_value.specs.Node.{items_of}
 use Rattle.swf_value.specs.Value.{Value, list}
+use Rattle.swf_document.specs.Task.{Task, Tasks, no_tasks, named}
 use Rattle.swf_document.specs.declared.common.Flow.TheVariants as flows
 use Rattle.swf_document.specs.declared.error.ErrorKind.TheVariants as kinds
-use Rattle.swf_document.specs.Task.{Task, Tasks, no_tasks, named, Kind, fork}
-use Rattle.swf_meaning.specs.Parts.{kind_of}
-use Rattle.swf_meaning.specs.Node.{Node, Fresh, Live, Done, Fault, Inside, At, Later, Sleep, Hear, Forked, Nodes, no_nodes, branch}
-use Rattle.swf_meaning.specs.Sight.{Sight}
-use Rattle.swf_meaning.specs.Complete.{Stepped, becomes, fails, complete}
+use Rattle.swf_document.specs.declared.error.Problem.{Problem}
+use Rattle.swf_meaning.specs.Complete.{Stepped, becomes, step_of, complete}
+use Rattle.swf_meaning.specs.Line.{Line, Site}
+use Rattle.swf_meaning.specs.Node.{Node, Fresh, Live, Done, Fault, Inside, At, Later, Sleep, Hear, Forked, Nodes, no_nodes, branch, Running}
+use Rattle.swf_meaning.specs.Parts.{Branches, kind_of, fork_in}
+use Rattle.swf_meaning.specs.Rule.{fails}
 
 -- how many branches
 abbrev pub count : Nodes → ℕ
@@ -19,31 +21,39 @@ count (branch n ns) = suc (count ns)
 abbrev mutual
   pub branches_in : Node → ℕ
   branches_in (Fresh t v) = zero
-  branches_in (Live t v u k) = branches_inside k
+  branches_in (Live r k) = branches_inside k
   branches_in (Done w f) = zero
   branches_in (Fault p) = zero
 
-  branches_inside : Inside → ℕ
-  branches_inside (At r i n) = branches_in n
+  pub branches_inside : Inside → ℕ
+  branches_inside (At round i n) = branches_in n
   branches_inside (Later n m) = zero
   branches_inside (Sleep m) = zero
   branches_inside (Hear bound hs) = zero
   branches_inside (Forked ns) = count ns + branches_among ns
 
-  branches_among : Nodes → ℕ
+  pub branches_among : Nodes → ℕ
   branches_among no_nodes = zero
   branches_among (branch n ns) = branches_in n + branches_among ns
 
 abbrev pub most_branches : ℕ
 most_branches = 256
 
--- the branches of a task of this kind
-abbrev pub branches_in_kind : Kind → Tasks
-branches_in_kind (fork c ts) = ts
-branches_in_kind k = no_tasks
+abbrev pub or_none : Option Branches → Tasks
+or_none None = no_tasks
+or_none (Some b) = b.tasks
 
+-- the branches of a task
 abbrev pub branches_of : Task → Tasks
-branches_of t = branches_in_kind (kind_of t)
+branches_of t = or_none (fork_in (kind_of t))
+
+abbrev pub or_not : Option Branches → Bool
+or_not None = false
+or_not (Some b) = b.compete
+
+-- whether the branches of a task compete
+abbrev pub competes : Task → Bool
+competes t = or_not (fork_in (kind_of t))
 
 -- one branch for each task, none of which has begun
 abbrev pub fresh : Tasks → Value → Nodes
@@ -51,12 +61,15 @@ fresh no_tasks u = no_nodes
 fresh (named k t ts) u = branch (Fresh t u) (fresh ts u)
 
 -- Enter: a `fork` begins where the instance has room for its branches; one without branches is complete at once
-abbrev pub split : Sight → Task → Value → Value → Nodes → Stepped
-split s t v u no_nodes = complete s t v u (list (items_of []))
-split s t v u (branch n ns) = becomes s (Live t v u (Forked (branch n ns)))
+abbrev pub split : Line → Running → Nodes → Result Stepped Problem
+split l r no_nodes = complete l r (list (items_of []))
+split l r (branch n ns) = Ok (becomes l (Live r (Forked (branch n ns))))
 
-abbrev pub forking : Sight → Task → Value → Value → Tasks → Stepped
-forking s t v u ts = if nat_le (s.branches + count (fresh ts u)) most_branches then split s t v u (fresh ts u) else fails s t kinds.Runtime (codes "strand limit")
+abbrev pub forking : Site → Line → Running → Tasks → Result Stepped Problem
+forking s l r ts =
+    if nat_le (s.branches + count (fresh ts r.input)) most_branches
+    then split l r (fresh ts r.input)
+    else fails r.task kinds.Runtime (codes "strand limit")
 
 -- another node in place of the branch of a number
 abbrev pub put : Nodes → ℕ → Node → Nodes
@@ -67,7 +80,7 @@ put (branch n ns) (suc b) m = branch n (put ns b m)
 -- the output of a branch that is done, before others
 abbrev pub output_before : Node → Option (List Value) → Option (List Value)
 output_before (Fresh t v) ws = None
-output_before (Live t v u k) ws = None
+output_before (Live r k) ws = None
 output_before (Done w f) ws = option_map (λ ws. w ∷ ws) ws
 output_before (Fault p) ws = None
 
@@ -77,20 +90,23 @@ outputs no_nodes = Some []
 outputs (branch n ns) = output_before n (outputs ns)
 
 -- the branches go on until the last one is done
-abbrev pub joined : Sight → Task → Value → Value → Nodes → Option (List Value) → Stepped
-joined s t v u ns None = becomes s (Live t v u (Forked ns))
-joined s t v u ns (Some ws) = complete s t v u (list (items_of ws))
+abbrev pub joined : Line → Running → Nodes → Option (List Value) → Result Stepped Problem
+joined l r ns None = Ok (becomes l (Live r (Forked ns)))
+joined l r ns (Some ws) = complete l r (list (items_of ws))
 
 -- Settle: what becomes of a `fork` that has these branches, one of which came to that node. An error ends it, and so does `end`;
 -- the first branch that is done wins where they compete
-abbrev pub settled : Sight → Task → Value → Value → Bool → Nodes → Node → Stepped
-settled s t v u compete ns (Fresh q w) = becomes s (Live t v u (Forked ns))
-settled s t v u compete ns (Live q w x k) = becomes s (Live t v u (Forked ns))
-settled s t v u compete ns (Done w flows.End) = becomes s (Done w flows.End)
-settled s t v u compete ns (Done w f) = if compete then complete s t v u w else joined s t v u ns (outputs ns)
-settled s t v u compete ns (Fault p) = becomes s (Fault p)
+abbrev pub settled : Line → Running → Bool → Nodes → Node → Result Stepped Problem
+settled l r compete ns (Fresh t v) = Ok (becomes l (Live r (Forked ns)))
+settled l r compete ns (Live q k) = Ok (becomes l (Live r (Forked ns)))
+settled l r compete ns (Done w flows.End) = Ok (becomes l (Done w flows.End))
+settled l r compete ns (Done w f) = if compete then complete l r w else joined l r ns (outputs ns)
+settled l r compete ns (Fault p) = Err p
 
--- a branch took its step, and its `fork` sees the context that it left
-abbrev pub after_branch : Sight → Task → Value → Value → Bool → Nodes → ℕ → Stepped → Stepped
-after_branch s t v u compete ns b m =
-    record (settled (record s { context = m.context }) t v u compete (put ns b m.node) m.node) { emitted = m.emitted }
+-- what the `fork` comes to where it sees the context that the branch left
+abbrev pub settling : Line → Running → Nodes → ℕ → Stepped → Stepped
+settling l r ns b m = let k = record l { context = m.context } in step_of k (settled k r (competes r.task) (put ns b m.node) m.node)
+
+-- a branch took its step
+abbrev pub after_branch : Line → Running → Nodes → ℕ → Stepped → Stepped
+after_branch l r ns b m = record (settling l r ns b m) { used = m.used; emitted = m.emitted }

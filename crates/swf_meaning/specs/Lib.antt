@@ -1,6 +1,7 @@
 pub mod Parts
 pub mod Node
-pub mod Sight
+pub mod Line
+pub mod Rule
 pub mod Around
 pub mod Complete
 pub mod Next

@@ -1,5 +1,5 @@
 -- `listen` (DSL reference, "Listen", "Event Consumption Strategy" and "Correlation").
-use Rattle.std.specs.Prelude.{◌==◌, ◌+◌, ℕ, zero, List, [], ◌∷◌, ◌++◌, Bool, true, false, codes, length, map, flat_map, nat_le, nat_lt, Option, Some, None, if◌then◌else◌}
+use Rattle.std.specs.Prelude.{◌==◌, ◌+◌, ℕ, zero, List, [], ◌∷◌, ◌++◌, Bool, true, false, codes, length, map, flat_map, nat_le, nat_lt, Option, Some, None, Result, Ok, if◌then◌else◌}
 use Rattle.std.specs.List.{list_any}
 use Rattle.swf_value.specs.Members.{at, put}
 use Rattle.swf_value.specs.Node.{items_of}
@@ -10,9 +10,10 @@ use Rattle.swf_cloudevents.specs.Event.{event_value}
 use Rattle.swf_cloudevents.specs.declared.event.Event.{Event}
 use Rattle.swf_cloudevents.specs.declared.event.Payload.{Payload}
 use Rattle.swf_cloudevents.specs.declared.event.Payload.TheVariants as payloads
-use Rattle.swf_document.specs.Task.{Task, Kind, listen}
+use Rattle.swf_document.specs.Task.{Task}
 use Rattle.swf_document.specs.Template.{Template}
 use Rattle.swf_document.specs.declared.error.ErrorKind.TheVariants as kinds
+use Rattle.swf_document.specs.declared.error.Problem.{Problem}
 use Rattle.swf_document.specs.declared.event.Correlation.{Correlation}
 use Rattle.swf_document.specs.declared.event.Filter.{Filter}
 use Rattle.swf_document.specs.declared.event.ListenMode.{ListenMode}
@@ -20,34 +21,41 @@ use Rattle.swf_document.specs.declared.event.ListenMode.TheVariants.{One, Any, A
 use Rattle.swf_document.specs.declared.event.ListenSpec.{ListenSpec}
 use Rattle.swf_transform.specs.Fill.{fill}
 use Rattle.swf_transform.specs.Filter.{correlated}
-use Rattle.swf_meaning.specs.Node.{Live, Hear}
-use Rattle.swf_meaning.specs.Parts.{kind_of}
-use Rattle.swf_meaning.specs.Sight.{Sight, within}
-use Rattle.swf_meaning.specs.Complete.{Stepped, becomes, fails, with_got, complete}
+use Rattle.swf_meaning.specs.Complete.{Stepped, becomes, complete}
+use Rattle.swf_meaning.specs.Line.{Line, within}
+use Rattle.swf_meaning.specs.Node.{Live, Hear, Running}
+use Rattle.swf_meaning.specs.Parts.{kind_of, listen_in}
+use Rattle.swf_meaning.specs.Rule.{◌>>=◌, fails, value_of}
 use Rattle.swf_meaning.specs.declared.heard.Heard.{Heard}
 
 -- a name is bound once, or again to the same value
-abbrev pub agree : Sight → Task → Value → Option Value → Stepped → Stepped
-agree s t w None m = m
-agree s t w (Some x) m = if is_same x w then m else fails s t kinds.Expression (codes "cannot correlate")
+abbrev pub bound_with : Task → List ℕ → Value → Option Value → Members → Result Members Problem
+bound_with t x w None bound = Ok (put x w bound)
+bound_with t x w (Some y) bound = if is_same y w then Ok (put x w bound) else fails t kinds.Expression (codes "cannot correlate")
 
 -- an `expect` that is there is filled, and its value is bound to the name
-abbrev pub expecting : Sight → Task → List Variable → Value → List ℕ → Members → Option Template → (Members → Stepped) → Stepped
-expecting s t r u x bound None f = f bound
-expecting s t r u x bound (Some e) f = with_got s t (fill e r u) (λ w. agree s t w (at x bound) (f (put x w bound)))
+abbrev pub expecting : Task → List Variable → Value → List ℕ → Option Template → Members → Result Members Problem
+expecting t vars u x None bound = Ok bound
+expecting t vars u x (Some e) bound = do
+  w ← value_of t (fill e vars u)
+  bound_with t x w (at x bound) bound
 
--- those of correlations in order, and then the task listens
-abbrev pub bound_by : Sight → Task → Value → Value → List Correlation → Members → Stepped
-bound_by s t v u [] bound = becomes s (Live t v u (Hear bound []))
-bound_by s t v u (c ∷ cs) bound = expecting s t (within s t v u) u c.name bound c.expect (bound_by s t v u cs)
+-- those of correlations in order
+abbrev pub bound_by : Task → List Variable → Value → List Correlation → Members → Result Members Problem
+bound_by t vars u [] bound = Ok bound
+bound_by t vars u (c ∷ cs) bound = do
+  more ← expecting t vars u c.name c.expect bound
+  bound_by t vars u cs more
 
 -- the correlations of all filters, in the order of the filters and of names
 abbrev pub correlations : List Filter → List Correlation
 correlations fs = flat_map (λ f. f.correlate) fs
 
 -- a `listen` begins
-abbrev pub listening : Sight → Task → Value → Value → ListenSpec → Stepped
-listening s t v u l = bound_by s t v u (correlations l.filters) no_members
+abbrev pub listening : Line → Running → ListenSpec → Result Stepped Problem
+listening l r spec = do
+  bound ← bound_by r.task (within l r) r.input (correlations spec.filters) no_members
+  Ok (becomes l (Live r (Hear bound [])))
 
 -- one event satisfies `one` and `any`, and one for each filter `all`
 abbrev pub suffices : ListenMode → ℕ → ℕ → Bool
@@ -95,18 +103,18 @@ read_as false e = data_of e.payload
 abbrev pub events_of : ListenSpec → List Heard → Value
 events_of l hs = list (items_of (map (λ h. read_as l.envelope h.event) hs))
 
-abbrev pub is_heard_in : Kind → List Heard → Bool
-is_heard_in (listen l) hs = is_satisfied l hs
-is_heard_in k hs = false
+abbrev pub is_heard_by : List Heard → Option ListenSpec → Bool
+is_heard_by hs None = false
+is_heard_by hs (Some l) = is_satisfied l hs
 
 -- the task listens no more
 abbrev pub is_heard : Task → List Heard → Bool
-is_heard t hs = is_heard_in (kind_of t) hs
+is_heard t hs = is_heard_by hs (listen_in (kind_of t))
 
-abbrev pub heard_in : Sight → Task → Value → Value → List Heard → Kind → Option Stepped
-heard_in s t v u hs (listen l) = if is_satisfied l hs then Some (complete s t v u (events_of l hs)) else None
-heard_in s t v u hs k = None
+abbrev pub heard_by : Line → Running → List Heard → Option ListenSpec → Option (Result Stepped Problem)
+heard_by l r hs None = None
+heard_by l r hs (Some spec) = if is_satisfied spec hs then Some (complete l r (events_of spec hs)) else None
 
 -- Wake: a `listen` that is satisfied is complete
-abbrev pub heard : Sight → Task → Value → Value → List Heard → Option Stepped
-heard s t v u hs = heard_in s t v u hs (kind_of t)
+abbrev pub heard : Line → Running → List Heard → Option (Result Stepped Problem)
+heard l r hs = heard_by l r hs (listen_in (kind_of r.task))

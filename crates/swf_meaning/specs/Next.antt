@@ -1,15 +1,15 @@
 -- Where control goes after a task of a list (DSL, "Flow directives").
-use Rattle.std.specs.Prelude.{◌+◌, ℕ, zero, suc, List, Option, Some, None, option_map, if◌then◌else◌}
+use Rattle.std.specs.Prelude.{◌+◌, ℕ, zero, suc, List, Option, Some, None, Result, Ok, if◌then◌else◌}
 use Rattle.swf_value.specs.Value.{Value}
 use Rattle.swf_text.specs.Same.{same}
 use Rattle.swf_document.specs.Task.{Task, Tasks, no_tasks, named}
 use Rattle.swf_document.specs.declared.common.Flow.{Flow}
 use Rattle.swf_document.specs.declared.common.Flow.TheVariants as flows
-use Rattle.swf_transform.specs.Fill.{transformed}
-use Rattle.swf_meaning.specs.Node.{Done}
-use Rattle.swf_meaning.specs.Parts.{common_of}
-use Rattle.swf_meaning.specs.Sight.{Sight, within, is_workflow}
-use Rattle.swf_meaning.specs.Complete.{Stepped, becomes, with_got}
+use Rattle.swf_document.specs.declared.error.Problem.{Problem}
+use Rattle.swf_meaning.specs.Complete.{Stepped, becomes, output_of}
+use Rattle.swf_meaning.specs.Line.{Line, is_workflow}
+use Rattle.swf_meaning.specs.Node.{Done, Running}
+use Rattle.swf_meaning.specs.Rule.{◌>>=◌}
 
 -- the task of a place, where the list has one
 abbrev pub task_at : Tasks → ℕ → Option Task
@@ -39,5 +39,8 @@ next ts i flows.End = WorkflowEnd
 next ts i (flows.Task n) = place_or_end (place_from 0 n ts)
 
 -- `end` passes over `output.as` and `export` of the tasks around; the workflow's `output.as` is applied
-abbrev pub ended : Sight → Task → Value → Value → Value → Stepped
-ended s t v u w = if is_workflow t then with_got s t (transformed (common_of t).output_as (within s t v u) w) (λ x. becomes s (Done x flows.End)) else becomes s (Done w flows.End)
+abbrev pub ended : Line → Running → Value → Result Stepped Problem
+ended l r w =
+    if is_workflow r.task
+    then (output_of l r w >>= λ x. Ok (becomes l (Done x flows.End)))
+    else Ok (becomes l (Done w flows.End))

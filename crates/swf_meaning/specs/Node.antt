@@ -6,6 +6,12 @@ use Rattle.swf_document.specs.declared.common.Flow.{Flow}
 use Rattle.swf_document.specs.declared.error.Problem.{Problem}
 use Rattle.swf_meaning.specs.declared.heard.Heard.{Heard}
 
+-- a task at work, with its raw and its transformed input
+pub record Running : Type 0 where
+  pub task : Task
+  pub raw : Value
+  pub input : Value
+
 -- for what a list of tasks is run: once; as the turn of a `for` over these items; as the attempt of a `try` after so many
 -- retries; or to handle an error that was caught
 pub data Round : Type 0 where
@@ -14,13 +20,12 @@ pub data Round : Type 0 where
   Try : ℕ → Round
   Catch : Problem → Round
 
--- a task that has not begun, with its raw input; one that runs, with its raw and its transformed input and what
--- runs inside; one that is done, with its output and where control goes; and one that ended in an error.
--- A workflow is a task too: a `do` at the empty place
+-- a task that has not begun, with its raw input; one at work, with what runs inside; one that is done, with its output and
+-- where control goes; and one that ended in an error. A workflow is a task too: a `do` at the empty place
 mutual
   pub data Node : Type 0 where
     Fresh : Task → Value → Node
-    Live : Task → Value → Value → Inside → Node
+    Live : Running → Inside → Node
     Done : Value → Flow → Node
     Fault : Problem → Node
 

@@ -8,7 +8,7 @@ use Rattle.swf_document.specs.Task.{Task}
 use Rattle.swf_meaning.specs.Listen.{is_heard}
 use Rattle.swf_meaning.specs.Node.{Node, Fresh, Live, Done, Fault, Inside, At, Later, Sleep, Hear, Forked, Nodes, no_nodes, branch}
 use Rattle.swf_meaning.specs.Printed.{most_told}
-use Rattle.swf_meaning.specs.World.{Instance, World}
+use Rattle.swf_meaning.specs.World.{Instance}
 
 -- those that listen among the strands of a node, ascending, each with its number of branches before it: a task that has not heard
 -- all is one listen
@@ -18,12 +18,12 @@ if_listening bs heard = if heard then [] else bs ∷ []
 abbrev mutual
   pub listening : List ℕ → Node → List (List ℕ)
   listening bs (Fresh t v) = []
-  listening bs (Live t v u k) = listening_inside bs t k
+  listening bs (Live r k) = listening_inside bs r.task k
   listening bs (Done w f) = []
   listening bs (Fault p) = []
 
   pub listening_inside : List ℕ → Task → Inside → List (List ℕ)
-  listening_inside bs t (At r i n) = listening bs n
+  listening_inside bs t (At round i n) = listening bs n
   listening_inside bs t (Later n m) = []
   listening_inside bs t (Sleep m) = []
   listening_inside bs t (Hear bound hs) = if_listening bs (is_heard t hs)
@@ -37,12 +37,12 @@ abbrev mutual
 abbrev mutual
   pub waiting : List ℕ → Node → List (List ℕ × ℕ)
   waiting bs (Fresh t v) = []
-  waiting bs (Live t v u k) = waiting_inside bs k
+  waiting bs (Live r k) = waiting_inside bs k
   waiting bs (Done w f) = []
   waiting bs (Fault p) = []
 
   pub waiting_inside : List ℕ → Inside → List (List ℕ × ℕ)
-  waiting_inside bs (At r i n) = waiting bs n
+  waiting_inside bs (At round i n) = waiting bs n
   waiting_inside bs (Later n m) = (bs, m) ∷ []
   waiting_inside bs (Sleep m) = (bs, m) ∷ []
   waiting_inside bs (Hear bound hs) = []

@@ -1,5 +1,5 @@
 -- The error that a `raise` gives (DSL reference, "Raise" and "Error"; RFC 7807).
-use Rattle.std.specs.Prelude.{ℕ, List, [], ◌∷◌, Option, Some, None, codes, if◌then◌else◌}
+use Rattle.std.specs.Prelude.{ℕ, List, [], ◌∷◌, Option, Some, None, Result, Ok, Err, codes, if◌then◌else◌}
 use Rattle.swf_text.specs.Same.{same}
 use Rattle.swf_text.specs.Pointer.{pointer}
 use Rattle.swf_value.specs.Value.{Value, text}
@@ -13,42 +13,61 @@ use Rattle.swf_document.specs.declared.error.ErrorSpec.{ErrorSpec}
 use Rattle.swf_document.specs.declared.error.ErrorKind.TheVariants as kinds
 use Rattle.swf_document.specs.declared.error.Problem.{Problem}
 use Rattle.swf_transform.specs.Fill.{fill}
-use Rattle.swf_meaning.specs.Node.{Fault}
+use Rattle.swf_meaning.specs.Complete.{Stepped}
+use Rattle.swf_meaning.specs.Line.{Line, within}
+use Rattle.swf_meaning.specs.Node.{Running}
 use Rattle.swf_meaning.specs.Parts.{place_of}
-use Rattle.swf_meaning.specs.Sight.{Sight, within}
-use Rattle.swf_meaning.specs.Complete.{Stepped, becomes, fails, with_got}
+use Rattle.swf_meaning.specs.Rule.{◌>>=◌, fails, value_of}
 
--- goes on with the text that a part gives
-abbrev pub with_text : Sight → Task → (List ℕ → Stepped) → Value → Stepped
-with_text s t f (text x) = f x
-with_text s t f v = fails s t kinds.Expression (codes "cannot raise")
+-- a part has to give a text
+abbrev pub text_in : Task → Value → Result (List ℕ) Problem
+text_in t (text x) = Ok x
+text_in t v = fails t kinds.Expression (codes "cannot raise")
 
--- a part that is given has to give a text
-abbrev pub part : Sight → Task → List Variable → Value → Option Template → (Option (List ℕ) → Stepped) → Stepped
-part s t r u None f = f None
-part s t r u (Some e) f = with_got s t (fill e r u) (with_text s t (λ x. f (Some x)))
+abbrev pub text_of : Task → List Variable → Value → Template → Result (List ℕ) Problem
+text_of t vars u e = do
+  v ← value_of t (fill e vars u)
+  text_in t v
 
+-- a part that may be missing
+abbrev pub part : Task → List Variable → Value → Option Template → Result (Option (List ℕ)) Problem
+part t vars u None = Ok None
+part t vars u (Some e) = do
+  x ← text_of t vars u e
+  Ok (Some x)
+
+-- an error without an instance is of the task's place
 abbrev pub or_place : Task → Option (List ℕ) → List ℕ
 or_place t None = pointer (place_of t)
 or_place t (Some x) = x
 
--- the parts are filled by ascending name, and an error without an instance is of the task's place
-abbrev pub raised : Sight → Task → List Variable → Value → ErrorSpec → Stepped
-raised s t r u e =
-    part s t r u e.detail (λ detail. part s t r u e.instance (λ instance. part s t r u e.title (λ title.
-    with_got s t (fill e.uri r u) (with_text s t (λ uri.
-    becomes s (Fault (record { uri = uri; status = e.status; title = title; detail = detail; instance = Some (or_place t instance) })))))))
+-- the parts are filled in turn, by ascending name
+abbrev pub raised : Task → List Variable → Value → ErrorSpec → Result Problem Problem
+raised t vars u e = do
+  detail ← part t vars u e.detail
+  instance ← part t vars u e.instance
+  title ← part t vars u e.title
+  uri ← text_of t vars u e.uri
+  Ok (record { uri = uri; status = e.status; title = title; detail = detail; instance = Some (or_place t instance) })
 
 -- the error of a name in `use.errors`
 abbrev pub error_named : List ℕ → List NamedError → Option ErrorSpec
 error_named n [] = None
 error_named n (e ∷ es) = if same e.name n then Some e.error else error_named n es
 
-abbrev pub raised_or_done : Sight → Task → List Variable → Value → Option ErrorSpec → Stepped
-raised_or_done s t r u None = fails s t kinds.Configuration (codes "unknown error")
-raised_or_done s t r u (Some e) = raised s t r u e
+abbrev pub or_unknown : Task → Option ErrorSpec → Result ErrorSpec Problem
+or_unknown t None = fails t kinds.Configuration (codes "unknown error")
+or_unknown t (Some e) = Ok e
 
--- the error that is raised, written there or of that name; one in `use.errors` sees none of the variables around
-abbrev pub raising : Sight → Task → Value → Value → ErrorRef → Stepped
-raising s t v u (refs.Written e) = raised s t (within s t v u) u e
-raising s t v u (refs.Named n) = raised_or_done s t (within (record s { around = [] }) t v u) u (error_named n s.document.errors)
+-- the error is written there or has a name; one in `use.errors` sees none of the variables around
+abbrev pub raised_by : Line → Running → ErrorRef → Result Problem Problem
+raised_by l r (refs.Written e) = raised r.task (within l r) r.input e
+raised_by l r (refs.Named n) = do
+  e ← or_unknown r.task (error_named n l.document.errors)
+  raised r.task (within (record l { around = [] }) r) r.input e
+
+-- the task ends in its error
+abbrev pub raising : Line → Running → ErrorRef → Result Stepped Problem
+raising l r ref = do
+  p ← raised_by l r ref
+  Err p

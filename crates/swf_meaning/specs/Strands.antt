@@ -1,6 +1,6 @@
 -- The strands of an instance: its lines of control, each named by the numbers of its branches from the outside in (DSL reference,
 -- "Fork").
-use Rattle.std.specs.Prelude.{◌+◌, ◌++◌, ℕ, zero, suc, List, [], ◌∷◌, Bool, true, false, nat_le, map, if◌then◌else◌}
+use Rattle.std.specs.Prelude.{◌+◌, ◌++◌, ℕ, zero, suc, List, [], ◌∷◌, Bool, true, false, nat_le, map}
 use Rattle.swf_document.specs.Task.{Task}
 use Rattle.swf_meaning.specs.Listen.{is_heard}
 use Rattle.swf_meaning.specs.Node.{Node, Fresh, Live, Done, Fault, Inside, At, Later, Sleep, Hear, Forked, Nodes, no_nodes, branch}
@@ -9,18 +9,18 @@ use Rattle.swf_meaning.specs.Node.{Node, Fresh, Live, Done, Fault, Inside, At, L
 abbrev mutual
   pub strands_below : Node → List (List ℕ)
   strands_below (Fresh t v) = []
-  strands_below (Live t v u k) = strands_inside k
+  strands_below (Live r k) = strands_inside k
   strands_below (Done w f) = []
   strands_below (Fault p) = []
 
-  strands_inside : Inside → List (List ℕ)
-  strands_inside (At r i n) = strands_below n
+  pub strands_inside : Inside → List (List ℕ)
+  strands_inside (At round i n) = strands_below n
   strands_inside (Later n m) = []
   strands_inside (Sleep m) = []
   strands_inside (Hear bound hs) = []
   strands_inside (Forked ns) = strands_from zero ns
 
-  strands_from : ℕ → Nodes → List (List ℕ)
+  pub strands_from : ℕ → Nodes → List (List ℕ)
   strands_from b no_nodes = []
   strands_from b (branch n ns) = map (λ bs. b ∷ bs) ([] ∷ strands_below n) ++ strands_from (b + 1) ns
 
@@ -36,14 +36,14 @@ here (b ∷ bs) c = false
 abbrev mutual
   pub can_go : ℕ → List ℕ → Node → Bool
   can_go now bs (Fresh t v) = here bs true
-  can_go now bs (Live t v u k) = can_go_inside now bs t k
+  can_go now bs (Live r k) = can_go_inside now bs r.task k
   can_go now bs (Done w f) = false
   can_go now bs (Fault p) = false
 
   pub can_go_inside : ℕ → List ℕ → Task → Inside → Bool
-  can_go_inside now bs t (At r i (Done w f)) = here bs true
-  can_go_inside now bs t (At r i (Fault p)) = here bs true
-  can_go_inside now bs t (At r i n) = can_go now bs n
+  can_go_inside now bs t (At round i (Done w f)) = here bs true
+  can_go_inside now bs t (At round i (Fault p)) = here bs true
+  can_go_inside now bs t (At round i n) = can_go now bs n
   can_go_inside now bs t (Later n until) = here bs (nat_le until now)
   can_go_inside now bs t (Sleep until) = here bs (nat_le until now)
   can_go_inside now bs t (Hear bound hs) = here bs (is_heard t hs)

@@ -1,16 +1,15 @@
 -- Which case of a `switch` is taken (DSL reference, "Switch").
-use Rattle.std.specs.Prelude.{List, [], ◌∷◌, Option, Some, None, if◌then◌else◌}
+use Rattle.std.specs.Prelude.{List, [], ◌∷◌, Bool, false, Option, Some, None, Result, Ok, if◌then◌else◌}
 use Rattle.swf_expr.specs.Expr.{Tree}
-use Rattle.swf_value.specs.Value.{Value}
-use Rattle.swf_jq_builtins.specs.Operations.{is_true}
-use Rattle.swf_jq_eval.specs.declared.vars.Variable.{Variable}
 use Rattle.swf_document.specs.Task.{Task}
 use Rattle.swf_document.specs.declared.common.Flow.{Flow}
 use Rattle.swf_document.specs.declared.common.Case.{Case}
-use Rattle.swf_transform.specs.Fill.{first_of}
+use Rattle.swf_document.specs.declared.error.Problem.{Problem}
+use Rattle.swf_meaning.specs.Complete.{Stepped, asked, complete_by}
+use Rattle.swf_meaning.specs.Line.{Line, within}
+use Rattle.swf_meaning.specs.Node.{Running}
 use Rattle.swf_meaning.specs.Parts.{common_of}
-use Rattle.swf_meaning.specs.Sight.{Sight, within}
-use Rattle.swf_meaning.specs.Complete.{Stepped, with_got, complete_by}
+use Rattle.swf_meaning.specs.Rule.{◌>>=◌}
 
 abbrev pub or_first : Option Tree → Case → Option Case → Option Case
 or_first None c found = Some c
@@ -30,12 +29,20 @@ abbrev pub flow_by : Task → Option Case → Flow
 flow_by t None = (common_of t).flow
 flow_by t (Some c) = or_own (common_of t).flow c.flow
 
--- a case whose `when` is true is taken, and else what the rest leads to
-abbrev pub asked : Sight → Task → Value → Value → Case → Stepped → Option Tree → Stepped
-asked s t v u c rest None = rest
-asked s t v u c rest (Some e) = with_got s t (first_of e (within s t v u) u) (λ b. if is_true b then complete_by s t v u (flow_by t (Some c)) u else rest)
+-- a case is taken whose `when` is true
+abbrev pub is_taken : Line → Running → Option Tree → Result Bool Problem
+is_taken l r None = Ok false
+is_taken l r (Some e) = asked r.task (within l r) r.input e
 
--- the first case whose `when` is true is taken, and else the first without one
-abbrev pub switched : Sight → Task → Value → Value → Option Case → List Case → Stepped
-switched s t v u default [] = complete_by s t v u (flow_by t default) u
-switched s t v u default (c ∷ cs) = asked s t v u c (switched s t v u default cs) c.cond
+-- the first case that is taken, and else the first without `when`
+abbrev pub taken : Line → Running → Option Case → List Case → Result (Option Case) Problem
+taken l r default [] = Ok default
+taken l r default (c ∷ cs) = do
+  b ← is_taken l r c.cond
+  if b then Ok (Some c) else taken l r default cs
+
+-- the task is complete, and control goes by that case
+abbrev pub switched : Line → Running → List Case → Result Stepped Problem
+switched l r cs = do
+  c ← taken l r (default_of cs) cs
+  complete_by l r (flow_by r.task c) r.input

@@ -1,12 +1,13 @@
 -- The world at a moment: what was loaded, started, used and sent (DSL, "Runtime").
-use Rattle.std.specs.Prelude.{◌+◌, ℕ, List, [], ◌∷◌, Option, Some, None}
+use Rattle.std.specs.Prelude.{◌+◌, ℕ, List, [], Option}
 use Rattle.swf_value.specs.Value.{Value, null}
 use Rattle.swf_cloudevents.specs.declared.event.Event.{Event}
 use Rattle.swf_document.specs.declared.document.Document.{Document}
 use Rattle.swf_meaning.specs.Node.{Node, Fresh}
 use Rattle.swf_meaning.specs.declared.key.Key.{Key}
-use Rattle.swf_meaning.specs.Sight.{Sight}
 use Rattle.swf_meaning.specs.Complete.{Stepped}
+use Rattle.swf_meaning.specs.Line.{Line, Site}
+use Rattle.swf_meaning.specs.Local.{local}
 use Rattle.swf_meaning.specs.Fork.{branches_in}
 use Rattle.swf_meaning.specs.Parts.{workflow}
 
@@ -38,18 +39,21 @@ pub record World : Type 0 where
 abbrev pub empty : World
 empty = record { documents = []; instances = []; keys = []; now = 0; outbox = []; count = 0 }
 
--- what a step of an instance goes by at a moment
-abbrev pub sight : ℕ → Instance → Sight
-sight now i = record { document = i.document; id = i.id; started = i.started; input = i.input; context = i.context; number = i.number; branches = branches_in i.node; now = now; around = [] }
+-- what every step of an instance goes by, outside all tasks
+abbrev pub line_of : Instance → Line
+line_of i = record { document = i.document; id = i.id; started = i.started; input = i.input; context = i.context; around = [] }
+
+-- and what some go by besides, at a moment
+abbrev pub site_of : ℕ → Instance → Site
+site_of now i = record { number = i.number; branches = branches_in i.node; now = now }
+
+-- the step of a strand of an instance at a moment
+abbrev pub step_at : ℕ → List ℕ → Instance → Option Stepped
+step_at now bs i = local (site_of now i) (line_of i) bs i.node
 
 -- an instance that has just begun
 abbrev pub new_instance : List ℕ → Value → ℕ → Document → Instance
 new_instance id input now d = record { id = id; document = d; input = input; started = now; context = null; node = Fresh (workflow d) input; number = 0 }
 
--- an event that goes out has a number
-abbrev pub number_after : ℕ → Option Event → ℕ
-number_after n None = n
-number_after n (Some e) = n + 1
-
 abbrev pub with_step : Instance → Stepped → Instance
-with_step i m = record i { node = m.node; context = m.context; number = number_after i.number m.emitted }
+with_step i m = record i { node = m.node; context = m.context; number = i.number + m.used }

@@ -1,7 +1,5 @@
+pub mod Rules
 pub mod Goals
-pub mod RaiseParts
-pub mod Sends
+pub mod Verdicts
 pub mod Settles
-pub mod Taken
-pub mod Asks
 pub mod Woken

@@ -1,21 +1,22 @@
 // How a task ends (DSL 1.0.0, "Data flow").
-ghost use Rattle.std.specs.Prelude.{◌≡◌, None};
-ghost use Rattle.swf_transform.specs.Fill.{transformed};
+ghost use Rattle.std.specs.Prelude.{◌≡◌, IfOk, Result};
+ghost use Rattle.swf_document.specs.declared.error.Problem.{Problem};
+ghost use Rattle.swf_meaning.specs.Complete.{Stepped, input_of, output_of, exported, finished, complete_by, complete, step_of};
 ghost use Rattle.swf_meaning.specs.Parts.{common_of};
-ghost use Rattle.swf_meaning.specs.Sight.{before, within, behind};
-ghost use Rattle.swf_meaning.specs.Complete.{exported, finished, complete_by, complete};
-ghost use Rattle.swf_scene.specs.Halts.{Gives, IsGot};
-ghost use Rattle.swf_scene.specs.Stack.{sight_of, made_node, stepped_of};
+ghost use Rattle.swf_rules.specs.Rules.{line_in};
+ghost use Rattle.swf_scene.specs.Halts.{Gives, Makes};
+ghost use Rattle.swf_scene.specs.Stack.{line_of, made_node, stepped_of};
 
-use std::alloc::Global;
+use crate::rule::Rule;
+use std::alloc::{AllocError, Global};
 use swf_document::{ErrorKind, Flow};
-use swf_scene::{Halt, Made, Scene, TaskRef, Top, before, behind, fails, value_of, within};
+use swf_scene::{Halt, Made, Scene, TaskRef, Top, before, behind, value_of};
 use swf_transform::{fill, is_within};
 use swf_value::Json;
 
 /// What `input.from` makes of a raw input.
 pub fn input_of(alloc: Global, scene: &Scene, task: &TaskRef, raw: &Json) -> Result<Json, Halt>
-    ensures { IsGot task.now (transformed (common_of task.now).input_from (before (sight_of scene.entry.now) task.now raw.now) raw.now) result }
+    ensures { Gives (input_of (line_of scene.entry.now) task.now raw.now) result }
 {
     match task.input_from() {
         None => Ok(raw.copy()?),
@@ -26,23 +27,15 @@ pub fn input_of(alloc: Global, scene: &Scene, task: &TaskRef, raw: &Json) -> Res
     }
 }
 
-/// What `output.as` makes of a raw output.
-pub fn output_of(
-    alloc: Global,
-    scene: &Scene,
-    task: &TaskRef,
-    raw: &Json,
-    input: &Json,
-    given: Json,
-) -> Result<Json, Halt>
-    ensures { IsGot task.now (transformed (common_of task.now).output_as (within (sight_of scene.entry.now) task.now raw.now input.now) given) result }
+/// What a task comes to in which nothing runs, with this context.
+pub fn becoming(top: Top, context: Json) -> Made
+    ensures { stepped_of result ≡ record { node = made_node top; context = context; used = 0; emitted = None } }
 {
-    match task.output_as() {
-        None => Ok(given),
-        Some(template) => {
-            let vars = within(alloc, scene, task, raw, input)?;
-            value_of(alloc, task, fill(alloc, template, &vars, &given)?)
-        }
+    Made {
+        frame: None,
+        top,
+        context,
+        emitted: None,
     }
 }
 
@@ -53,70 +46,61 @@ pub fn finished(output: Json, flow: Flow, context: Json) -> Made
     becoming(Top::Done { output, flow }, context)
 }
 
-/// What a task comes to in which nothing runs, with this context.
-pub fn becoming(top: Top, context: Json) -> Made
-    ensures { stepped_of result ≡ record { node = made_node top; context = context; emitted = None } }
+/// The step of a rule, which ends the task in its error where it gives one.
+pub fn step_of(scene: &Scene, given: Result<Made, Halt>) -> Result<Made, AllocError>
+    ensures { IfOk result (λ made. (m : Result Stepped Problem) → Makes m given → stepped_of made ≡ step_of (line_of scene.entry.now) m) }
 {
-    Made {
-        frame: None,
-        top,
-        context,
-        emitted: None,
+    match given {
+        Ok(made) => Ok(made),
+        Err(Halt::Fault(problem)) => Ok(becoming(Top::Fault(problem), scene.context.copy()?)),
+        Err(Halt::OutOfMemory) => Err(AllocError),
     }
 }
 
-// `export.as` makes the context of the transformed output.
-fn exported(
-    alloc: Global,
-    scene: &Scene,
-    task: &TaskRef,
-    raw: &Json,
-    input: &Json,
-    flow: Flow,
-    output: Json,
-) -> Result<Made, Halt>
-    ensures { Gives (sight_of scene.entry.now) (exported (sight_of scene.entry.now) task.now raw.now input.now flow output (common_of task.now).export_as) result }
-{
-    match task.export_as() {
-        None => Ok(finished(output, flow, scene.context.copy()?)),
-        Some(template) => {
-            let vars = behind(alloc, scene, task, raw, input, &output)?;
-            let context = value_of(alloc, task, fill(alloc, template, &vars, &output)?)?;
-            Ok(finished(output, flow, context))
+impl Rule<'_> {
+    // What `output.as` makes of a raw output.
+    pub(crate) fn output_of(&self, given: Json) -> Result<Json, Halt>
+        ensures { Gives (output_of (line_in self.now) self.now.running.now given) result }
+    {
+        match self.running.task().output_as() {
+            None => Ok(given),
+            Some(template) => {
+                let vars = self.within()?;
+                self.value_of(fill(self.alloc, template, &vars, &given)?)
+            }
         }
     }
-}
 
-/// A task ends with a raw output, and control goes on by a flow.
-pub fn complete_by(
-    alloc: Global,
-    scene: &Scene,
-    task: &TaskRef,
-    raw: &Json,
-    input: &Json,
-    flow: Flow,
-    given: Json,
-) -> Result<Made, Halt>
-    ensures { Gives (sight_of scene.entry.now) (complete_by (sight_of scene.entry.now) task.now raw.now input.now flow given) result }
-{
-    if !is_within(&given) {
-        return Err(fails(alloc, task, ErrorKind::Runtime, "value limit"));
+    // `export.as` makes the context of the transformed output.
+    fn exported(&self, flow: Flow, output: Json) -> Result<Made, Halt>
+        ensures { Makes (exported (line_in self.now) self.now.running.now flow output (common_of self.now.running.now.task).export_as) result }
+    {
+        match self.running.task().export_as() {
+            None => Ok(finished(output, flow, self.scene.context.copy()?)),
+            Some(template) => {
+                let vars = behind(self.alloc, self.scene, self.running, &output)?;
+                let context = self.value_of(fill(self.alloc, template, &vars, &output)?)?;
+                Ok(finished(output, flow, context))
+            }
+        }
     }
-    let output = output_of(alloc, scene, task, raw, input, given)?;
-    exported(alloc, scene, task, raw, input, flow, output)
-}
 
-/// A task ends with a raw output, and control goes on by its own `then`.
-pub fn complete(
-    alloc: Global,
-    scene: &Scene,
-    task: &TaskRef,
-    raw: &Json,
-    input: &Json,
-    given: Json,
-) -> Result<Made, Halt>
-    ensures { Gives (sight_of scene.entry.now) (complete (sight_of scene.entry.now) task.now raw.now input.now given) result }
-{
-    let flow = task.flow()?;
-    complete_by(alloc, scene, task, raw, input, flow, given)
+    /// The task ends with a raw output, and control goes on by a flow.
+    pub(crate) fn complete_by(&self, flow: Flow, given: Json) -> Result<Made, Halt>
+        ensures { Makes (complete_by (line_in self.now) self.now.running.now flow given) result }
+    {
+        if !is_within(&given) {
+            return Err(self.fails(ErrorKind::Runtime, "value limit"));
+        }
+        let output = self.output_of(given)?;
+        self.exported(flow, output)
+    }
+
+    /// The task ends with a raw output, and control goes on by its own `then`.
+    pub fn complete(&self, given: Json) -> Result<Made, Halt>
+        ensures { Makes (complete (line_in self.now) self.now.running.now given) result }
+    {
+        let flow = self.running.task().flow()?;
+        self.complete_by(flow, given)
+    }
 }

@@ -1,57 +1,34 @@
 // A `for` begins (DSL 1.0.0, reference, "For").
-ghost use Rattle.std.specs.Prelude.{◌≡◌};
 ghost use Rattle.swf_meaning.specs.For.{looping, over};
-ghost use Rattle.swf_scene.specs.Halts.{Gives};
-ghost use Rattle.swf_scene.specs.Stack.{sight_of};
+ghost use Rattle.swf_rules.specs.Rules.{line_in};
+ghost use Rattle.swf_scene.specs.Halts.{Makes};
 ghost use Rattle.swf_scene.specs.TaskRef.{loop_of};
 
-use crate::lists::turn;
-use std::alloc::Global;
+use crate::rule::Rule;
 use swf_document::{ErrorKind, ForSpec};
-use swf_scene::{Halt, Made, Scene, TaskRef, fails, value_of, within};
+use swf_scene::{Halt, Made};
 use swf_transform::first;
 use swf_value::{Json, JsonNode};
 
-/// A `for` goes over the items of the list that its `in` gives.
-pub fn looping(
-    alloc: Global,
-    scene: &Scene,
-    task: &TaskRef,
-    raw: &Json,
-    input: &Json,
-    spec: &ForSpec,
-) -> Result<Made, Halt>
-    ensures { Gives (sight_of scene.entry.now) (looping (sight_of scene.entry.now) task.now raw.now input.now (loop_of spec.now)) result }
-{
-    let vars = within(alloc, scene, task, raw, input)?;
-    let items = value_of(alloc, task, first(alloc, &spec.items, &vars, input)?)?;
-    over(alloc, scene, task, raw, input, &items)
-}
+impl Rule<'_> {
+    /// A `for` goes over the items of the list that its `in` gives.
+    pub fn looping(&self, spec: &ForSpec) -> Result<Made, Halt>
+        ensures { Makes (looping (line_in self.now) self.now.running.now (loop_of spec.now)) result }
+    {
+        let vars = self.within()?;
+        let items = first(self.alloc, &spec.items, &vars, self.running.input())?;
+        let items = self.value_of(items)?;
+        self.over(&items)
+    }
 
-// The first turn over the items of a list; any other value is an error.
-fn over(
-    alloc: Global,
-    scene: &Scene,
-    task: &TaskRef,
-    raw: &Json,
-    input: &Json,
-    items: &Json,
-) -> Result<Made, Halt>
-    ensures { Gives (sight_of scene.entry.now) (over (sight_of scene.entry.now) task.now raw.now input.now items.now) result }
-{
-    match items.node() {
-        JsonNode::List(items) => {
-            turn(
-                alloc,
-                scene,
-                task,
-                raw,
-                input,
-                items.copy()?,
-                0,
-                input.copy()?,
-            )
+    // The first turn over the items of a list; any other value is an error.
+    #[tactic(auto, using(swf_jq_builtins::proofs::Lists::values_of_items_of))]
+    fn over(&self, items: &Json) -> Result<Made, Halt>
+        ensures { Makes (over (line_in self.now) self.now.running.now items.now) result }
+    {
+        match items.node() {
+            JsonNode::List(items) => self.turn(items.copy()?, 0, self.running.input().copy()?),
+            _ => Err(self.fails(ErrorKind::Expression, "cannot loop")),
         }
-        _ => Err(fails(alloc, task, ErrorKind::Expression, "cannot loop")),
     }
 }

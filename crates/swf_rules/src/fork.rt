@@ -1,73 +1,81 @@
 // A `fork` (DSL 1.0.0, reference, "Fork").
-ghost use Rattle.std.specs.Prelude.{◌≡◌};
+ghost use Rattle.std.specs.Prelude.{◌≡◌, ◌+◌, nat_le};
 ghost use Rattle.swf_document.specs.Task.{fork};
-ghost use Rattle.swf_meaning.specs.Fork.{forking};
+ghost use Rattle.swf_document.specs.TaskNode.{tasks_of};
+ghost use Rattle.swf_meaning.specs.Fork.{branches_of, most_branches, fresh, split, forking};
 ghost use Rattle.swf_meaning.specs.Parts.{kind_of};
-ghost use Rattle.swf_rules.specs.Settles.{Settles};
-ghost use Rattle.swf_scene.specs.Halts.{Gives};
-ghost use Rattle.swf_scene.specs.Stack.{sight_of};
+ghost use Rattle.swf_rules.specs.Rules.{line_in, site_in};
+ghost use Rattle.swf_rules.specs.Settles.{ending, MakesSome};
+ghost use Rattle.swf_scene.specs.Halts.{Makes};
 
-use crate::completion::{becoming, complete, finished};
-use std::alloc::Global;
-use swf_document::{ErrorKind, Flow, ForkSpec};
-use swf_scene::{Halt, Made, Scene, TaskRef, Top, fails};
+use crate::completion::{becoming, finished};
+use crate::rule::Rule;
+use swf_document::{ErrorKind, Flow, ForkSpec, Named};
+use swf_scene::{Halt, Made, Top};
 use swf_value::Json;
 
 /// How many branches an instance may have.
 const MOST_BRANCHES: usize = 256;
 
-/// A `fork` begins. One without branches is complete.
-pub fn forking(
-    alloc: Global,
-    scene: &Scene,
-    task: &TaskRef,
-    raw: &Json,
-    input: &Json,
-    spec: &ForkSpec,
-) -> Result<Made, Halt>
-    requires { kind_of task.now ≡ fork spec.now.compete spec.now.branches }
-    ensures { Gives (sight_of scene.entry.now) (forking (sight_of scene.entry.now) task.now raw.now input.now spec.now.branches) result }
-{
-    let more = spec.branches.as_slice().len();
-    if more > MOST_BRANCHES || scene.branches > MOST_BRANCHES - more {
-        return Err(fails(alloc, task, ErrorKind::Runtime, "strand limit"));
+impl Rule<'_> {
+    // Whether the instance has room for so many more branches.
+    fn has_room(&self, more: usize) -> bool
+        ensures { result ≡ nat_le ((site_in self.now).branches + more) most_branches }
+    {
+        more <= MOST_BRANCHES && self.scene.branches <= MOST_BRANCHES - more
     }
-    if more == 0 {
-        let outputs = Json::list(alloc, Vec::new(alloc))?;
-        return complete(alloc, scene, task, raw, input, outputs);
-    }
-    let context = scene.context.copy()?;
-    let top = Top::forked(task, raw, input)?;
-    Ok(becoming(top, context))
-}
 
-/// What becomes of a `fork` one of whose branches ended, with the outputs of all once all are done; none where the others go on.
-pub fn settled(
-    alloc: Global,
-    scene: &Scene,
-    task: &TaskRef,
-    raw: &Json,
-    input: &Json,
-    compete: bool,
-    ended: &Top,
-    outputs: Option<Json>,
-) -> Result<Option<Made>, Halt>
-    ensures { Settles (sight_of scene.entry.now) task.now raw.now input.now compete ended.now outputs result }
-{
-    match ended {
-        Top::Fault(problem) => Err(Halt::Fault(problem.copy()?)),
-        Top::Done {
-            output,
-            flow: Flow::End,
-        } => Ok(Some(finished(output.copy()?, Flow::End, scene.context.copy()?))),
-        Top::Done { output, .. } if compete => {
-            let output = output.copy()?;
-            Ok(Some(complete(alloc, scene, task, raw, input, output)?))
+    /// A `fork` begins where the instance has room for its branches.
+    #[tactic(auto, using(crate::proofs::ForkLemmas::count_fresh))]
+    pub fn forking(&self, spec: &ForkSpec) -> Result<Made, Halt>
+        requires { kind_of self.now.running.now.task ≡ fork spec.now.compete spec.now.branches }
+        ensures { Makes (forking (site_in self.now) (line_in self.now) self.now.running.now spec.now.branches) result }
+    {
+        let branches = spec.branches.as_slice();
+        if self.has_room(branches.len()) {
+            self.split(branches)
+        } else {
+            Err(self.fails(ErrorKind::Runtime, "strand limit"))
         }
-        Top::Done { .. } => match outputs {
-            Some(outputs) => Ok(Some(complete(alloc, scene, task, raw, input, outputs)?)),
-            None => Ok(None),
-        },
-        _ => Ok(None),
+    }
+
+    // Its branches begin. A `fork` without any is complete.
+    fn split(&self, branches: &[Named]) -> Result<Made, Halt>
+        requires { branches_of self.now.running.now.task ≡ tasks_of branches.now }
+        ensures { Makes (split (line_in self.now) self.now.running.now (fresh (tasks_of branches.now) self.now.running.now.input)) result }
+    {
+        if branches.is_empty() {
+            return self.complete(Json::list(self.alloc, Vec::new(self.alloc))?);
+        }
+        let top = Top::Forked(self.running.copy()?);
+        Ok(becoming(top, self.scene.context.copy()?))
+    }
+
+    /// What becomes of a `fork` one of whose branches ended, with the outputs of all once all are done; none where the others go
+    /// on.
+    pub fn settled(
+        &self,
+        compete: bool,
+        ended: &Top,
+        outputs: Option<Json>,
+    ) -> Result<Option<Made>, Halt>
+        ensures { MakesSome (ending (line_in self.now) self.now.running.now compete outputs ended.now) result }
+    {
+        match ended {
+            Top::Fault(problem) => Err(Halt::Fault(problem.copy()?)),
+            Top::Done {
+                output,
+                flow: Flow::End,
+            } => {
+                let context = self.scene.context.copy()?;
+                Ok(Some(finished(output.copy()?, Flow::End, context)))
+            }
+            Top::Done { output, .. } if compete => Ok(Some(self.complete(output.copy()?)?)),
+            Top::Done { .. } => match outputs {
+                Some(outputs) => Ok(Some(self.complete(outputs)?)),
+                None => Ok(None),
+            },
+            _ => Ok(None),
+        }
     }
 }

@@ -1,121 +1,32 @@
 // A `listen` (DSL 1.0.0, reference, "Listen", "Event Consumption Strategy" and "Correlation").
-ghost use Rattle.std.specs.Prelude.{◌≡◌, ◌<◌, ◌+◌, ◌++◌, ◌∷◌, [], List, ℕ, length, map, IfOk, drop, option_map, true};
-ghost use Rattle.swf_jq_eval.specs.declared.vars.Variable.{Variable};
-ghost use Rattle.swf_value.specs.Value.{list, no_members};
-ghost use Rattle.swf_value.specs.Node.{items_of};
-ghost use Rattle.swf_cloudevents.specs.declared.event.Event.{Event as TheEvent};
-ghost use Rattle.swf_meaning.specs.Complete.{complete};
-ghost use Rattle.swf_meaning.specs.Listen.{correlations, listening, is_satisfied, is_met, taken_from, takes, data_of, read_as, events_of};
-ghost use Rattle.swf_meaning.specs.Sight.{within};
-ghost use Rattle.swf_meaning.specs.declared.heard.Heard.{Heard as TheHeard};
-ghost use Rattle.swf_rules.specs.Sends.{is_agreed, IsExpected, AreExpected};
-ghost use Rattle.swf_value.specs.Members.{at};
+ghost use Rattle.std.specs.Prelude.{◌≡◌, ◌++◌, ◌∷◌, [], IfOk, codes, option_map, Ok, if◌then◌else◌};
+ghost use Rattle.swf_document.specs.declared.error.ErrorKind.TheVariants as kinds;
 ghost use Rattle.swf_jq_builtins.specs.Operations.{is_same};
-ghost use Rattle.swf_scene.specs.Halts.{Gives};
-ghost use Rattle.swf_scene.specs.Stack.{sight_of};
+ghost use Rattle.swf_meaning.specs.Complete.{complete};
+ghost use Rattle.swf_meaning.specs.Listen.{bound_with, expecting, bound_by, correlations, listening, is_met, takes, data_of, read_as, events_of};
+ghost use Rattle.swf_meaning.specs.Rule.{fails};
+ghost use Rattle.swf_rules.specs.Rules.{line_in};
+ghost use Rattle.swf_scene.specs.Halts.{Gives, Makes};
+ghost use Rattle.swf_value.specs.Members.{at, put};
+ghost use Rattle.swf_value.specs.Value.{no_members};
 
-use crate::completion::{becoming, complete};
+use crate::completion::becoming;
+use crate::rule::Rule;
 use std::alloc::{AllocError, Global};
 use swf_cloudevents::{Event, NamedValues, Payload, event_json};
 use swf_document::{Correlation, ErrorKind, Filter, ListenSpec, Listing};
 use swf_jq_eval::Vars;
 use swf_meaning::Heard;
-use swf_scene::{Halt, Made, Scene, TaskRef, Top, fails, is_satisfied, value_of, within};
+use swf_scene::{Halt, Made, Top, is_satisfied};
 use swf_text::Text;
 use swf_transform::{correlate, fill};
 use swf_value::Json;
 
 // Whether two values are equal.
-#[tactic(auto, using(swf_transform::proofs::Equal::same_by))]
 fn is_same(left: &Json, right: &Json) -> bool
     ensures { result ≡ is_same left.now right.now }
 {
     left.is(right)
-}
-
-// Whether a name has no value, or this one.
-fn agrees(bound: &NamedValues, name: &Text, value: &Json) -> bool
-    ensures { result ≡ is_agreed (at name.now bound.now) value.now }
-{
-    match bound.find(name.as_str()) {
-        Some(other) => is_same(other, value),
-        None => true,
-    }
-}
-
-// What an `expect` binds its name to, beside what is bound.
-fn expected(
-    alloc: Global,
-    task: &TaskRef,
-    vars: &Vars,
-    input: &Json,
-    correlation: &Correlation,
-    mut bound: NamedValues,
-) -> Result<NamedValues, Halt>
-    ensures { IsExpected task.now vars.now input.now correlation.now bound result }
-{
-    let Some(template) = &correlation.expect else {
-        return Ok(bound);
-    };
-    let value = value_of(alloc, task, fill(alloc, template, vars, input)?)?;
-    if !agrees(&bound, &correlation.name, &value) {
-        return Err(fails(alloc, task, ErrorKind::Expression, "cannot correlate"));
-    }
-    bound.put(correlation.name.copy()?, value)?;
-    Ok(bound)
-}
-
-// The same for several correlations in order.
-fn expected_all(
-    alloc: Global,
-    task: &TaskRef,
-    vars: &Vars,
-    input: &Json,
-    correlations: &[Correlation],
-    mut bound: NamedValues,
-) -> Result<NamedValues, Halt>
-    ensures { AreExpected task.now vars.now input.now correlations.now bound result }
-{
-    for correlation in correlations {
-        bound = expected(alloc, task, vars, input, correlation, bound)?;
-    }
-    Ok(bound)
-}
-
-// The names that the filters bind before any event.
-fn bound_of(
-    alloc: Global,
-    task: &TaskRef,
-    vars: &Vars,
-    input: &Json,
-    filters: &[Filter],
-) -> Result<NamedValues, Halt>
-    ensures { AreExpected task.now vars.now input.now (correlations filters.now) no_members result }
-{
-    let mut bound = NamedValues::none(alloc)?;
-    for filter in filters {
-        bound = expected_all(alloc, task, vars, input, filter.correlate.as_slice(), bound)?;
-    }
-    Ok(bound)
-}
-
-/// A `listen` begins.
-pub fn listening(
-    alloc: Global,
-    scene: &Scene,
-    task: &TaskRef,
-    raw: &Json,
-    input: &Json,
-    spec: &ListenSpec,
-) -> Result<Made, Halt>
-    ensures { Gives (sight_of scene.entry.now) (listening (sight_of scene.entry.now) task.now raw.now input.now spec.now) result }
-{
-    let vars = within(alloc, scene, task, raw, input)?;
-    let bound = bound_of(alloc, task, &vars, input, spec.filters.as_slice())?;
-    let heard = Listing::of(alloc, Vec::new(alloc))?;
-    let context = scene.context.copy()?;
-    let top = Top::hearing(task, raw, input, &bound, &heard)?;
-    Ok(becoming(top, context))
 }
 
 // Whether the filter of a place has an event.
@@ -195,18 +106,81 @@ fn events_of(alloc: Global, spec: &ListenSpec, heard: &[Heard]) -> Result<Json, 
     Json::list(alloc, events)
 }
 
-/// A `listen` that heard all is complete.
-pub fn heard(
-    alloc: Global,
-    scene: &Scene,
-    task: &TaskRef,
-    raw: &Json,
-    input: &Json,
-    spec: &ListenSpec,
-    heard: &[Heard],
-) -> Result<Made, Halt>
-    ensures { Gives (sight_of scene.entry.now) (complete (sight_of scene.entry.now) task.now raw.now input.now (events_of spec.now heard.now)) result }
-{
-    let events = events_of(alloc, spec, heard)?;
-    complete(alloc, scene, task, raw, input, events)
+impl Rule<'_> {
+    // Whether a name may be bound to a value: it has none, or the same.
+    fn agrees(&self, bound: &NamedValues, name: &Text, value: &Json) -> bool
+        ensures { bound_with self.now.running.now.task name.now value.now (at name.now bound.now) bound.now ≡ (if result then Ok (put name.now value.now bound.now) else fails self.now.running.now.task kinds.Expression (codes "cannot correlate")) }
+    {
+        match bound.find(name.as_str()) {
+            Some(other) => is_same(other, value),
+            None => true,
+        }
+    }
+
+    // With what an `expect` binds its name to.
+    fn expecting(
+        &self,
+        vars: &Vars,
+        correlation: &Correlation,
+        mut bound: NamedValues,
+    ) -> Result<NamedValues, Halt>
+        ensures { Gives (expecting self.now.running.now.task vars.now self.now.running.now.input correlation.now.name correlation.now.expect bound) result }
+    {
+        let Some(template) = &correlation.expect else {
+            return Ok(bound);
+        };
+        let value = self.value_of(fill(self.alloc, template, vars, self.running.input())?)?;
+        if !self.agrees(&bound, &correlation.name, &value) {
+            return Err(self.fails(ErrorKind::Expression, "cannot correlate"));
+        }
+        bound.put(correlation.name.copy()?, value)?;
+        Ok(bound)
+    }
+
+    // The same for several correlations in order.
+    fn bound_by(
+        &self,
+        vars: &Vars,
+        correlations: &[Correlation],
+        mut bound: NamedValues,
+    ) -> Result<NamedValues, Halt>
+        ensures { Gives (bound_by self.now.running.now.task vars.now self.now.running.now.input correlations.now bound) result }
+    {
+        for correlation in correlations {
+            bound = self.expecting(vars, correlation, bound)?;
+        }
+        Ok(bound)
+    }
+
+    // The names that the filters bind before any event.
+    fn bound_of(&self, vars: &Vars, filters: &[Filter]) -> Result<NamedValues, Halt>
+        ensures { Gives (bound_by self.now.running.now.task vars.now self.now.running.now.input (correlations filters.now) no_members) result }
+    {
+        let mut bound = NamedValues::none(self.alloc)?;
+        for filter in filters {
+            bound = self.bound_by(vars, filter.correlate.as_slice(), bound)?;
+        }
+        Ok(bound)
+    }
+
+    /// A `listen` begins.
+    pub fn listening(&self, spec: &ListenSpec) -> Result<Made, Halt>
+        ensures { Makes (listening (line_in self.now) self.now.running.now spec.now) result }
+    {
+        let vars = self.within()?;
+        let bound = self.bound_of(&vars, spec.filters.as_slice())?;
+        let top = Top::Hearing {
+            running: self.running.copy()?,
+            bound,
+            heard: Listing::of(self.alloc, Vec::new(self.alloc))?,
+        };
+        Ok(becoming(top, self.scene.context.copy()?))
+    }
+
+    /// A `listen` that heard all is complete.
+    pub fn heard(&self, spec: &ListenSpec, heard: &[Heard]) -> Result<Made, Halt>
+        ensures { Makes (complete (line_in self.now) self.now.running.now (events_of spec.now heard.now)) result }
+    {
+        self.complete(events_of(self.alloc, spec, heard)?)
+    }
 }

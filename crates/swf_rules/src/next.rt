@@ -4,15 +4,15 @@ ghost use Rattle.swf_document.specs.TaskNode.{tasks_of};
 ghost use Rattle.swf_meaning.specs.Next.{place_from, next, ended};
 ghost use Rattle.swf_meaning.specs.Local.{moved_on, failed};
 ghost use Rattle.swf_rules.specs.Goals.{goal_of};
-ghost use Rattle.swf_scene.specs.Halts.{Gives};
-ghost use Rattle.swf_scene.specs.Stack.{sight_of, round_of};
+ghost use Rattle.swf_rules.specs.Rules.{line_in};
+ghost use Rattle.swf_scene.specs.Halts.{Makes};
+ghost use Rattle.swf_scene.specs.Stack.{line_of, site_of, round_of};
 
-use crate::completion::{finished, output_of};
-use crate::lists::{comes_to, list_ended};
-use crate::try_::caught;
+use crate::completion::finished;
+use crate::rule::Rule;
 use std::alloc::Global;
 use swf_document::{Flow, Named, Problem};
-use swf_scene::{Frame, Halt, Made, Round, Scene, TaskRef, Work};
+use swf_scene::{Frame, Halt, Made, Round, Scene, Work};
 use swf_text::{Text, same_texts};
 use swf_value::Json;
 
@@ -52,22 +52,17 @@ fn next(tasks: &[Named], place: usize, flow: &Flow) -> Goal
     }
 }
 
-// `end` passes over the tasks around; of the workflow `output.as` is applied.
-fn ended(
-    alloc: Global,
-    scene: &Scene,
-    task: &TaskRef,
-    raw: &Json,
-    input: &Json,
-    output: Json,
-) -> Result<Made, Halt>
-    ensures { Gives (sight_of scene.entry.now) (ended (sight_of scene.entry.now) task.now raw.now input.now output) result }
-{
-    if task.is_workflow() {
-        let output = output_of(alloc, scene, task, raw, input, output)?;
-        return Ok(finished(output, Flow::End, scene.context.copy()?));
+impl Rule<'_> {
+    // `end` passes over the tasks around; of the workflow `output.as` is applied.
+    fn ended(&self, output: Json) -> Result<Made, Halt>
+        ensures { Makes (ended (line_in self.now) self.now.running.now output) result }
+    {
+        if !self.running.task().is_workflow() {
+            return Ok(finished(output, Flow::End, self.scene.context.copy()?));
+        }
+        let output = self.output_of(output)?;
+        Ok(finished(output, Flow::End, self.scene.context.copy()?))
     }
-    Ok(finished(output, Flow::End, scene.context.copy()?))
 }
 
 /// A task of a running task's list is done.
@@ -78,40 +73,38 @@ pub fn moved_on(
     output: &Json,
     flow: &Flow,
 ) -> Result<Made, Halt>
-    ensures { Gives (sight_of scene.entry.now) (moved_on (sight_of scene.entry.now) frame.now.task frame.now.raw frame.now.input (round_of frame.now.round) frame.now.place output.now flow.now) result }
+    ensures { Makes (moved_on (line_of scene.entry.now) frame.now.running (round_of frame.now.round) frame.now.place output.now flow.now) result }
 {
     let Frame {
-        task,
-        raw,
-        input,
+        running,
         round,
         place,
     } = frame;
+    let rule = Rule {
+        alloc,
+        scene,
+        running,
+    };
     let output = output.copy()?;
-    match next(task.named(round), *place, flow) {
-        Goal::Place(place) => {
-            comes_to(alloc, scene, task, raw, input, round.copy()?, place, output)
-        }
-        Goal::ListEnd => list_ended(alloc, scene, task, raw, input, round.copy()?, output),
-        Goal::WorkflowEnd => ended(alloc, scene, task, raw, input, output),
+    match next(running.task().named(round), *place, flow) {
+        Goal::Place(place) => rule.comes_to(round.copy()?, place, output),
+        Goal::ListEnd => rule.list_ended(round.copy()?, output),
+        Goal::WorkflowEnd => rule.ended(output),
     }
 }
 
 /// A task of a running task's list ended in an error: a `try` may catch it, and it ends any other task.
 pub fn failed(alloc: Global, scene: &Scene, frame: &Frame, problem: &Problem) -> Result<Made, Halt>
-    ensures { Gives (sight_of scene.entry.now) (failed (sight_of scene.entry.now) frame.now.task frame.now.raw frame.now.input (round_of frame.now.round) problem.now) result }
+    ensures { Makes (failed (site_of scene.entry.now) (line_of scene.entry.now) frame.now.running (round_of frame.now.round) problem.now) result }
 {
-    let Frame {
-        task,
-        raw,
-        input,
-        round,
-        ..
-    } = frame;
-    match (round, task.work()) {
-        (Round::Try { retries }, Work::Try(spec)) => {
-            caught(alloc, scene, task, raw, input, *retries, problem, spec)
-        }
+    let running = &frame.running;
+    let rule = Rule {
+        alloc,
+        scene,
+        running,
+    };
+    match (&frame.round, running.task().work()) {
+        (Round::Try { retries }, Work::Try(spec)) => rule.caught(*retries, problem, spec),
         _ => Err(Halt::Fault(problem.copy()?)),
     }
 }

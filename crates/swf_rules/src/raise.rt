@@ -1,86 +1,17 @@
 // The error that a `raise` gives (DSL 1.0.0, reference, "Raise" and "Error").
 ghost use Rattle.std.specs.Prelude.{◌≡◌, IfOk, option_map};
-ghost use Rattle.swf_transform.specs.Fill.{fill};
-ghost use Rattle.swf_meaning.specs.Sight.{Sight, within};
-ghost use Rattle.swf_meaning.specs.Raise.{or_place, raised, error_named, raising};
-ghost use Rattle.swf_scene.specs.Halts.{Gives};
-ghost use Rattle.swf_rules.specs.RaiseParts.{IsText, IsPart};
-ghost use Rattle.swf_scene.specs.Stack.{sight_of};
+ghost use Rattle.swf_meaning.specs.Raise.{text_of, part, or_place, raised, error_named, raised_by, raising};
+ghost use Rattle.swf_rules.specs.Rules.{line_in};
+ghost use Rattle.swf_scene.specs.Halts.{Gives, Makes};
 
-use std::alloc::{AllocError, Global};
+use crate::rule::Rule;
+use std::alloc::AllocError;
 use swf_document::{ErrorKind, ErrorRef, ErrorSpec, NamedError, Problem, Template};
 use swf_jq_eval::Vars;
-use swf_scene::{Halt, Made, Scene, TaskRef, fails, value_of, within};
+use swf_scene::{Halt, Made, within};
 use swf_text::{Text, pointer_text, same_texts};
 use swf_transform::fill;
-use swf_value::{Json, JsonNode};
-
-// The text that a template gives.
-fn text_of(
-    alloc: Global,
-    task: &TaskRef,
-    vars: &Vars,
-    input: &Json,
-    template: &Template,
-) -> Result<Text, Halt>
-    ensures { IsText task.now (fill template.now vars.now input.now) result }
-{
-    let value = value_of(alloc, task, fill(alloc, template, vars, input)?)?;
-    match value.node() {
-        JsonNode::Text(text) => Ok(text.copy()?),
-        _ => Err(fails(alloc, task, ErrorKind::Expression, "cannot raise")),
-    }
-}
-
-// The text of a part that may be missing.
-fn part(
-    alloc: Global,
-    task: &TaskRef,
-    vars: &Vars,
-    input: &Json,
-    template: &Option<Template>,
-) -> Result<Option<Text>, Halt>
-    ensures { IsPart task.now vars.now input.now template.now result }
-{
-    match template {
-        None => Ok(None),
-        Some(template) => Ok(Some(text_of(alloc, task, vars, input, template)?)),
-    }
-}
-
-// An instance that is given, or the task's place.
-fn or_place(alloc: Global, task: &TaskRef, instance: Option<Text>) -> Result<Text, AllocError>
-    ensures { IfOk result (λ t. t ≡ or_place task.now instance) }
-{
-    match instance {
-        Some(instance) => Ok(instance),
-        None => pointer_text(alloc, &task.place(alloc)?),
-    }
-}
-
-// An error whose parts are filled by ascending name.
-fn raised(
-    alloc: Global,
-    task: &TaskRef,
-    vars: &Vars,
-    input: &Json,
-    error: &ErrorSpec,
-) -> Result<Made, Halt>
-    ensures { (s : Sight) → Gives s (raised s task.now vars.now input.now error.now) result }
-{
-    let detail = part(alloc, task, vars, input, &error.detail)?;
-    let instance = part(alloc, task, vars, input, &error.instance)?;
-    let title = part(alloc, task, vars, input, &error.title)?;
-    let uri = text_of(alloc, task, vars, input, &error.uri)?;
-    let instance = Some(or_place(alloc, task, instance)?);
-    Err(Halt::Fault(Problem {
-        uri,
-        status: error.status,
-        title,
-        detail,
-        instance,
-    }))
-}
+use swf_value::JsonNode;
 
 // The error of a name.
 fn error_named<'a>(name: &Text, errors: &'a [NamedError]) -> Option<&'a ErrorSpec>
@@ -94,29 +25,77 @@ fn error_named<'a>(name: &Text, errors: &'a [NamedError]) -> Option<&'a ErrorSpe
     None
 }
 
-/// A `raise` ends in its error, which is written there or has a name in the document.
-pub fn raising(
-    alloc: Global,
-    scene: &Scene,
-    task: &TaskRef,
-    raw: &Json,
-    input: &Json,
-    reference: &ErrorRef,
-) -> Result<Made, Halt>
-    ensures { Gives (sight_of scene.entry.now) (raising (sight_of scene.entry.now) task.now raw.now input.now reference.now) result }
-{
-    match reference {
-        ErrorRef::Written(error) => {
-            let vars = within(alloc, scene, task, raw, input)?;
-            raised(alloc, task, &vars, input, error)
+impl Rule<'_> {
+    // The text that a template gives.
+    fn text_of(&self, vars: &Vars, template: &Template) -> Result<Text, Halt>
+        ensures { Gives (text_of self.now.running.now.task vars.now self.now.running.now.input template.now) result }
+    {
+        let value = self.value_of(fill(self.alloc, template, vars, self.running.input())?)?;
+        match value.node() {
+            JsonNode::Text(text) => Ok(text.copy()?),
+            _ => Err(self.fails(ErrorKind::Expression, "cannot raise")),
         }
-        ErrorRef::Named(name) => {
-            let errors = scene.setting.document.document().errors.as_slice();
-            let Some(error) = error_named(name, errors) else {
-                return Err(fails(alloc, task, ErrorKind::Configuration, "unknown error"));
-            };
-            let vars = within(alloc, &scene.alone(alloc)?, task, raw, input)?;
-            raised(alloc, task, &vars, input, error)
+    }
+
+    // The text of a part that may be missing.
+    fn part(&self, vars: &Vars, template: &Option<Template>) -> Result<Option<Text>, Halt>
+        ensures { Gives (part self.now.running.now.task vars.now self.now.running.now.input template.now) result }
+    {
+        match template {
+            None => Ok(None),
+            Some(template) => Ok(Some(self.text_of(vars, template)?)),
         }
+    }
+
+    // An instance that is given, or the task's place.
+    fn or_place(&self, instance: Option<Text>) -> Result<Text, AllocError>
+        ensures { IfOk result (λ t. t ≡ or_place self.now.running.now.task instance) }
+    {
+        match instance {
+            Some(instance) => Ok(instance),
+            None => pointer_text(self.alloc, &self.running.task().place(self.alloc)?),
+        }
+    }
+
+    // An error whose parts are filled by ascending name.
+    fn raised(&self, vars: &Vars, error: &ErrorSpec) -> Result<Problem, Halt>
+        ensures { Gives (raised self.now.running.now.task vars.now self.now.running.now.input error.now) result }
+    {
+        let detail = self.part(vars, &error.detail)?;
+        let instance = self.part(vars, &error.instance)?;
+        let title = self.part(vars, &error.title)?;
+        let uri = self.text_of(vars, &error.uri)?;
+        let instance = Some(self.or_place(instance)?);
+        Ok(Problem {
+            uri,
+            status: error.status,
+            title,
+            detail,
+            instance,
+        })
+    }
+
+    // The error is written there or has a name in the document.
+    fn raised_by(&self, reference: &ErrorRef) -> Result<Problem, Halt>
+        ensures { Gives (raised_by (line_in self.now) self.now.running.now reference.now) result }
+    {
+        match reference {
+            ErrorRef::Written(error) => self.raised(&self.within()?, error),
+            ErrorRef::Named(name) => {
+                let errors = self.scene.setting.document.document().errors.as_slice();
+                let Some(error) = error_named(name, errors) else {
+                    return Err(self.fails(ErrorKind::Configuration, "unknown error"));
+                };
+                let scene = self.scene.alone(self.alloc)?;
+                self.raised(&within(self.alloc, &scene, self.running)?, error)
+            }
+        }
+    }
+
+    /// A `raise` ends in its error.
+    pub fn raising(&self, reference: &ErrorRef) -> Result<Made, Halt>
+        ensures { Makes (raising (line_in self.now) self.now.running.now reference.now) result }
+    {
+        Err(Halt::Fault(self.raised_by(reference)?))
     }
 }

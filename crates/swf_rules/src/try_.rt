@@ -1,101 +1,31 @@
 // What becomes of an error inside a `try` (DSL 1.0.0, reference, "Try", "Catch" and "Retry").
-ghost use Rattle.std.specs.Prelude.{◌≡◌, is_some, option_map};
+ghost use Rattle.std.specs.Prelude.{◌≡◌, IfOk, option_map};
 ghost use Rattle.swf_document.specs.TaskNode.{handler_of};
-ghost use Rattle.swf_meaning.specs.Try.{caught, retried, handled, later, tried_again, retry_named, allows, catching};
-ghost use Rattle.swf_rules.specs.Asks.{IsAsked, AreAsked, AreUnless};
-ghost use Rattle.swf_scene.specs.Halts.{Gives};
-ghost use Rattle.swf_scene.specs.Stack.{sight_of};
+ghost use Rattle.swf_meaning.specs.Try.{allows, retry_named, unless, conditions, is_retried, or_unknown, policy_of, policy_sees, untried, retried, verdict, by_verdict, caught};
+ghost use Rattle.swf_rules.specs.Rules.{line_in, site_in};
+ghost use Rattle.swf_rules.specs.Verdicts.{verdict_of, Finds};
+ghost use Rattle.swf_scene.specs.Halts.{Gives, Makes};
 ghost use Rattle.swf_scene.specs.TaskRef.{catch_of};
 
-use crate::completion::complete;
-use crate::lists::comes_to;
-use crate::wait::waiting_until;
-use std::alloc::Global;
+use crate::rule::Rule;
+use std::alloc::AllocError;
 use swf_document::{
     ErrorKind, NamedRetry, Problem, RetryPolicy, RetryRef, TrySpec, matches_filter, unboxed,
 };
 use swf_expr::Expr;
-use swf_jq_builtins::is_true;
 use swf_jq_eval::Vars;
-use swf_scene::{Halt, Made, Round, Scene, TaskRef, catching, fails, retrying, value_of};
+use swf_scene::{Halt, Made, Round, catching, retrying};
 use swf_text::{Text, same_texts};
-use swf_transform::first;
-use swf_value::Json;
 
-/// Whether an expression is true.
-pub(crate) fn is_asked(
-    alloc: Global,
-    task: &TaskRef,
-    vars: &Vars,
-    input: &Json,
-    condition: &Expr,
-) -> Result<bool, Halt>
-    ensures { IsAsked task.now vars.now input.now condition.now result }
-{
-    let value = value_of(alloc, task, first(alloc, condition, vars, input)?)?;
-    Ok(is_true(&value))
-}
-
-// Whether an `exceptWhen` is false or absent.
-fn is_no_exception(
-    alloc: Global,
-    task: &TaskRef,
-    vars: &Vars,
-    input: &Json,
-    except: Option<&Expr>,
-) -> Result<bool, Halt>
-    ensures { AreUnless task.now vars.now input.now (option_map (λ e. e.now) except.entry) result }
-{
-    match except {
-        None => Ok(true),
-        Some(condition) => Ok(!is_asked(alloc, task, vars, input, condition)?),
-    }
-}
-
-// Whether a `when` is true or absent, and an `exceptWhen` false or absent.
-fn conditions(
-    alloc: Global,
-    task: &TaskRef,
-    vars: &Vars,
-    input: &Json,
-    when: Option<&Expr>,
-    except: Option<&Expr>,
-) -> Result<bool, Halt>
-    ensures { AreAsked task.now vars.now input.now (option_map (λ e. e.now) when.entry) (option_map (λ e. e.now) except.entry) result }
-{
-    match when {
-        None => is_no_exception(alloc, task, vars, input, except),
-        Some(condition) => {
-            if is_asked(alloc, task, vars, input, condition)? {
-                is_no_exception(alloc, task, vars, input, except)
-            } else {
-                Ok(false)
-            }
-        }
-    }
-}
-
-// An error that is not tried again is handled, or it stays where there is a policy, or the `try` is done.
-fn handled(
-    alloc: Global,
-    scene: &Scene,
-    task: &TaskRef,
-    raw: &Json,
-    input: &Json,
-    problem: &Problem,
-    spec: &TrySpec,
-) -> Result<Made, Halt>
-    ensures { Gives (sight_of scene.entry.now) (handled (sight_of scene.entry.now) task.now raw.now input.now problem.now (handler_of spec.now.handler) (is_some spec.now.retry)) result }
-{
-    if spec.handler.is_some() {
-        let round = Round::Catch(problem.copy()?);
-        return comes_to(alloc, scene, task, raw, input, round, 0, input.copy()?);
-    }
-    if spec.retry.is_some() {
-        Err(Halt::Fault(problem.copy()?))
-    } else {
-        complete(alloc, scene, task, raw, input, input.copy()?)
-    }
+/// What is done about an error: it passes, since it is not caught; the list is tried again after a delay, in milliseconds; another
+/// list handles it; it stays, since no retry is left; or it is given up, and the task is complete.
+#[derive(Clone, Copy, Debug, PartialEq, Eq)]
+pub enum Verdict {
+    Pass,
+    Again(u64),
+    Handle,
+    Stay,
+    Give,
 }
 
 // Whether a policy allows one more retry after so many.
@@ -106,51 +36,6 @@ fn allows(policy: &RetryPolicy, retries: u64) -> bool
         None => true,
         Some(count) => retries < count,
     }
-}
-
-// One more try after the policy's delay.
-fn later(
-    scene: &Scene,
-    task: &TaskRef,
-    raw: &Json,
-    input: &Json,
-    retries: u64,
-    policy: &RetryPolicy,
-) -> Result<Made, Halt>
-    ensures { Gives (sight_of scene.entry.now) (later (sight_of scene.entry.now) task.now raw.now input.now retries policy.now) result }
-{
-    let (Some(retry), Some(until)) = (
-        retries.checked_add(1),
-        scene.now.milliseconds().checked_add(policy.delay),
-    ) else {
-        return Err(Halt::OutOfMemory);
-    };
-    waiting_until(scene, task, raw, input, Some(retry), until)
-}
-
-// A `try` is made again by a policy where it allows that, or its error is handled.
-fn tried_again(
-    alloc: Global,
-    scene: &Scene,
-    task: &TaskRef,
-    raw: &Json,
-    input: &Json,
-    retries: u64,
-    problem: &Problem,
-    spec: &TrySpec,
-    policy: &RetryPolicy,
-    vars: &Vars,
-) -> Result<Made, Halt>
-    ensures { Gives (sight_of scene.entry.now) (tried_again (sight_of scene.entry.now) task.now raw.now input.now retries policy.now vars.now (handled (sight_of scene.entry.now) task.now raw.now input.now problem.now (handler_of spec.now.handler) (is_some spec.now.retry))) result }
-{
-    if allows(policy, retries) {
-        let when = unboxed(&policy.cond);
-        let except = unboxed(&policy.except);
-        if conditions(alloc, task, vars, input, when, except)? {
-            return later(scene, task, raw, input, retries, policy);
-        }
-    }
-    handled(alloc, scene, task, raw, input, problem, spec)
 }
 
 // The policy of a name.
@@ -165,65 +50,144 @@ fn retry_named<'a>(name: &Text, retries: &'a [NamedRetry]) -> Option<&'a RetryPo
     None
 }
 
-// An error that was caught: the `try` is made again by its policy, or the error is handled.
-fn retried(
-    alloc: Global,
-    scene: &Scene,
-    task: &TaskRef,
-    raw: &Json,
-    input: &Json,
-    retries: u64,
-    problem: &Problem,
-    spec: &TrySpec,
-    vars: &Vars,
-) -> Result<Made, Halt>
-    requires { vars.now ≡ catching (sight_of scene.now) task.now raw.now problem.now }
-    ensures { Gives (sight_of scene.entry.now) (retried (sight_of scene.entry.now) task.now raw.now input.now retries problem.now (handler_of spec.now.handler) spec.now.retry) result }
+// What is done about an error that is not tried again, where there is a policy or not.
+fn untried(spec: &TrySpec, has_policy: bool) -> Verdict
+    ensures { verdict_of result ≡ untried (handler_of spec.now.handler) has_policy }
 {
-    let Some(retry) = &spec.retry else {
-        return handled(alloc, scene, task, raw, input, problem, spec);
-    };
-    match retry.get() {
-        RetryRef::Written(policy) => tried_again(
-            alloc, scene, task, raw, input, retries, problem, spec, policy, vars,
-        ),
-        RetryRef::Named(name) => {
-            let policies = scene.setting.document.document().retries.as_slice();
-            let Some(policy) = retry_named(name, policies) else {
-                return Err(fails(alloc, task, ErrorKind::Configuration, "unknown retry"));
-            };
-            let vars = retrying(alloc, scene, task, raw, problem)?;
-            tried_again(
-                alloc, scene, task, raw, input, retries, problem, spec, policy, &vars,
-            )
-        }
+    if spec.handler.is_some() {
+        Verdict::Handle
+    } else if has_policy {
+        Verdict::Stay
+    } else {
+        Verdict::Give
     }
 }
 
-/// An error of the list of a `try` after so many retries: caught where the filter matches and the conditions hold.
-pub fn caught(
-    alloc: Global,
-    scene: &Scene,
-    task: &TaskRef,
-    raw: &Json,
-    input: &Json,
-    retries: u64,
-    problem: &Problem,
-    spec: &TrySpec,
-) -> Result<Made, Halt>
-    ensures { Gives (sight_of scene.entry.now) (caught (sight_of scene.entry.now) task.now raw.now input.now retries problem.now (catch_of spec.now) (handler_of spec.now.handler)) result }
-{
-    if !matches_filter(spec.errors.get(), problem) {
-        return Err(Halt::Fault(problem.copy()?));
+impl Rule<'_> {
+    // Whether an `exceptWhen` is false or absent.
+    fn unless(&self, vars: &Vars, except: Option<&Expr>) -> Result<bool, Halt>
+        ensures { Gives (unless self.now.running.now.task vars.now self.now.running.now.input (option_map (λ e. e.now) except.entry)) result }
+    {
+        match except {
+            None => Ok(true),
+            Some(condition) => Ok(!self.asked(vars, self.running.input(), condition)?),
+        }
     }
-    let vars = catching(alloc, scene, task, raw, problem)?;
-    let when = unboxed(&spec.cond);
-    let except = unboxed(&spec.except);
-    if conditions(alloc, task, &vars, input, when, except)? {
-        retried(
-            alloc, scene, task, raw, input, retries, problem, spec, &vars,
-        )
-    } else {
-        Err(Halt::Fault(problem.copy()?))
+
+    // Whether a `when` is true or absent, and an `exceptWhen` false or absent.
+    fn conditions(
+        &self,
+        vars: &Vars,
+        when: Option<&Expr>,
+        except: Option<&Expr>,
+    ) -> Result<bool, Halt>
+        ensures { Gives (conditions self.now.running.now.task vars.now self.now.running.now.input (option_map (λ e. e.now) when.entry) (option_map (λ e. e.now) except.entry)) result }
+    {
+        match when {
+            None => self.unless(vars, except),
+            Some(condition) => {
+                if self.asked(vars, self.running.input(), condition)? {
+                    self.unless(vars, except)
+                } else {
+                    Ok(false)
+                }
+            }
+        }
+    }
+
+    // Whether a policy allows one more retry after so many.
+    fn is_retried(&self, vars: &Vars, retries: u64, policy: &RetryPolicy) -> Result<bool, Halt>
+        ensures { Gives (is_retried self.now.running.now.task vars.now self.now.running.now.input retries policy.now) result }
+    {
+        if !allows(policy, retries) {
+            return Ok(false);
+        }
+        self.conditions(vars, unboxed(&policy.cond), unboxed(&policy.except))
+    }
+
+    // The policy, which is written there or has a name in the document.
+    fn policy_of<'p>(&'p self, reference: &'p RetryRef) -> Option<&'p RetryPolicy>
+        ensures { or_unknown self.now.running.now.task (option_map (λ q. q.now) result) ≡ policy_of (line_in self.now) self.now.running.now reference.now }
+    {
+        match reference {
+            RetryRef::Written(policy) => Some(policy),
+            RetryRef::Named(name) => {
+                let retries = self.scene.setting.document.document().retries.as_slice();
+                retry_named(name, retries)
+            }
+        }
+    }
+
+    // What the conditions of the policy see.
+    fn policy_sees(&self, problem: &Problem, reference: &RetryRef) -> Result<Vars, AllocError>
+        ensures { IfOk result (λ r. r ≡ policy_sees (line_in self.now) self.now.running.now problem.now reference.now) }
+    {
+        match reference {
+            RetryRef::Written(_) => catching(self.alloc, self.scene, self.running, problem),
+            RetryRef::Named(_) => retrying(self.alloc, self.scene, self.running, problem),
+        }
+    }
+
+    // What is done about an error that was caught after so many retries.
+    fn retried(&self, retries: u64, problem: &Problem, spec: &TrySpec) -> Result<Verdict, Halt>
+        ensures { Finds (retried (line_in self.now) self.now.running.now retries problem.now (handler_of spec.now.handler) spec.now.retry) result }
+    {
+        let Some(reference) = &spec.retry else {
+            return Ok(untried(spec, false));
+        };
+        let reference = reference.get();
+        let Some(policy) = self.policy_of(reference) else {
+            return Err(self.fails(ErrorKind::Configuration, "unknown retry"));
+        };
+        let vars = self.policy_sees(problem, reference)?;
+        if self.is_retried(&vars, retries, policy)? {
+            Ok(Verdict::Again(policy.delay))
+        } else {
+            Ok(untried(spec, true))
+        }
+    }
+
+    // An error of the list after so many retries is caught where the filter matches and the conditions hold.
+    fn verdict(&self, retries: u64, problem: &Problem, spec: &TrySpec) -> Result<Verdict, Halt>
+        ensures { Finds (verdict (line_in self.now) self.now.running.now retries problem.now (catch_of spec.now) (handler_of spec.now.handler)) result }
+    {
+        if !matches_filter(spec.errors.get(), problem) {
+            return Ok(Verdict::Pass);
+        }
+        let vars = catching(self.alloc, self.scene, self.running, problem)?;
+        if self.conditions(&vars, unboxed(&spec.cond), unboxed(&spec.except))? {
+            self.retried(retries, problem, spec)
+        } else {
+            Ok(Verdict::Pass)
+        }
+    }
+
+    // What a verdict leads to.
+    fn by_verdict(&self, retries: u64, problem: &Problem, verdict: Verdict) -> Result<Made, Halt>
+        ensures { Makes (by_verdict (site_in self.now) (line_in self.now) self.now.running.now retries problem.now (verdict_of verdict)) result }
+    {
+        match verdict {
+            Verdict::Pass => Err(Halt::Fault(problem.copy()?)),
+            Verdict::Again(delay) => self.later(retries, delay),
+            Verdict::Handle => {
+                let round = Round::Catch(problem.copy()?);
+                self.comes_to(round, 0, self.running.input().copy()?)
+            }
+            Verdict::Stay => Err(Halt::Fault(problem.copy()?)),
+            Verdict::Give => self.complete(self.running.input().copy()?),
+        }
+    }
+
+    /// An error of the list of a `try` after so many retries.
+    pub(crate) fn caught(
+        &self,
+        retries: u64,
+        problem: &Problem,
+        spec: &TrySpec,
+    ) -> Result<Made, Halt>
+        ensures { Makes (caught (site_in self.now) (line_in self.now) self.now.running.now retries problem.now (catch_of spec.now) (handler_of spec.now.handler)) result }
+    {
+        let verdict = self.verdict(retries, problem, spec)?;
+        self.by_verdict(retries, problem, verdict)
     }
 }

@@ -1,66 +1,59 @@
 // Waiting until a moment (DSL 1.0.0, reference, "Wait" and "Retry").
+ghost use Rattle.std.specs.Prelude.{◌+◌, Ok};
 ghost use Rattle.swf_document.specs.Task.{wait};
 ghost use Rattle.swf_meaning.specs.Complete.{becomes};
 ghost use Rattle.swf_meaning.specs.Enter.{begun};
-ghost use Rattle.swf_meaning.specs.Node.{Live};
-ghost use Rattle.swf_scene.specs.Halts.{Gives};
-ghost use Rattle.swf_scene.specs.Stack.{sight_of, waiting};
+ghost use Rattle.swf_meaning.specs.Node.{Live, Later};
+ghost use Rattle.swf_rules.specs.Rules.{line_in, site_in};
 ghost use Rattle.swf_rules.specs.Woken.{woken_to};
+ghost use Rattle.swf_scene.specs.Halts.{Makes};
+ghost use Rattle.swf_scene.specs.Stack.{waiting};
 
-use crate::completion::{becoming, complete};
-use crate::lists::comes_to;
-use std::alloc::Global;
-use swf_scene::{Halt, Made, Round, Scene, TaskRef, Top};
-use swf_value::Json;
+use crate::completion::becoming;
+use crate::rule::Rule;
+use swf_scene::{Halt, Made, Round, Top};
 
-/// A task waits until a moment, a `try` for the retry of this number.
-pub fn waiting_until(
-    scene: &Scene,
-    task: &TaskRef,
-    raw: &Json,
-    input: &Json,
-    retries: Option<u64>,
-    until: u64,
-) -> Result<Made, Halt>
-    ensures { Gives (sight_of scene.entry.now) (becomes (sight_of scene.entry.now) (Live task.now raw.now input.now (waiting retries until))) result }
-{
-    let context = scene.context.copy()?;
-    let top = Top::waiting(task, raw, input, retries, until)?;
-    Ok(becoming(top, context))
-}
+impl Rule<'_> {
+    // The task waits for so long from now, a `try` for the retry of this number.
+    fn waiting_for(&self, retries: Option<u64>, duration: u64) -> Result<Made, Halt>
+        ensures { Makes (Ok (becomes (line_in self.now) (Live self.now.running.now (waiting retries ((site_in self.now).now + duration))))) result }
+    {
+        let Some(until) = self.scene.now.milliseconds().checked_add(duration) else {
+            return Err(Halt::OutOfMemory);
+        };
+        let top = Top::Waiting {
+            running: self.running.copy()?,
+            retries,
+            until,
+        };
+        Ok(becoming(top, self.scene.context.copy()?))
+    }
 
-/// A `wait` begins.
-pub fn waiting(
-    scene: &Scene,
-    task: &TaskRef,
-    raw: &Json,
-    input: &Json,
-    duration: u64,
-) -> Result<Made, Halt>
-    ensures { Gives (sight_of scene.entry.now) (begun (sight_of scene.entry.now) task.now raw.now input.now (wait duration)) result }
-{
-    let Some(until) = scene.now.milliseconds().checked_add(duration) else {
-        return Err(Halt::OutOfMemory);
-    };
-    waiting_until(scene, task, raw, input, None, until)
-}
+    // One more try after a delay.
+    pub(crate) fn later(&self, retries: u64, delay: u64) -> Result<Made, Halt>
+        ensures { Makes (Ok (becomes (line_in self.now) (Live self.now.running.now (Later (retries + 1) ((site_in self.now).now + delay))))) result }
+    {
+        let Some(retry) = retries.checked_add(1) else {
+            return Err(Halt::OutOfMemory);
+        };
+        self.waiting_for(Some(retry), delay)
+    }
 
-/// The moment has come: a `wait` is complete, and a `try` is made again.
-pub fn woken(
-    alloc: Global,
-    scene: &Scene,
-    task: &TaskRef,
-    raw: &Json,
-    input: &Json,
-    retries: Option<u64>,
-) -> Result<Made, Halt>
-    ensures { Gives (sight_of scene.entry.now) (woken_to (sight_of scene.entry.now) task.now raw.now input.now retries) result }
-{
-    match retries {
-        None => complete(alloc, scene, task, raw, input, input.copy()?),
-        Some(retries) => {
-            let round = Round::Try { retries };
-            comes_to(alloc, scene, task, raw, input, round, 0, input.copy()?)
+    /// A `wait` begins.
+    pub fn waiting(&self, duration: u64) -> Result<Made, Halt>
+        ensures { Makes (begun (site_in self.now) (line_in self.now) self.now.running.now (wait duration)) result }
+    {
+        self.waiting_for(None, duration)
+    }
+
+    /// The moment has come: a `wait` is complete, and a `try` is made again.
+    pub fn woken(&self, retries: Option<u64>) -> Result<Made, Halt>
+        ensures { Makes (woken_to (line_in self.now) self.now.running.now retries) result }
+    {
+        let input = self.running.input().copy()?;
+        match retries {
+            None => self.complete(input),
+            Some(retries) => self.comes_to(Round::Try { retries }, 0, input),
         }
     }
 }

@@ -1,3 +1,16 @@
 pub mod RunLemmas
 pub mod OnceLemmas
 pub mod KeyLemmas
+pub mod StrandLemmas
+pub mod OfferLemmas
+pub mod RuleLemmas
+pub mod AliveLemmas
+pub mod LimitLemmas
+pub mod WorldLemmas
+pub mod KeepLemmas
+pub mod StayLemmas
+pub mod QuietLemmas
+pub mod WaitingLemmas
+pub mod HistoryLemmas
+pub mod GrowLemmas
+pub mod DueLemmas

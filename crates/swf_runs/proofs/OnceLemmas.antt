@@ -1,14 +1,13 @@
 -- In a legal run no key is used twice.
-use Rattle.std.proofs.Common.{arith, ◌+◌, ◌⊎◌, inl, inr, ⊎_elim, ◌≡◌, ◌∙◌, ap, sym, refl, subst, ℕ, List, [], ◌∷◌, ◌++◌, Bool, true, false, not, ◌&&◌, ◌||◌, ◌≤◌, ◌==◌, if◌then◌else◌, is_some, Option, Some, None, option_map, option_and_then, unwrap_or, codes, nat_le, length}
+use Rattle.std.proofs.Common.{arith, ◌+◌, ◌⊎◌, inl, inr, ⊎_elim, ◌≡◌, ◌∙◌, ap, sym, refl, subst, ℕ, List, [], ◌∷◌, ◌++◌, Bool, true, false, not, ◌&&◌, ◌||◌, ◌≤◌, if◌then◌else◌, is_some, Option, Some, None, option_map, option_and_then, nat_le, length}
 use Rattle.std.specs.List.{list_any, filter_map, cons_option}
 use Rattle.std.proofs.lemmas.Bool.{and_parts, or_parts, or_left, or_right, or_from, and_from, not_from_false, false_from_ne_true, both_ways, leb-false, eqb-true, eq-eqb}
-use Rattle.std.proofs.lemmas.Option.{cond_some, option_and_then_some, same_Some}
+use Rattle.std.proofs.lemmas.Option.{option_and_then_some, same_Some}
 use Rattle.std.proofs.lemmas.List.Folds.{list_any-append}
 use Rattle.swf_value.specs.Value.{Value}
 use Rattle.swf_text.specs.Same.{same}
 use Rattle.swf_text.proofs.SameLemmas.{same_true, same_refl}
 use Rattle.swf_reader.specs.Reads.{document_of}
-use Rattle.swf_document.specs.declared.document.DocKey.{DocKey}
 use Rattle.swf_document.specs.declared.document.Document.{Document}
 use Rattle.swf_document.specs.declared.fault.Fault.{Fault}
 use Rattle.swf_meaning.specs.declared.label.Label.{Label}
@@ -18,16 +17,16 @@ use Rattle.swf_runs.specs.Keys.{same_key, doc_key, key_of, are_distinct, Once}
 use Rattle.swf_meaning.specs.declared.key.Key.{Key}
 use Rattle.swf_meaning.specs.declared.key.Key.TheVariants.{Document as OfDocument, Instance as OfInstance, Event as OfEvent, Activity as OfActivity, Moment as OfMoment}
 use Rattle.swf_meaning.specs.World.{World, empty, new_instance}
-use Rattle.swf_runs.specs.After.{is_used, with_document, loaded, load_faults, if_none, accepted, most_documents, document_at, with_instance, most_instances, with_event, told, stepped, sent, with_instances, counted, started, reached, after}
+use Rattle.swf_runs.specs.After.{is_used, with_document, loaded, load_faults, if_none, accepted, most_documents, document_at, with_instance, most_instances, with_event, stepped, sent, with_instances, counted, after}
 use Rattle.swf_runs.specs.Runs.{run_from, Legal}
 
 -- what is mapped to a value is a value
-mapped_some : {A B P : Type 0} (f : A → B) (o : Option A) (y : B) → option_map f o ≡ Some y → ((x : A) → o ≡ Some x → f x ≡ y → P) → P
+pub mapped_some : {A B P : Type 0} (f : A → B) (o : Option A) (y : B) → option_map f o ≡ Some y → ((x : A) → o ≡ Some x → f x ≡ y → P) → P
 mapped_some f None y e k = cc
 mapped_some f (Some x) y e k = k x refl (same_Some (f x) y e)
 
 -- a choice that gives a value where the test must fail
-refused_some : {A : Type 0} (b : Bool) (o : Option A) (y : A) → (if b then None else o) ≡ Some y → (b ≡ false) × (o ≡ Some y)
+pub refused_some : {A : Type 0} (b : Bool) (o : Option A) (y : A) → (if b then None else o) ≡ Some y → (b ≡ false) × (o ≡ Some y)
 refused_some true o y e = cc
 refused_some false o y e = (refl, e)
 
@@ -74,7 +73,7 @@ pub doc_key_read : (v : Value) (d : Document) → accepted v ≡ Some d → doc_
 doc_key_read v d e = ap (λ d. d.key) (accepted_is v d e)
 
 -- what a label's key does in the world after it: it was not used, and it is now
-abbrev Grown : Option Key → World → World → Type 0
+abbrev pub Grown : Option Key → World → World → Type 0
 Grown None w m = m.keys ≡ w.keys
 Grown (Some k) w m = (is_used k w ≡ false) × (m.keys ≡ w.keys ++ (k, w.count) ∷ [])
 
@@ -85,7 +84,7 @@ loaded_grown w m v d e =
     ((or_parts (is_used (OfDocument d.key) w) (nat_le most_documents (length w.documents)) h.0).0, ap (λ u. u.keys) (sym (same_Some (with_document w v d) m h.1)))
 
 -- no moment was reached that is above the present one
-abbrev Timed : World → Type 0
+abbrev pub Timed : World → Type 0
 Timed w = (t : ℕ) → is_used (OfMoment t) w ≡ true → t ≤ w.now
 
 not_reached : (w : World) (t : ℕ) → Timed w → nat_le t w.now ≡ false → is_used (OfMoment t) w ≡ false
@@ -96,12 +95,12 @@ sent_keys : (w : World) (o : Option Event) → (sent w o).keys ≡ w.keys
 sent_keys w None = refl
 sent_keys w (Some e) = refl
 
-sent_now : (w : World) (o : Option Event) → (sent w o).now ≡ w.now
+pub sent_now : (w : World) (o : Option Event) → (sent w o).now ≡ w.now
 sent_now w None = refl
 sent_now w (Some e) = refl
 
 -- a label that has a key asks for a new one, which it uses
-after_grown : (w m : World) (l : Label) → Timed w → after w l ≡ Some m → Grown (key_of l) w m
+pub after_grown : (w m : World) (l : Label) → Timed w → after w l ≡ Some m → Grown (key_of l) w m
 after_grown w m (Load v) timed e = option_and_then_some (loaded w v) (accepted v) m e
     (λ d p q. subst (λ k. Grown (Some (OfDocument k)) w m) (sym (doc_key_read v d p)) (loaded_grown w m v d q))
 after_grown w m (Start id key input) timed e =
@@ -154,20 +153,20 @@ later w m (Moment t) e =
 later w m (Step id strand) e =
     same_now (Step id strand) w m (mapped_some (with_instances w) (stepped w.now id strand w.instances) m e (λ x p q. ap (λ u. u.now) (sym q) ∙ sent_now (record w { instances = x.0; count = w.count + 1 }) x.1)) (λ t k. cc)
 
-timed_after : (w m : World) (l : Label) → Timed w → after w l ≡ Some m → Timed m
+pub timed_after : (w m : World) (l : Label) → Timed w → after w l ≡ Some m → Timed m
 timed_after w m l timed e t u =
     let f = later w m l e in
     ⊎_elim (λ p. omega (arith, timed t p, f.0)) (λ q. f.1 t q) (used_before (key_of l) w m (OfMoment t) (after_grown w m l timed e) u)
 
 -- a key that was used stays so
-still_used : (o : Option Key) (w m : World) (k : Key) → Grown o w m → is_used k w ≡ true → is_used k m ≡ true
+pub still_used : (o : Option Key) (w m : World) (k : Key) → Grown o w m → is_used k w ≡ true → is_used k m ≡ true
 still_used None w m k g u = ap (list_any (λ p. same_key k p.0)) g ∙ u
 still_used (Some a) w m k g u =
     ap (list_any (λ p. same_key k p.0)) g.1 ∙ list_any-append (λ p. same_key k p.0) w.keys ((a, w.count) ∷ [])
     ∙ or_left (is_used k w) (same_key k a || false) u
 
 -- a label's key is used after it
-now_used : (w m : World) (k : Key) → Grown (Some k) w m → is_used k m ≡ true
+pub now_used : (w m : World) (k : Key) → Grown (Some k) w m → is_used k m ≡ true
 now_used w m k g =
     ap (list_any (λ p. same_key k p.0)) g.1 ∙ list_any-append (λ p. same_key k p.0) w.keys ((k, w.count) ∷ [])
     ∙ or_right (is_used k w) (same_key k k || false) (or_left (same_key k k) false (same_key_refl k))

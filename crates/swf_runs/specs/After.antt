@@ -1,7 +1,7 @@
 -- What a label needs, and what it changes.
-use Rattle.std.specs.Prelude.{◌+◌, ◌||◌, ℕ, List, [], ◌∷◌, ◌++◌, Bool, true, false, length, nat_le, Option, Some, None, option_map, option_and_then, if◌then◌else◌}
+use Rattle.std.specs.Prelude.{◌+◌, ◌||◌, ℕ, List, [], ◌∷◌, ◌++◌, Bool, false, length, nat_le, Option, Some, None, option_map, option_and_then, if◌then◌else◌}
 use Rattle.std.specs.List.{list_any}
-use Rattle.swf_value.specs.Value.{Value, null}
+use Rattle.swf_value.specs.Value.{Value}
 use Rattle.swf_calls.specs.declared.reply.CallReply.{CallReply}
 use Rattle.swf_cloudevents.specs.declared.event.Event.{Event}
 use Rattle.swf_text.specs.Same.{same}
@@ -13,12 +13,11 @@ use Rattle.swf_meaning.specs.declared.label.Label.{Label}
 use Rattle.swf_meaning.specs.declared.label.Label.TheVariants.{Load, Start, Event as Told, Reply, Moment, Step}
 use Rattle.swf_document.specs.declared.fault.Fault.{Fault}
 use Rattle.swf_meaning.specs.Built.{not_built}
-use Rattle.swf_meaning.specs.Local.{local}
 use Rattle.swf_runs.specs.Keys.{same_doc, same_key}
 use Rattle.swf_meaning.specs.Offer.{offered_all, takers}
 use Rattle.swf_meaning.specs.declared.key.Key.{Key}
 use Rattle.swf_meaning.specs.declared.key.Key.TheVariants.{Document as OfDocument, Instance as OfInstance, Event as OfEvent, Moment as OfMoment}
-use Rattle.swf_meaning.specs.World.{Instance, Loaded, World, sight, new_instance, with_step}
+use Rattle.swf_meaning.specs.World.{Instance, Loaded, World, step_at, new_instance, with_step}
 
 abbrev pub most_documents : ℕ
 most_documents = 1000
@@ -93,7 +92,7 @@ abbrev pub stepped : ℕ → List ℕ → List ℕ → List Instance → Option 
 stepped now id strand [] = None
 stepped now id strand (i ∷ is) =
     if same id i.id
-    then option_map (λ m. (with_step i m ∷ is, m.emitted)) (local (sight now i) strand i.node)
+    then option_map (λ m. (with_step i m ∷ is, m.emitted)) (step_at now strand i)
     else option_map (λ p. (i ∷ p.0, p.1)) (stepped now id strand is)
 
 -- an event that goes out is offered to every `listen`

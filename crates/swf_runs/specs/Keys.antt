@@ -1,5 +1,5 @@
 -- By what an outcome is known, so that none acts twice.
-use Rattle.std.specs.Prelude.{◌≡◌, ◌&&◌, ◌==◌, ℕ, List, [], ◌∷◌, Bool, true, false, not, Option, Some, None}
+use Rattle.std.specs.Prelude.{◌≡◌, ◌&&◌, ◌==◌, List, [], ◌∷◌, Bool, true, false, not, Option, Some, None}
 use Rattle.std.specs.List.{list_any, filter_map}
 use Rattle.swf_value.specs.Value.{Value}
 use Rattle.swf_text.specs.Same.{same}

@@ -2,3 +2,11 @@ pub mod Keys
 pub mod Outcomes
 pub mod After
 pub mod Runs
+pub mod Alive
+pub mod Stays
+pub mod Grows
+pub mod Quiet
+pub mod Waiting
+pub mod Kept
+pub mod Within
+pub mod Counted

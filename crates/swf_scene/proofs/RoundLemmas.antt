@@ -3,11 +3,11 @@ use Rattle.std.proofs.Common.{◌≡◌, ◌∙◌, ◌<◌, ◌≤◌, ◌^◌,
 use Rattle.std.proofs.Math.Bridge.{le_prop}
 use Rattle.std.proofs.lemmas.Option.{slice_get_past, slice_get_read}
 use Rattle.swf_value.specs.Value.{Value, int}
-use Rattle.swf_meaning.specs.Sight.{variable}
+use Rattle.swf_meaning.specs.Line.{variable}
 use Rattle.swf_jq_eval.specs.declared.vars.Variable.{Variable}
 use Rattle.swf_document.specs.declared.tasks.ForSpec.{ForSpec}
 use Rattle.swf_meaning.specs.Around.{seen, turn_variables}
-use Rattle.swf_meaning.specs.Sight.{Sight}
+use Rattle.swf_meaning.specs.Line.{Line}
 use Rattle.swf_scene.specs.Stack.{round_of, seen_in}
 use Rattle.swf_scene.specs.TaskRef.{loop_of, loop_variables}
 use Rattle.swf_scene.specs.declared.made.Frame.{Frame}
@@ -20,9 +20,9 @@ same-turn t items e p =
     λ i. record { items = p i; number = t.number; few = same i }
 
 -- what is seen inside running tasks and then inside more of them
-pub seen_in-append : (s : Sight) (fs gs : List Frame) → seen_in s (fs ++ gs) ≡ seen_in (seen_in s fs) gs
-seen_in-append s [] gs = refl
-seen_in-append s (f ∷ fs) gs = seen_in-append (seen s f.task (round_of f.round)) fs gs
+pub seen_in-append : (l : Line) (fs gs : List Frame) → seen_in l (fs ++ gs) ≡ seen_in (seen_in l fs) gs
+seen_in-append l [] gs = refl
+seen_in-append l (f ∷ fs) gs = seen_in-append (seen l f.running.task (round_of f.round)) fs gs
 
 -- the variables of a turn
 pub turn_past : (s : ForSpec) (t : Turn) → length t.items ≤ t.number → loop_variables s t ≡ []

@@ -3,7 +3,7 @@ use Rattle.std.proofs.Common.{◌≡◌}
 use Rattle.std.specs.Coded.{Coded-set}
 use mathlib.Core.HLevel.{is_prop→PathP}
 use Rattle.swf_value.specs.ValueCode.{value_code}
-use Rattle.swf_meaning.specs.Sight.{workflow_value}
+use Rattle.swf_meaning.specs.Line.{workflow_value}
 use Rattle.swf_scene.specs.declared.setting.Setting.{Setting}
 
 -- all that a setting holds is data

@@ -1,6 +1,6 @@
 -- The last part of a place.
 use Rattle.std.proofs.Common.{◌≡◌, ◌∙◌, ℕ, List, [], ◌∷◌, ◌++◌, refl, ap}
-use Rattle.swf_meaning.specs.Sight.{last_part}
+use Rattle.swf_meaning.specs.Line.{last_part}
 
 last_part-append : (ps : List (List ℕ)) (x : List ℕ) → last_part (ps ++ x ∷ []) ≡ x
 last_part-append [] x = refl

@@ -1,11 +1,12 @@
 -- The tree that a stack stands for.
 use Rattle.std.specs.Prelude.{ℕ, List, [], ◌∷◌, Option, Some, None, option_to_list}
-use Rattle.swf_meaning.specs.Node.{Node, Fresh, Live, Done, Fault, Inside, At, Later, Sleep, Hear, Forked, Nodes, no_nodes, Round, Seq, Each, Try, Catch}
+use Rattle.swf_meaning.specs.Node.{Node, Fresh, Live, Done, Fault, Inside, At, Later, Sleep, Hear, Forked, Nodes, no_nodes, Round, Seq, Each, Try, Catch, Running}
 use Rattle.swf_meaning.specs.Around.{seen}
 use Rattle.swf_meaning.specs.Complete.{Stepped}
 use Rattle.swf_meaning.specs.Fork.{branches_of, fresh}
-use Rattle.swf_meaning.specs.Sight.{Sight}
+use Rattle.swf_meaning.specs.Line.{Line, Site}
 use Rattle.swf_meaning.specs.World.{Instance}
+use Rattle.swf_cloudevents.specs.declared.event.Event.{Event}
 use Rattle.swf_scene.specs.declared.made.Frame.{Frame}
 use Rattle.swf_scene.specs.declared.made.Made.{Made}
 use Rattle.swf_scene.specs.declared.made.Round.{Round as DeclaredRound}
@@ -30,13 +31,13 @@ abbrev pub top_node : Top → Node
 top_node (tops.Fresh t v) = Fresh t v
 top_node (tops.Done w f) = Done w f
 top_node (tops.Fault p) = Fault p
-top_node (tops.Waiting t v u n until) = Live t v u (waiting n until)
-top_node (tops.Hearing t v u bound hs) = Live t v u (Hear bound hs)
-top_node (tops.Forked t v u) = Live t v u (Forked no_nodes)
+top_node (tops.Waiting r n until) = Live r (waiting n until)
+top_node (tops.Hearing r bound hs) = Live r (Hear bound hs)
+top_node (tops.Forked r) = Live r (Forked no_nodes)
 
 -- a `fork` with these branches below it; what is no `fork` has none
 abbrev pub forked_inside : Inside → Nodes → Inside
-forked_inside (At r i n) ns = At r i n
+forked_inside (At round i n) ns = At round i n
 forked_inside (Later n m) ns = Later n m
 forked_inside (Sleep m) ns = Sleep m
 forked_inside (Hear bound hs) ns = Hear bound hs
@@ -44,7 +45,7 @@ forked_inside (Forked ms) ns = Forked ns
 
 abbrev pub forked : Node → Nodes → Node
 forked (Fresh t v) ns = Fresh t v
-forked (Live t v u k) ns = Live t v u (forked_inside k ns)
+forked (Live r k) ns = Live r (forked_inside k ns)
 forked (Done w f) ns = Done w f
 forked (Fault p) ns = Fault p
 
@@ -53,33 +54,42 @@ abbrev pub made_node : Top → Node
 made_node (tops.Fresh t v) = Fresh t v
 made_node (tops.Done w f) = Done w f
 made_node (tops.Fault p) = Fault p
-made_node (tops.Waiting t v u n until) = Live t v u (waiting n until)
-made_node (tops.Hearing t v u bound hs) = Live t v u (Hear bound hs)
-made_node (tops.Forked t v u) = Live t v u (Forked (fresh (branches_of t) u))
+made_node (tops.Waiting r n until) = Live r (waiting n until)
+made_node (tops.Hearing r bound hs) = Live r (Hear bound hs)
+made_node (tops.Forked r) = Live r (Forked (fresh (branches_of r.task) r.input))
 
 -- a node inside running tasks, of which the first is outermost
 abbrev pub plug : List Frame → Node → Node
 plug [] n = n
-plug (f ∷ fs) n = Live f.task f.raw f.input (At (round_of f.round) f.place (plug fs n))
+plug (f ∷ fs) n = Live f.running (At (round_of f.round) f.place (plug fs n))
+
+-- an event that goes out uses a number
+abbrev pub used_by : Option Event → ℕ
+used_by None = 0
+used_by (Some e) = 1
 
 abbrev pub stepped_of : Made → Stepped
-stepped_of m = record { node = plug (option_to_list m.frame) (made_node m.top); context = m.context; emitted = m.emitted }
+stepped_of m = record { node = plug (option_to_list m.frame) (made_node m.top); context = m.context; used = used_by m.emitted; emitted = m.emitted }
 
--- what a step goes by outside every task
-abbrev pub setting_sight : Setting → ℕ → ℕ → Sight
-setting_sight s branches now = record { document = s.document; id = s.id; started = s.started; input = s.input; context = s.context; number = s.number; branches = branches; now = now; around = [] }
+-- what every step of an instance goes by, outside all tasks
+abbrev pub setting_line : Setting → Line
+setting_line s = record { document = s.document; id = s.id; started = s.started; input = s.input; context = s.context; around = [] }
 
-abbrev pub sight_of : Scene → Sight
-sight_of s = record (setting_sight s.setting.now s.branches s.now) { context = s.context; around = s.around.items }
+abbrev pub line_of : Scene → Line
+line_of s = record (setting_line s.setting.now) { context = s.context; around = s.around.items }
+
+-- and what some go by besides
+abbrev pub site_of : Scene → Site
+site_of s = record { number = s.setting.now.number; branches = s.branches; now = s.now }
 
 -- the same without the variables around
-abbrev pub alone : Sight → Sight
-alone s = record s { around = [] }
+abbrev pub alone : Line → Line
+alone l = record l { around = [] }
 
 -- what a task inside these running tasks goes by
-abbrev pub seen_in : Sight → List Frame → Sight
-seen_in s [] = s
-seen_in s (f ∷ fs) = seen_in (seen s f.task (round_of f.round)) fs
+abbrev pub seen_in : Line → List Frame → Line
+seen_in l [] = l
+seen_in l (f ∷ fs) = seen_in (seen l f.running.task (round_of f.round)) fs
 
 -- the instance that a setting and a tree stand for
 abbrev pub instance_of : Setting → Node → Instance

@@ -4,7 +4,8 @@ ghost use Rattle.swf_text.specs.Same.{is_ascii};
 ghost use Rattle.swf_document.specs.Errors.{standard};
 ghost use Rattle.swf_meaning.specs.Parts.{place_of};
 ghost use Rattle.swf_scene.specs.declared.halt.Halt.TheVariants.{OutOfMemory};
-ghost use Rattle.swf_scene.specs.Halts.{IsFault, IsGot};
+ghost use Rattle.swf_meaning.specs.Rule.{value_of};
+ghost use Rattle.swf_scene.specs.Halts.{IsFault, Gives};
 
 use crate::task::TaskRef;
 use std::alloc::{AllocError, AllocFailed, Global};
@@ -61,7 +62,7 @@ fn failure(
 
 /// The value that was got for a task, or its error.
 pub fn value_of(alloc: Global, task: &TaskRef, got: Got<Json>) -> Result<Json, Halt>
-    ensures { IsGot task.now got result }
+    ensures { Gives (value_of task.now got) result }
 {
     match got {
         Got::Value(value) => Ok(value),

@@ -4,6 +4,7 @@
 mod halt;
 mod heard;
 mod made;
+mod running;
 mod scene;
 mod sent;
 mod setting;
@@ -17,6 +18,7 @@ mod words;
 pub use halt::{Halt, fails, value_of};
 pub use heard::{is_heard, is_satisfied};
 pub use made::{Frame, Layer, Made, Round, Top, Turn};
+pub use running::Running;
 pub use scene::Scene;
 pub use sent::SentEvent;
 pub use setting::Setting;

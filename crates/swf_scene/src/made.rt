@@ -1,6 +1,7 @@
 // What an instance is made of, as a stack of the tasks that run inside each other.
 ghost use Rattle.std.specs.Prelude.{◌≡◌, ◌<◌, ◌-◌, ◌^◌, IfOk};
 
+use crate::running::Running;
 use crate::sent::SentEvent;
 use crate::shared_frame::SharedFrame;
 use crate::task::TaskRef;
@@ -31,12 +32,10 @@ pub enum Round {
     Catch(Problem),
 }
 
-/// A task that runs, with its raw and its transformed input, and the place of what runs in its list.
+/// A task that runs, and the place of what runs in its list.
 #[derive(Drop)]
 pub struct Frame {
-    pub task: TaskRef,
-    pub raw: Json,
-    pub input: Json,
+    pub running: Running,
     pub round: Round,
     pub place: usize,
     ghost counted: { place < 2 ^ 64 - 1 },
@@ -56,26 +55,18 @@ pub enum Top {
     Fault(Problem),
     /// A `wait`, or a `try` that waits to make that retry, until a moment.
     Waiting {
-        task: TaskRef,
-        raw: Json,
-        input: Json,
+        running: Running,
         retries: Option<u64>,
         until: u64,
     },
     /// A `listen`, with the values that names are bound to and what it heard.
     Hearing {
-        task: TaskRef,
-        raw: Json,
-        input: Json,
+        running: Running,
         bound: NamedValues,
         heard: Listing<Heard>,
     },
     /// A `fork` whose branches run, each on a strand of its own below this one.
-    Forked {
-        task: TaskRef,
-        raw: Json,
-        input: Json,
-    },
+    Forked(Running),
 }
 
 /// What a strand holds: the tasks that run, the outermost first, and at the top what stands innermost.
@@ -128,77 +119,26 @@ impl Top {
             }),
             Top::Fault(problem) => Ok(Top::Fault(problem.copy()?)),
             Top::Waiting {
-                task,
-                raw,
-                input,
+                running,
                 retries,
                 until,
-            } => Top::waiting(task, raw, input, *retries, *until),
+            } => Ok(Top::Waiting {
+                running: running.copy()?,
+                retries: *retries,
+                until: *until,
+            }),
             Top::Hearing {
-                task,
-                raw,
-                input,
+                running,
                 bound,
                 heard,
-            } => Top::hearing(task, raw, input, bound, heard),
-            Top::Forked { task, raw, input } => Top::forked(task, raw, input),
+            } => Ok(Top::Hearing {
+                running: running.copy()?,
+                bound: bound.copy()?,
+                heard: heard.copy()?,
+            }),
+            Top::Forked(running) => Ok(Top::Forked(running.copy()?)),
         }
     }
-
-    /// A task that waits until a moment.
-    pub fn waiting(
-        task: &TaskRef,
-        raw: &Json,
-        input: &Json,
-        retries: Option<u64>,
-        until: u64,
-    ) -> Result<Top, AllocError>
-        ensures { IfOk result (λ t. t ≡ Top.Waiting task.now raw.now input.now retries until) }
-    {
-        let (task, raw, input) = once_more(task, raw, input)?;
-        Ok(Top::Waiting {
-            task,
-            raw,
-            input,
-            retries,
-            until,
-        })
-    }
-
-    /// A task that listens.
-    pub fn hearing(
-        task: &TaskRef,
-        raw: &Json,
-        input: &Json,
-        bound: &NamedValues,
-        heard: &Listing<Heard>,
-    ) -> Result<Top, AllocError>
-        ensures { IfOk result (λ t. t ≡ Top.Hearing task.now raw.now input.now bound.now heard.now) }
-    {
-        let (task, raw, input) = once_more(task, raw, input)?;
-        Ok(Top::Hearing {
-            task,
-            raw,
-            input,
-            bound: bound.copy()?,
-            heard: heard.copy()?,
-        })
-    }
-
-    /// A task whose branches run.
-    pub fn forked(task: &TaskRef, raw: &Json, input: &Json) -> Result<Top, AllocError>
-        ensures { IfOk result (λ t. t ≡ Top.Forked task.now raw.now input.now) }
-    {
-        let (task, raw, input) = once_more(task, raw, input)?;
-        Ok(Top::Forked { task, raw, input })
-    }
-}
-
-// A task with its raw and its transformed input once more.
-fn once_more(task: &TaskRef, raw: &Json, input: &Json) -> Result<(TaskRef, Json, Json), AllocError>
-    ensures { IfOk result (λ p. p ≡ (task.now, raw.now, input.now)) }
-{
-    Ok((task.copy()?, raw.copy()?, input.copy()?))
 }
 
 impl CopyFrame for Layer {

@@ -1,9 +1,8 @@
 // What the tasks of an instance go by.
 ghost use Rattle.std.specs.Prelude.{◌≡◌, ◌++◌, [], IfOk};
 ghost use Rattle.swf_meaning.specs.Around.{seen};
-ghost use Rattle.swf_meaning.specs.Sight.{Sight};
 ghost use Rattle.swf_scene.specs.Layers.{frames_of};
-ghost use Rattle.swf_scene.specs.Stack.{sight_of, setting_sight, seen_in, round_of, alone};
+ghost use Rattle.swf_scene.specs.Stack.{line_of, site_of, setting_line, seen_in, round_of, alone};
 
 use crate::made::{Layer, Round};
 use crate::setting::Setting;
@@ -36,7 +35,8 @@ impl<'a> Scene<'a> {
         branches: usize,
         site: &Site<'a>,
     ) -> Result<Scene<'a>, AllocError>
-        ensures { IfOk result (λ s. sight_of s ≡ setting_sight setting.now branches site.entry.now.now) }
+        ensures line { IfOk result (λ s. line_of s ≡ setting_line setting.now) }
+        ensures site { IfOk result (λ s. site_of s ≡ record { number = setting.now.number; branches = branches; now = site.entry.now.now }) }
     {
         Ok(Scene {
             setting,
@@ -50,7 +50,8 @@ impl<'a> Scene<'a> {
 
     /// The same once more. It copies no values.
     pub fn copy(&self, alloc: Global) -> Result<Scene<'a>, AllocError>
-        ensures { IfOk result (λ s. sight_of s ≡ sight_of self.entry.now) }
+        ensures line { IfOk result (λ s. line_of s ≡ line_of self.entry.now) }
+        ensures site { IfOk result (λ s. site_of s ≡ site_of self.entry.now) }
     {
         Ok(Scene {
             setting: self.setting,
@@ -64,7 +65,8 @@ impl<'a> Scene<'a> {
 
     /// The same with another context.
     pub fn with_context(mut self, context: Json) -> Scene<'a>
-        ensures { sight_of result ≡ record (sight_of self.entry) { context = context } }
+        ensures line { line_of result ≡ record (line_of self.entry) { context = context } }
+        ensures site { site_of result ≡ site_of self.entry }
     {
         self.context = context;
         self
@@ -72,12 +74,13 @@ impl<'a> Scene<'a> {
 
     /// What a task inside the running tasks of these goes by.
     pub fn inside(mut self, alloc: Global, layers: &[Layer]) -> Result<Scene<'a>, AllocError>
-        ensures { IfOk result (λ s. sight_of s ≡ seen_in (sight_of self.entry) (frames_of layers.now)) }
+        ensures line { IfOk result (λ s. line_of s ≡ seen_in (line_of self.entry) (frames_of layers.now)) }
+        ensures site { IfOk result (λ s. site_of s ≡ site_of self.entry) }
     {
         for layer in layers {
             if let Layer::Running(shared) = layer {
                 let frame = shared.frame();
-                push_seen(alloc, &mut self.around, &frame.task, &frame.round)?;
+                push_seen(alloc, &mut self.around, frame.running.task(), &frame.round)?;
             }
         }
         Ok(self)
@@ -90,7 +93,8 @@ impl<'a> Scene<'a> {
         task: &TaskRef,
         round: &Round,
     ) -> Result<Scene<'a>, AllocError>
-        ensures { IfOk result (λ s. sight_of s ≡ seen (sight_of self.entry.now) task.now (round_of round.now)) }
+        ensures line { IfOk result (λ s. line_of s ≡ seen (line_of self.entry.now) task.now (round_of round.now)) }
+        ensures site { IfOk result (λ s. site_of s ≡ site_of self.entry.now) }
     {
         let mut scene = self.copy(alloc)?;
         push_seen(alloc, &mut scene.around, task, round)?;
@@ -99,7 +103,8 @@ impl<'a> Scene<'a> {
 
     /// The same without the variables around.
     pub fn alone(&self, alloc: Global) -> Result<Scene<'a>, AllocError>
-        ensures { IfOk result (λ s. sight_of s ≡ alone (sight_of self.entry.now)) }
+        ensures line { IfOk result (λ s. line_of s ≡ alone (line_of self.entry.now)) }
+        ensures site { IfOk result (λ s. site_of s ≡ site_of self.entry.now) }
     {
         Ok(Scene {
             setting: self.setting,

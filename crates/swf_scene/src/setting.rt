@@ -2,7 +2,7 @@
 ghost use Rattle.std.specs.Prelude.{◌≡◌, ◌++◌, ◌∷◌, [], IfOk};
 ghost use Rattle.std.specs.Coded.{Coded-set};
 ghost use Rattle.swf_value.specs.ValueCode.{value_code};
-ghost use Rattle.swf_meaning.specs.Sight.{epoch, workflow_value};
+ghost use Rattle.swf_meaning.specs.Line.{epoch, workflow_value};
 
 use crate::shared::SharedDocument;
 use crate::site::Site;

@@ -3,14 +3,15 @@ ghost use Rattle.std.specs.Prelude.{◌≡◌, ◌++◌, ◌∷◌, [], ◌<◌,
 ghost use Rattle.swf_text.specs.Same.{is_ascii};
 ghost use Rattle.swf_text.specs.Pointer.{pointer};
 ghost use Rattle.swf_value.specs.Value.{int, text, object, member, no_members};
-ghost use Rattle.swf_meaning.specs.Sight.{variable, last_part, task_value, of_workflow, with_context, of_task, before, within, behind, is_workflow};
+ghost use Rattle.swf_meaning.specs.Line.{variable, last_part, task_value, of_workflow, with_context, of_task, before, within, behind, is_workflow};
 ghost use Rattle.swf_meaning.specs.Around.{round_variables};
 ghost use Rattle.swf_meaning.specs.Parts.{kind_of};
 ghost use Rattle.swf_meaning.specs.Try.{catching, retrying};
-ghost use Rattle.swf_scene.specs.Stack.{sight_of, round_of};
+ghost use Rattle.swf_scene.specs.Stack.{line_of, round_of};
 ghost use Rattle.swf_scene.specs.TaskRef.{loop_variables};
 
 use crate::made::{Round, Turn};
+use crate::running::Running;
 use crate::scene::Scene;
 use crate::setting::push_named;
 use crate::task::{TaskRef, Work};
@@ -141,7 +142,7 @@ fn value_at(alloc: Global, words: &Words, place: &Place, raw: &Json) -> Result<J
 }
 
 fn of_workflow(alloc: Global, scene: &Scene) -> Result<Vec<Variable>, AllocError>
-    ensures { IfOk result (λ xs. xs.items ≡ of_workflow (sight_of scene.entry.now)) }
+    ensures { IfOk result (λ xs. xs.items ≡ of_workflow (line_of scene.entry.now)) }
 {
     let mut variables = Vec::with_capacity(alloc, MOST_OFTEN)?;
     push_variable(
@@ -153,7 +154,7 @@ fn of_workflow(alloc: Global, scene: &Scene) -> Result<Vec<Variable>, AllocError
 }
 
 fn with_context(alloc: Global, scene: &Scene) -> Result<Vec<Variable>, AllocError>
-    ensures { IfOk result (λ xs. xs.items ≡ with_context (sight_of scene.entry.now)) }
+    ensures { IfOk result (λ xs. xs.items ≡ with_context (line_of scene.entry.now)) }
 {
     let mut variables = of_workflow(alloc, scene)?;
     push_variable(&mut variables, scene.words.context(), scene.context.copy()?)?;
@@ -166,7 +167,7 @@ fn of_task(
     task: &TaskRef,
     raw: &Json,
 ) -> Result<Vec<Variable>, AllocError>
-    ensures { IfOk result (λ xs. xs.items ≡ of_task (sight_of scene.entry.now) task.now raw.now) }
+    ensures { IfOk result (λ xs. xs.items ≡ of_task (line_of scene.entry.now) task.now raw.now) }
 {
     let words = scene.words;
     let mut variables = with_context(alloc, scene)?;
@@ -181,7 +182,7 @@ fn of_task(
 
 /// What `input.from` sees.
 pub fn before(alloc: Global, scene: &Scene, task: &TaskRef, raw: &Json) -> Result<Vars, AllocError>
-    ensures { IfOk result (λ r. r ≡ before (sight_of scene.entry.now) task.now raw.now) }
+    ensures { IfOk result (λ r. r ≡ before (line_of scene.entry.now) task.now raw.now) }
 {
     if task.is_workflow() {
         Ok(Vars::of(of_workflow(alloc, scene)?))
@@ -191,61 +192,42 @@ pub fn before(alloc: Global, scene: &Scene, task: &TaskRef, raw: &Json) -> Resul
 }
 
 // What all but `input.from` see besides the values of the task itself.
-fn around(
-    alloc: Global,
-    scene: &Scene,
-    task: &TaskRef,
-    raw: &Json,
-) -> Result<Vec<Variable>, AllocError>
-    ensures { IfOk result (λ xs. xs.items ≡ (if is_workflow task.now then with_context (sight_of scene.entry.now) else of_task (sight_of scene.entry.now) task.now raw.now)) }
+fn around(alloc: Global, scene: &Scene, running: &Running) -> Result<Vec<Variable>, AllocError>
+    ensures { IfOk result (λ xs. xs.items ≡ (if is_workflow running.now.task then with_context (line_of scene.entry.now) else of_task (line_of scene.entry.now) running.now.task running.now.raw)) }
 {
-    if task.is_workflow() {
+    if running.task().is_workflow() {
         with_context(alloc, scene)
     } else {
-        of_task(alloc, scene, task, raw)
+        of_task(alloc, scene, running.task(), running.raw())
     }
 }
 
 // What `if`, a task's own definition and `output.as` see, as a list that may grow.
-fn inside(
-    alloc: Global,
-    scene: &Scene,
-    task: &TaskRef,
-    raw: &Json,
-    input: &Json,
-) -> Result<Vec<Variable>, AllocError>
-    ensures { IfOk result (λ xs. xs.items ≡ within (sight_of scene.entry.now) task.now raw.now input.now) }
+fn inside(alloc: Global, scene: &Scene, running: &Running) -> Result<Vec<Variable>, AllocError>
+    ensures { IfOk result (λ xs. xs.items ≡ within (line_of scene.entry.now) running.now) }
 {
-    let mut variables = around(alloc, scene, task, raw)?;
-    push_variable(&mut variables, scene.words.input(), input.copy()?)?;
+    let mut variables = around(alloc, scene, running)?;
+    push_variable(&mut variables, scene.words.input(), running.input().copy()?)?;
     Ok(variables)
 }
 
-/// What `if`, a task's own definition and `output.as` see, on the transformed input.
-pub fn within(
-    alloc: Global,
-    scene: &Scene,
-    task: &TaskRef,
-    raw: &Json,
-    input: &Json,
-) -> Result<Vars, AllocError>
-    ensures { IfOk result (λ r. r ≡ within (sight_of scene.entry.now) task.now raw.now input.now) }
+/// What `if`, a task's own definition and `output.as` see.
+pub fn within(alloc: Global, scene: &Scene, running: &Running) -> Result<Vars, AllocError>
+    ensures { IfOk result (λ r. r ≡ within (line_of scene.entry.now) running.now) }
 {
-    Ok(Vars::of(inside(alloc, scene, task, raw, input)?))
+    Ok(Vars::of(inside(alloc, scene, running)?))
 }
 
 /// What `export.as` sees, on the transformed output.
 pub fn behind(
     alloc: Global,
     scene: &Scene,
-    task: &TaskRef,
-    raw: &Json,
-    input: &Json,
+    running: &Running,
     output: &Json,
 ) -> Result<Vars, AllocError>
-    ensures { IfOk result (λ r. r ≡ behind (sight_of scene.entry.now) task.now raw.now input.now output.now) }
+    ensures { IfOk result (λ r. r ≡ behind (line_of scene.entry.now) running.now output.now) }
 {
-    let mut variables = inside(alloc, scene, task, raw, input)?;
+    let mut variables = inside(alloc, scene, running)?;
     push_variable(&mut variables, scene.words.output(), output.copy()?)?;
     Ok(Vars::of(variables))
 }
@@ -254,29 +236,27 @@ pub fn behind(
 pub fn catching(
     alloc: Global,
     scene: &Scene,
-    task: &TaskRef,
-    raw: &Json,
+    running: &Running,
     problem: &Problem,
 ) -> Result<Vars, AllocError>
-    ensures { IfOk result (λ r. r ≡ catching (sight_of scene.entry.now) task.now raw.now problem.now) }
+    ensures { IfOk result (λ r. r ≡ catching (line_of scene.entry.now) running.now problem.now) }
 {
     let round = Round::Catch(problem.copy()?);
-    let scene = scene.seen(alloc, task, &round)?;
-    Ok(Vars::of(of_task(alloc, &scene, task, raw)?))
+    let scene = scene.seen(alloc, running.task(), &round)?;
+    Ok(Vars::of(of_task(alloc, &scene, running.task(), running.raw())?))
 }
 
 /// What the conditions of a policy see that has a name in the document.
 pub fn retrying(
     alloc: Global,
     scene: &Scene,
-    task: &TaskRef,
-    raw: &Json,
+    running: &Running,
     problem: &Problem,
 ) -> Result<Vars, AllocError>
-    ensures { IfOk result (λ r. r ≡ retrying (sight_of scene.entry.now) task.now raw.now problem.now) }
+    ensures { IfOk result (λ r. r ≡ retrying (line_of scene.entry.now) running.now problem.now) }
 {
     let scene = scene.alone(alloc)?;
-    let mut variables = of_task(alloc, &scene, task, raw)?;
+    let mut variables = of_task(alloc, &scene, running.task(), running.raw())?;
     let name = word(alloc, "error")?;
     push_variable(&mut variables, &name, problem_value(alloc, problem)?)?;
     Ok(Vars::of(variables))

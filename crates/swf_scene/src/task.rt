@@ -2,11 +2,10 @@
 ghost use Rattle.std.specs.Prelude.{◌≡◌, [], IfOk, IsSome, Some, ◌<◌, ◌-◌, ◌^◌, length, option_map};
 ghost use Rattle.swf_document.specs.TaskNode.{task_of, tasks_of};
 ghost use Rattle.swf_meaning.specs.Parts.{common_of, kind_of, place_of, workflow};
-ghost use Rattle.swf_meaning.specs.Sight.{is_workflow};
-ghost use Rattle.swf_meaning.specs.Fork.{branches_of};
-ghost use Rattle.swf_meaning.specs.Local.{competes};
+ghost use Rattle.swf_meaning.specs.Line.{is_workflow};
+ghost use Rattle.swf_meaning.specs.Fork.{branches_of, competes};
 ghost use Rattle.swf_meaning.specs.Next.{task_at};
-ghost use Rattle.swf_meaning.specs.Lists.{list_of, guard_in};
+ghost use Rattle.swf_meaning.specs.Lists.{list_of, guard_of};
 ghost use Rattle.swf_meaning.specs.Shared.{is_shared_kind};
 ghost use Rattle.swf_scene.specs.Stack.{round_of};
 ghost use Rattle.swf_scene.specs.TaskRef.{parts_task, work_kind, listed};
@@ -296,7 +295,7 @@ impl TaskRef {
 
     /// Its `while`.
     pub fn guard(&self) -> Option<&Expr>
-        ensures { option_map (λ e. e.now) result ≡ guard_in (kind_of self.now) }
+        ensures { option_map (λ e. e.now) result ≡ guard_of self.now }
     {
         match self.work() {
             Work::For(spec) => unboxed(&spec.guard),

@@ -14,7 +14,7 @@ use Rattle.swf_frames.specs.Tree.{Tree, Strands, no_strands, strand, Branch, fin
 use Rattle.swf_frames.specs.Paths.{Found, nth}
 use Rattle.swf_meaning.specs.Listen.{is_heard}
 use Rattle.swf_meaning.specs.Local.{is_enabled, is_enabled_inside, is_some_enabled}
-use Rattle.swf_meaning.specs.Node.{Node, Fresh, Live, Done, Fault, Inside, Hear, Forked, Nodes, no_nodes, branch}
+use Rattle.swf_meaning.specs.Node.{Node, Fresh, Live, Done, Fault, Inside, Hear, Forked, Nodes, no_nodes, branch, Running}
 use Rattle.swf_meaning.specs.Strands.{can_go, can_go_inside}
 use Rattle.swf_meaning.specs.Wake.{waits, waits_among}
 use Rattle.swf_meaning.specs.declared.heard.Heard.{Heard}
@@ -101,10 +101,10 @@ from-end b i e = nodes_from-none (nodes_of b.below) i (nth_node-none b.below i e
 
 -- ---- what stands innermost decides for the strand
 
-can_go-live : (now : ℕ) (fs : List Frame) (t : Task) (v u : Value) (k : Inside) → can_go now [] (plug fs (Live t v u k)) ≡ can_go_inside now [] t k
-can_go-live now [] t v u k = refl
-can_go-live now (f ∷ []) t v u k = refl
-can_go-live now (f ∷ g ∷ gs) t v u k = can_go-live now (g ∷ gs) t v u k
+pub can_go-live : (now : ℕ) (fs : List Frame) (r : Running) (k : Inside) → can_go now [] (plug fs (Live r k)) ≡ can_go_inside now [] r.task k
+can_go-live now [] r k = refl
+can_go-live now (f ∷ []) r k = refl
+can_go-live now (f ∷ g ∷ gs) r k = can_go-live now (g ∷ gs) r k
 
 can_go-fresh : (now : ℕ) (fs : List Frame) (t : Task) (v : Value) → can_go now [] (plug fs (Fresh t v)) ≡ true
 can_go-fresh now [] t v = refl
@@ -121,7 +121,7 @@ can_go-fault now [] p = refl
 can_go-fault now (f ∷ []) p = refl
 can_go-fault now (f ∷ g ∷ gs) p = can_go-fault now (g ∷ gs) p ∙ ap not (eqb-suc-zero (length gs)) ∙ sym (ap not (eqb-suc-zero (suc (length gs))))
 
-can_go-until : (now : ℕ) (t : Task) (n : Option ℕ) (m : ℕ) → can_go_inside now [] t (waiting n m) ≡ nat_le m now
+pub can_go-until : (now : ℕ) (t : Task) (n : Option ℕ) (m : ℕ) → can_go_inside now [] t (waiting n m) ≡ nat_le m now
 can_go-until now t None m = refl
 can_go-until now t (Some n) m = refl
 
@@ -141,79 +141,79 @@ goes-done now fs t ns w d n b e l h = goes-is now fs t (tops.Done w d) ns (not b
 pub goes-fault : (now : ℕ) (fs : List Frame) (t : Top) (ns : Nodes) (p : Problem) (n : ℕ) (b : Bool) → t ≡ tops.Fault p → n ≡ length fs → b ≡ (n == 0) → not b ≡ goes now fs t ns
 goes-fault now fs t ns p n b e l h = goes-is now fs t (tops.Fault p) ns (not b) e (can_go-fault now fs p ∙ ap (λ m. not (m == 0)) (sym l) ∙ ap not (sym h))
 
-pub goes-waiting : (now : ℕ) (fs : List Frame) (t : Top) (ns : Nodes) (r : Task) (v u : Value) (n : Option ℕ) (m : ℕ) → t ≡ tops.Waiting r v u n m → nat_le m now ≡ goes now fs t ns
-goes-waiting now fs t ns r v u n m e =
-    goes-is now fs t (tops.Waiting r v u n m) ns (nat_le m now) e
-    (ap (λ x. can_go now [] (plug fs x)) (waiting-forked r v u n m ns) ∙ can_go-live now fs r v u (waiting n m) ∙ can_go-until now r n m)
+pub goes-waiting : (now : ℕ) (fs : List Frame) (t : Top) (ns : Nodes) (r : Running) (n : Option ℕ) (m : ℕ) → t ≡ tops.Waiting r n m → nat_le m now ≡ goes now fs t ns
+goes-waiting now fs t ns r n m e =
+    goes-is now fs t (tops.Waiting r n m) ns (nat_le m now) e
+    (ap (λ x. can_go now [] (plug fs x)) (waiting-forked r n m ns) ∙ can_go-live now fs r (waiting n m) ∙ can_go-until now r.task n m)
 
-pub goes-hearing : (now : ℕ) (fs : List Frame) (t : Top) (ns : Nodes) (r : Task) (v u : Value) (bound : Members) (hs : List Heard) → t ≡ tops.Hearing r v u bound hs → is_heard r hs ≡ goes now fs t ns
-goes-hearing now fs t ns r v u bound hs e = goes-is now fs t (tops.Hearing r v u bound hs) ns (is_heard r hs) e (can_go-live now fs r v u (Hear bound hs))
+pub goes-hearing : (now : ℕ) (fs : List Frame) (t : Top) (ns : Nodes) (r : Running) (bound : Members) (hs : List Heard) → t ≡ tops.Hearing r bound hs → is_heard r.task hs ≡ goes now fs t ns
+goes-hearing now fs t ns r bound hs e = goes-is now fs t (tops.Hearing r bound hs) ns (is_heard r.task hs) e (can_go-live now fs r (Hear bound hs))
 
-pub goes-forked : (now : ℕ) (fs : List Frame) (t : Top) (ns : Nodes) (r : Task) (v u : Value) → t ≡ tops.Forked r v u → false ≡ goes now fs t ns
-goes-forked now fs t ns r v u e = goes-is now fs t (tops.Forked r v u) ns false e (can_go-live now fs r v u (Forked ns))
+pub goes-forked : (now : ℕ) (fs : List Frame) (t : Top) (ns : Nodes) (r : Running) → t ≡ tops.Forked r → false ≡ goes now fs t ns
+goes-forked now fs t ns r e = goes-is now fs t (tops.Forked r) ns false e (can_go-live now fs r (Forked ns))
 
 -- until when it waits
-own_until-plug : (fs : List Frame) (n : Node) → own_until (plug fs n) ≡ own_until n
+pub own_until-plug : (fs : List Frame) (n : Node) → own_until (plug fs n) ≡ own_until n
 own_until-plug [] n = refl
 own_until-plug (f ∷ fs) n = own_until-plug fs n
 
-own_until-waiting : (n : Option ℕ) (m : ℕ) → own_until_inside (waiting n m) ≡ Some m
+pub own_until-waiting : (n : Option ℕ) (m : ℕ) → own_until_inside (waiting n m) ≡ Some m
 own_until-waiting None m = refl
 own_until-waiting (Some n) m = refl
 
 abbrev pub due_by : ℕ → List Frame → Top → Nodes → Bool
 due_by moment fs t ns = is_by moment (own_until (plug fs (forked (top_node t) ns)))
 
-pub due-waiting : (moment : ℕ) (fs : List Frame) (t : Top) (ns : Nodes) (r : Task) (v u : Value) (n : Option ℕ) (m : ℕ) → t ≡ tops.Waiting r v u n m → nat_le m moment ≡ due_by moment fs t ns
-due-waiting moment fs t ns r v u n m e =
-    sym (ap (λ x. due_by moment fs x ns) e ∙ ap (is_by moment) (own_until-plug fs (forked (top_node (tops.Waiting r v u n m)) ns)
-    ∙ ap own_until (waiting-forked r v u n m ns) ∙ own_until-waiting n m))
+pub due-waiting : (moment : ℕ) (fs : List Frame) (t : Top) (ns : Nodes) (r : Running) (n : Option ℕ) (m : ℕ) → t ≡ tops.Waiting r n m → nat_le m moment ≡ due_by moment fs t ns
+due-waiting moment fs t ns r n m e =
+    sym (ap (λ x. due_by moment fs x ns) e ∙ ap (is_by moment) (own_until-plug fs (forked (top_node (tops.Waiting r n m)) ns)
+    ∙ ap own_until (waiting-forked r n m ns) ∙ own_until-waiting n m))
 
-pub due-not : (moment : ℕ) (fs : List Frame) (t : Top) (ns : Nodes) → ((r : Task) (v u : Value) (n : Option ℕ) (m : ℕ) → t ≡ tops.Waiting r v u n m → ⊥) → false ≡ due_by moment fs t ns
+pub due-not : (moment : ℕ) (fs : List Frame) (t : Top) (ns : Nodes) → ((r : Running) (n : Option ℕ) (m : ℕ) → t ≡ tops.Waiting r n m → ⊥) → false ≡ due_by moment fs t ns
 due-not moment fs t ns isnt = sym (ap (is_by moment) (own_until-plug fs (forked (top_node t) ns) ∙ by t isnt))
   where
-    by : (t : Top) → ((r : Task) (v u : Value) (n : Option ℕ) (m : ℕ) → t ≡ tops.Waiting r v u n m → ⊥) → own_until (forked (top_node t) ns) ≡ None
+    by : (t : Top) → ((r : Running) (n : Option ℕ) (m : ℕ) → t ≡ tops.Waiting r n m → ⊥) → own_until (forked (top_node t) ns) ≡ None
     by (tops.Fresh r v) isnt = refl
     by (tops.Done w d) isnt = refl
     by (tops.Fault p) isnt = refl
-    by (tops.Waiting r v u n m) isnt = absurd (isnt r v u n m refl)
-    by (tops.Hearing r v u bound hs) isnt = refl
-    by (tops.Forked r v u) isnt = refl
+    by (tops.Waiting r n m) isnt = absurd (isnt r n m refl)
+    by (tops.Hearing r bound hs) isnt = refl
+    by (tops.Forked r) isnt = refl
 
-pub due-here : (q : Question) (moment : ℕ) (b : Branch Layer) (t : Top) (r : Task) (v u : Value) (n : Option ℕ) (m : ℕ) → q ≡ IsDue moment → t ≡ top_of b.frames → t ≡ tops.Waiting r v u n m → nat_le m moment ≡ holds_here q (node_of b)
-due-here q moment b t r v u n m e s w =
-    due-waiting moment (frames_of b.frames) (top_of b.frames) (nodes_of b.below) r v u n m (sym s ∙ w) ∙ sym (ap (λ x. holds_here x (node_of b)) e)
+pub due-here : (q : Question) (moment : ℕ) (b : Branch Layer) (t : Top) (r : Running) (n : Option ℕ) (m : ℕ) → q ≡ IsDue moment → t ≡ top_of b.frames → t ≡ tops.Waiting r n m → nat_le m moment ≡ holds_here q (node_of b)
+due-here q moment b t r n m e s w =
+    due-waiting moment (frames_of b.frames) (top_of b.frames) (nodes_of b.below) r n m (sym s ∙ w) ∙ sym (ap (λ x. holds_here x (node_of b)) e)
 
-pub never-due : (q : Question) (moment : ℕ) (b : Branch Layer) (t : Top) → q ≡ IsDue moment → t ≡ top_of b.frames → ((r : Task) (v u : Value) (n : Option ℕ) (m : ℕ) → t ≡ tops.Waiting r v u n m → ⊥) → false ≡ holds_here q (node_of b)
+pub never-due : (q : Question) (moment : ℕ) (b : Branch Layer) (t : Top) → q ≡ IsDue moment → t ≡ top_of b.frames → ((r : Running) (n : Option ℕ) (m : ℕ) → t ≡ tops.Waiting r n m → ⊥) → false ≡ holds_here q (node_of b)
 never-due q moment b t e s isnt =
-    due-not moment (frames_of b.frames) (top_of b.frames) (nodes_of b.below) (λ r v u n m w. isnt r v u n m (s ∙ w)) ∙ sym (ap (λ x. holds_here x (node_of b)) e)
+    due-not moment (frames_of b.frames) (top_of b.frames) (nodes_of b.below) (λ r n m w. isnt r n m (s ∙ w)) ∙ sym (ap (λ x. holds_here x (node_of b)) e)
 
 -- ---- a strand and those below it
 
-is_enabled-live : (now : ℕ) (fs : List Frame) (t : Task) (v u : Value) (k : Inside) → is_enabled now (plug fs (Live t v u k)) ≡ is_enabled_inside now t k
-is_enabled-live now [] t v u k = refl
-is_enabled-live now (f ∷ []) t v u k = refl
-is_enabled-live now (f ∷ g ∷ gs) t v u k = is_enabled-live now (g ∷ gs) t v u k
+is_enabled-live : (now : ℕ) (fs : List Frame) (r : Running) (k : Inside) → is_enabled now (plug fs (Live r k)) ≡ is_enabled_inside now r.task k
+is_enabled-live now [] r k = refl
+is_enabled-live now (f ∷ []) r k = refl
+is_enabled-live now (f ∷ g ∷ gs) r k = is_enabled-live now (g ∷ gs) r k
 
 -- what holds no `fork` can take a step where the strand can
 plain-enabled : (now : ℕ) (fs : List Frame) (t : Top) → is_fork t ≡ false → is_enabled now (plug fs (top_node t)) ≡ can_go now [] (plug fs (top_node t))
 plain-enabled now [] (tops.Fresh r v) e = refl
 plain-enabled now [] (tops.Done w d) e = refl
 plain-enabled now [] (tops.Fault p) e = refl
-plain-enabled now [] (tops.Waiting r v u None m) e = refl
-plain-enabled now [] (tops.Waiting r v u (Some n) m) e = refl
-plain-enabled now [] (tops.Hearing r v u bound hs) e = refl
-plain-enabled now [] (tops.Forked r v u) e = cc
+plain-enabled now [] (tops.Waiting r None m) e = refl
+plain-enabled now [] (tops.Waiting r (Some n) m) e = refl
+plain-enabled now [] (tops.Hearing r bound hs) e = refl
+plain-enabled now [] (tops.Forked r) e = cc
 plain-enabled now (f ∷ g ∷ gs) t e = plain-enabled now (g ∷ gs) t e
 plain-enabled now (f ∷ []) (tops.Fresh r v) e = refl
 plain-enabled now (f ∷ []) (tops.Done w d) e = refl
 plain-enabled now (f ∷ []) (tops.Fault p) e = refl
-plain-enabled now (f ∷ []) (tops.Waiting r v u None m) e = refl
-plain-enabled now (f ∷ []) (tops.Waiting r v u (Some n) m) e = refl
-plain-enabled now (f ∷ []) (tops.Hearing r v u bound hs) e = refl
-plain-enabled now (f ∷ []) (tops.Forked r v u) e = cc
+plain-enabled now (f ∷ []) (tops.Waiting r None m) e = refl
+plain-enabled now (f ∷ []) (tops.Waiting r (Some n) m) e = refl
+plain-enabled now (f ∷ []) (tops.Hearing r bound hs) e = refl
+plain-enabled now (f ∷ []) (tops.Forked r) e = cc
 
-waits-plug : (fs : List Frame) (n : Node) → waits (plug fs n) ≡ waits n
+pub waits-plug : (fs : List Frame) (n : Node) → waits (plug fs n) ≡ waits n
 waits-plug [] n = refl
 waits-plug (f ∷ fs) n = waits-plug fs n
 
@@ -225,10 +225,10 @@ plain-due moment fs t e = ap (list_any (λ m. nat_le m moment)) (waits-plug fs (
     by (tops.Fresh r v) e = refl
     by (tops.Done w d) e = refl
     by (tops.Fault p) e = refl
-    by (tops.Waiting r v u None m) e = or-false (nat_le m moment)
-    by (tops.Waiting r v u (Some n) m) e = or-false (nat_le m moment)
-    by (tops.Hearing r v u bound hs) e = refl
-    by (tops.Forked r v u) e = cc
+    by (tops.Waiting r None m) e = or-false (nat_le m moment)
+    by (tops.Waiting r (Some n) m) e = or-false (nat_le m moment)
+    by (tops.Hearing r bound hs) e = refl
+    by (tops.Forked r) e = cc
 
 plain-holds : (q : Question) (fs : List Frame) (t : Top) → is_fork t ≡ false → holds q (plug fs (top_node t)) ≡ holds_here q (plug fs (top_node t))
 plain-holds (CanGo now) fs t e = plain-enabled now fs t e
@@ -244,13 +244,13 @@ due-among moment (branch n ns) =
     list_any-append (λ m. nat_le m moment) (waits n) (waits_among ns) ∙ ap (λ b. list_any (λ m. nat_le m moment) (waits n) || b) (due-among moment ns)
 
 -- of a `fork` its branches
-fork-holds : (q : Question) (fs : List Frame) (r : Task) (v u : Value) (ns : Nodes) → holds q (plug fs (Live r v u (Forked ns))) ≡ holds_among q ns
-fork-holds (CanGo now) fs r v u ns = is_enabled-live now fs r v u (Forked ns) ∙ enabled-among now ns
-fork-holds (IsDue moment) fs r v u ns = ap (list_any (λ m. nat_le m moment)) (waits-plug fs (Live r v u (Forked ns))) ∙ due-among moment ns
+fork-holds : (q : Question) (fs : List Frame) (r : Running) (ns : Nodes) → holds q (plug fs (Live r (Forked ns))) ≡ holds_among q ns
+fork-holds (CanGo now) fs r ns = is_enabled-live now fs r (Forked ns) ∙ enabled-among now ns
+fork-holds (IsDue moment) fs r ns = ap (list_any (λ m. nat_le m moment)) (waits-plug fs (Live r (Forked ns))) ∙ due-among moment ns
 
-fork-here : (q : Question) (fs : List Frame) (r : Task) (v u : Value) (ns : Nodes) → holds_here q (plug fs (Live r v u (Forked ns))) ≡ false
-fork-here (CanGo now) fs r v u ns = can_go-live now fs r v u (Forked ns)
-fork-here (IsDue moment) fs r v u ns = ap (is_by moment) (own_until-plug fs (Live r v u (Forked ns)))
+fork-here : (q : Question) (fs : List Frame) (r : Running) (ns : Nodes) → holds_here q (plug fs (Live r (Forked ns))) ≡ false
+fork-here (CanGo now) fs r ns = can_go-live now fs r (Forked ns)
+fork-here (IsDue moment) fs r ns = ap (is_by moment) (own_until-plug fs (Live r (Forked ns)))
 
 -- of a strand itself, or of one below it
 pub holds-node : (q : Question) (b : Branch Layer) → IsGrownAt b → holds q (node_of b) ≡ (holds_here q (node_of b) || holds_among q (nodes_of b.below))
@@ -259,9 +259,9 @@ holds-node q b g = by (is_fork (top_of b.frames)) refl
     by : (x : Bool) → is_fork (top_of b.frames) ≡ x → holds q (node_of b) ≡ (holds_here q (node_of b) || holds_among q (nodes_of b.below))
     by true e =
         let f = fork-node b.frames (nodes_of b.below) e in
-        let is = f.1.1.1.1 in
-        ap (holds q) is ∙ fork-holds q (frames_of b.frames) f.0 f.1.0 f.1.1.0 (nodes_of b.below)
-        ∙ sym (ap (λ x. x || holds_among q (nodes_of b.below)) (ap (holds_here q) is ∙ fork-here q (frames_of b.frames) f.0 f.1.0 f.1.1.0 (nodes_of b.below)))
+        let is = f.1.1 in
+        ap (holds q) is ∙ fork-holds q (frames_of b.frames) f.0 (nodes_of b.below)
+        ∙ sym (ap (λ x. x || holds_among q (nodes_of b.below)) (ap (holds_here q) is ∙ fork-here q (frames_of b.frames) f.0 (nodes_of b.below)))
     by false e =
         let is = plain-node b.frames (nodes_of b.below) e in
         let none : holds_among q (nodes_of b.below) ≡ false = ap (λ ss. holds_among q (nodes_of ss)) (g.0.1 e) in

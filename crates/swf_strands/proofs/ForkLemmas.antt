@@ -11,7 +11,7 @@ use Rattle.swf_frames.specs.Paths.{Found, nth, along, edit, AreDistinct}
 use Rattle.swf_frames.proofs.PathLemmas.{edit-edit, edit-same, edit-walk, find-edit, changed-edit, with_below-edit}
 use Rattle.swf_meaning.specs.Fork.{branches_of, fresh as fresh_nodes}
 use Rattle.swf_meaning.specs.Next.{task_at}
-use Rattle.swf_meaning.specs.Node.{Node, Live, Fresh, Forked, branch}
+use Rattle.swf_meaning.specs.Node.{Node, Live, Fresh, Forked, branch, Running}
 use Rattle.swf_scene.specs.Layers.{frames_of, top_of, running}
 use Rattle.swf_scene.specs.Stack.{plug, top_node, forked, made_node}
 use Rattle.swf_scene.specs.declared.made.Layer.{Layer}
@@ -125,34 +125,35 @@ from-none (named k r ts) zero e = absurd (nothing r (sym e))
 from-none (named k r ts) (suc i) e = from-none ts i e
 
 -- these are the first branches
-abbrev pub AreFirst : Task → Value → List Layer → Type 0
-AreFirst t u ls = fresh_layers (branches_of t) u ≡ ls ++ fresh_layers (tasks_from (length ls) (branches_of t)) u
+abbrev pub AreFirst : Running → List Layer → Type 0
+AreFirst r ls = fresh_layers (branches_of r.task) r.input ≡ ls ++ fresh_layers (tasks_from (length ls) (branches_of r.task)) r.input
 
-pub first-more : (t r : Task) (u : Value) (ls : List Layer) (n : ℕ) (l : Layer) → AreFirst t u ls → n ≡ length ls → task_at (branches_of t) n ≡ Some r → l ≡ layers.Top (tops.Fresh r u) → AreFirst t u (ls ++ l ∷ [])
-first-more t r u ls n l first len e is =
-    let ts = branches_of t in
+pub first-more : (r : Running) (t : Task) (ls : List Layer) (n : ℕ) (l : Layer) → AreFirst r ls → n ≡ length ls → task_at (branches_of r.task) n ≡ Some t → l ≡ layers.Top (tops.Fresh t r.input) → AreFirst r (ls ++ l ∷ [])
+first-more r t ls n l first len e is =
+    let ts = branches_of r.task in
+    let u = r.input in
     let more : length (ls ++ l ∷ []) ≡ suc (length ls) = omega (arith, length-append ls (l ∷ [])) in
     first
-    ∙ ap (λ xs. ls ++ xs) (from-task ts (length ls) r u (ap (task_at ts) (sym len) ∙ e) ∙ ap (λ x. x ∷ fresh_layers (tasks_from (suc (length ls)) ts) u) (sym is))
+    ∙ ap (λ xs. ls ++ xs) (from-task ts (length ls) t u (ap (task_at ts) (sym len) ∙ e) ∙ ap (λ x. x ∷ fresh_layers (tasks_from (suc (length ls)) ts) u) (sym is))
     ∙ sym (append_assoc ls (l ∷ []) (fresh_layers (tasks_from (suc (length ls)) ts) u))
     ∙ ap (λ k. (ls ++ l ∷ []) ++ fresh_layers (tasks_from k ts) u) (sym more)
 
-pub first-all : (t : Task) (u : Value) (ls : List Layer) (n : ℕ) → AreFirst t u ls → n ≡ length ls → task_at (branches_of t) n ≡ None → ls ≡ fresh_layers (branches_of t) u
-first-all t u ls n first len e =
-    let ts = branches_of t in
-    sym (first ∙ ap (λ xs. ls ++ fresh_layers xs u) (from-none ts (length ls) (ap (task_at ts) (sym len) ∙ e)) ∙ append-nil ls)
+pub first-all : (r : Running) (ls : List Layer) (n : ℕ) → AreFirst r ls → n ≡ length ls → task_at (branches_of r.task) n ≡ None → ls ≡ fresh_layers (branches_of r.task) r.input
+first-all r ls n first len e =
+    let ts = branches_of r.task in
+    sym (first ∙ ap (λ xs. ls ++ fresh_layers xs r.input) (from-none ts (length ls) (ap (task_at ts) (sym len) ∙ e)) ∙ append-nil ls)
 
 -- a `fork` alone has branches
 abbrev IsForkWith : Top → List Layer → Type 0
-IsForkWith t bs = (r : Task) × ((v : Value) × ((u : Value) × ((t ≡ tops.Forked r v u) × (bs ≡ fresh_layers (branches_of r) u))))
+IsForkWith t bs = (r : Running) × ((t ≡ tops.Forked r) × (bs ≡ fresh_layers (branches_of r.task) r.input))
 
 fork-with : (t : Top) (bs : List Layer) → branches_in t ≡ Some bs → IsForkWith t bs
 fork-with (tops.Fresh r v) bs e = absurd (nothing bs e)
 fork-with (tops.Done w f) bs e = absurd (nothing bs e)
 fork-with (tops.Fault p) bs e = absurd (nothing bs e)
-fork-with (tops.Waiting r v u n m) bs e = absurd (nothing bs e)
-fork-with (tops.Hearing r v u b hs) bs e = absurd (nothing bs e)
-fork-with (tops.Forked r v u) bs e = (r, (v, (u, (refl, sym (same_Some _ bs e)))))
+fork-with (tops.Waiting r n m) bs e = absurd (nothing bs e)
+fork-with (tops.Hearing r b hs) bs e = absurd (nothing bs e)
+fork-with (tops.Forked r) bs e = (r, (refl, sym (same_Some _ bs e)))
 
 numbers-fresh : (n : ℕ) (ls : List Layer) → length (numbers (fresh n ls)) ≡ length ls
 numbers-fresh n [] = refl
@@ -173,8 +174,8 @@ put-fork t mid new r c is ls bs e d g way s b few made is-split =
     let f = fork-with (top_of ls) bs b in
     let below = fresh mid.next bs in
     let x : Branch Layer = record { frames = ls; below = below } in
-    let fork : is_fork (top_of ls) ≡ true = ap is_fork f.1.1.1.0 in
-    let grown : IsGrown below = subst (λ xs. IsGrown (fresh mid.next xs)) (sym f.1.1.1.1) (grown-fresh mid.next (branches_of f.0) f.1.1.0) in
+    let fork : is_fork (top_of ls) ≡ true = ap is_fork f.1.0 in
+    let grown : IsGrown below = subst (λ xs. IsGrown (fresh mid.next xs)) (sym f.1.1) (grown-fresh mid.next (branches_of f.0.task) f.0.input) in
     let gx : IsGrownAt x = ((s, (λ isnt. absurd (yes-no (sym fork ∙ isnt))), subst (λ k. k ≤ most_beside) (sym (numbers-fresh mid.next bs)) few), grown) in
     let all : new.strands ≡ edit (λ b. x) t.strands c =
     ap (λ (y : Tree Layer). y.strands) is-split
@@ -182,9 +183,9 @@ put-fork t mid new r c is ls bs e d g way s b few made is-split =
     ∙ ap (λ ss. edit (λ (b : Branch Layer). record b { below = below }) ss c) made
     ∙ edit-edit (λ (b : Branch Layer). record b { below = below }) (λ (b : Branch Layer). record { frames = ls; below = no_strands }) t.strands c in
     let node : node_of x ≡ made_layers ls =
-    ap (λ y. plug (frames_of ls) (forked (top_node y) (nodes_of below))) f.1.1.1.0
-    ∙ ap (λ xs. plug (frames_of ls) (Live f.0 f.1.0 f.1.1.0 (Forked (nodes_of (fresh mid.next xs))))) f.1.1.1.1
-    ∙ ap (λ ns. plug (frames_of ls) (Live f.0 f.1.0 f.1.1.0 (Forked ns))) (nodes-fresh mid.next (branches_of f.0) f.1.1.0)
-    ∙ sym (ap (λ y. plug (frames_of ls) (made_node y)) f.1.1.1.0) in
+    ap (λ y. plug (frames_of ls) (forked (top_node y) (nodes_of below))) f.1.0
+    ∙ ap (λ xs. plug (frames_of ls) (Live f.0 (Forked (nodes_of (fresh mid.next xs))))) f.1.1
+    ∙ ap (λ ns. plug (frames_of ls) (Live f.0 (Forked ns))) (nodes-fresh mid.next (branches_of f.0.task) f.0.input)
+    ∙ sym (ap (λ y. plug (frames_of ls) (made_node y)) f.1.0) in
     let put = put-there t new.strands r c is x e d g way gx all in
     (put.0, put.1 ∙ ap (λ m. replaced is m (root_node t.strands)) node)

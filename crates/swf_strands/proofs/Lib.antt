@@ -4,3 +4,4 @@ pub mod AskLemmas
 pub mod NameLemmas
 pub mod OrderLemmas
 pub mod ForkLemmas
+pub mod AlarmLemmas

@@ -1,10 +1,10 @@
 -- The names of strands, one branch after another.
-use Rattle.std.proofs.Common.{◌≡◌, ◌∙◌, refl, sym, ap, ℕ, zero, suc, ◌+◌, ◌-◌, Bool, true, false, List, [], ◌∷◌, ◌++◌, map, length, take, Some, None, append_assoc, append-nil, length-append, arith}
+use Rattle.std.proofs.Common.{◌≡◌, ◌∙◌, refl, sym, ap, ℕ, suc, ◌+◌, ◌-◌, Bool, true, false, List, [], ◌∷◌, ◌++◌, map, length, take, Some, None, append_assoc, append-nil, length-append, arith}
 use Rattle.std.proofs.Math.Seq.{take-append_seam}
 use Rattle.swf_frames.specs.Tree.{Tree, Branch, find}
 use Rattle.swf_frames.specs.Paths.{nth}
-use Rattle.swf_meaning.specs.Node.{Node, Fresh, Live, Done, Fault, Inside, At, Later, Sleep, Hear, Forked, Nodes, no_nodes, branch}
-use Rattle.swf_meaning.specs.Strands.{strands}
+use Rattle.swf_meaning.specs.Node.{Node, Live, Forked}
+use Rattle.swf_meaning.specs.Strands.{strands, strands_below, strands_from}
 use Rattle.swf_scene.specs.Layers.{frames_of, top_of}
 use Rattle.swf_scene.specs.Stack.{plug, top_node}
 use Rattle.swf_scene.specs.declared.made.Frame.{Frame}
@@ -15,55 +15,30 @@ use Rattle.swf_strands.specs.Strands.{nodes_of, node_of, is_fork, IsGrownAt, IsH
 use Rattle.swf_strands.proofs.AskLemmas.{nodes_from, from-child, from-end}
 use Rattle.swf_strands.proofs.TreeLemmas.{fork-node, plain-node, held-is, IsChild}
 
--- the strands below that of a node's outermost task, as `strands` has them
-abbrev mutual
-  below : Node → List (List ℕ)
-  below (Fresh t v) = []
-  below (Live t v u k) = inside k
-  below (Done w f) = []
-  below (Fault p) = []
-
-  inside : Inside → List (List ℕ)
-  inside (At r i n) = below n
-  inside (Later n m) = []
-  inside (Sleep m) = []
-  inside (Hear bound hs) = []
-  inside (Forked ns) = among zero ns
-
-  pub among : ℕ → Nodes → List (List ℕ)
-  among b no_nodes = []
-  among b (branch n ns) = map (λ bs. b ∷ bs) ([] ∷ below n) ++ among (b + 1) ns
-
-strands-below : (n : Node) → strands n ≡ [] ∷ below n
-strands-below n = refl
-
-among-first : (b : ℕ) (n : Node) (ns : Nodes) → among b (branch n ns) ≡ map (λ bs. b ∷ bs) (strands n) ++ among (b + 1) ns
-among-first b n ns = refl
-
-below-plug : (fs : List Frame) (n : Node) → below (plug fs n) ≡ below n
+below-plug : (fs : List Frame) (n : Node) → strands_below (plug fs n) ≡ strands_below n
 below-plug [] n = refl
 below-plug (f ∷ fs) n = below-plug fs n
 
-plain-below : (t : Top) → is_fork t ≡ false → below (top_node t) ≡ []
+plain-below : (t : Top) → is_fork t ≡ false → strands_below (top_node t) ≡ []
 plain-below (tops.Fresh r v) e = refl
 plain-below (tops.Done w d) e = refl
 plain-below (tops.Fault p) e = refl
-plain-below (tops.Waiting r v u None m) e = refl
-plain-below (tops.Waiting r v u (Some n) m) e = refl
-plain-below (tops.Hearing r v u bound hs) e = refl
-plain-below (tops.Forked r v u) e = cc
+plain-below (tops.Waiting r None m) e = refl
+plain-below (tops.Waiting r (Some n) m) e = refl
+plain-below (tops.Hearing r bound hs) e = refl
+plain-below (tops.Forked r) e = cc
 
-pub strands-node : (b : Branch Layer) → IsGrownAt b → strands (node_of b) ≡ [] ∷ among 0 (nodes_of b.below)
+pub strands-node : (b : Branch Layer) → IsGrownAt b → strands (node_of b) ≡ [] ∷ strands_from 0 (nodes_of b.below)
 strands-node b g = by (is_fork (top_of b.frames)) refl
   where
-    by : (x : Bool) → is_fork (top_of b.frames) ≡ x → strands (node_of b) ≡ [] ∷ among 0 (nodes_of b.below)
+    by : (x : Bool) → is_fork (top_of b.frames) ≡ x → strands (node_of b) ≡ [] ∷ strands_from 0 (nodes_of b.below)
     by true e =
         let f = fork-node b.frames (nodes_of b.below) e in
-        ap (λ n. [] ∷ below n) f.1.1.1.1 ∙ ap (λ ss. [] ∷ ss) (below-plug (frames_of b.frames) (Live f.0 f.1.0 f.1.1.0 (Forked (nodes_of b.below))))
+        ap (λ n. [] ∷ strands_below n) f.1.1 ∙ ap (λ ss. [] ∷ ss) (below-plug (frames_of b.frames) (Live f.0 (Forked (nodes_of b.below))))
     by false e =
-        ap (λ n. [] ∷ below n) (plain-node b.frames (nodes_of b.below) e)
+        ap (λ n. [] ∷ strands_below n) (plain-node b.frames (nodes_of b.below) e)
         ∙ ap (λ ss. [] ∷ ss) (below-plug (frames_of b.frames) (top_node (top_of b.frames)) ∙ plain-below (top_of b.frames) e)
-        ∙ sym (ap (λ ss. [] ∷ among 0 (nodes_of ss)) (g.0.1 e))
+        ∙ sym (ap (λ ss. [] ∷ strands_from 0 (nodes_of ss)) (g.0.1 e))
 
 -- ---- a list that grows by one branch after another
 
@@ -81,11 +56,11 @@ behind-one path i (x ∷ xs) = (λ j. append_assoc path (i ∷ []) x j ∷ behin
 
 -- the names in a list, with those from a branch on, are all
 abbrev pub IsListed : Tree Layer → ℕ → List ℕ → List (List ℕ) → ℕ → List (List ℕ) → Type 0
-IsListed t n path old i new = (b : Branch Layer) → find t.strands n ≡ Some b → new ++ behind path (among i (nodes_from i (nodes_of b.below))) ≡ old ++ behind path (strands (node_of b))
+IsListed t n path old i new = (b : Branch Layer) → find t.strands n ≡ Some b → new ++ behind path (strands_from i (nodes_from i (nodes_of b.below))) ≡ old ++ behind path (strands (node_of b))
 
 pub listed-first : (t : Tree Layer) (n : ℕ) (name given path : List ℕ) (old new : List (List ℕ)) → IsHeld t n → name ≡ given → given ≡ path → new ≡ old ++ name ∷ [] → IsListed t n path old 0 new
 listed-first t n name given path old new held same is e b f =
-    let rest = behind path (among 0 (nodes_of b.below)) in
+    let rest = behind path (strands_from 0 (nodes_of b.below)) in
     let one : name ≡ path = same ∙ is in
     ap (λ xs. xs ++ rest) (e ∙ ap (λ x. old ++ x ∷ []) one) ∙ append_assoc old (path ∷ []) rest
     ∙ ap (λ p. old ++ p ∷ rest) (sym (append-nil path))
@@ -96,10 +71,10 @@ pub listed-more : (t : Tree Layer) (n i c : ℕ) (path inner : List ℕ) (old ne
 listed-more t n i c path inner old new more child way is of b f =
     let h = child b f in
     let same : suc i ≡ i + 1 = omega arith in
-    let rest = among (i + 1) (nodes_from (suc i) (nodes_of b.below)) in
+    let rest = strands_from (i + 1) (nodes_from (suc i) (nodes_of b.below)) in
     let names = map (λ bs. i ∷ bs) (strands (node_of h.0)) in
-    let from : among i (nodes_from i (nodes_of b.below)) ≡ names ++ rest = ap (among i) (from-child b i (record { number = c; held = h.0 }) h.1.0) in
-    ap (λ j. more ++ behind path (among (i + 1) (nodes_from j (nodes_of b.below)))) (sym same)
+    let from : strands_from i (nodes_from i (nodes_of b.below)) ≡ names ++ rest = ap (strands_from i) (from-child b i (record { number = c; held = h.0 }) h.1.0) in
+    ap (λ j. more ++ behind path (strands_from (i + 1) (nodes_from j (nodes_of b.below)))) (sym same)
     ∙ ap (λ xs. xs ++ behind path rest) (of h.0 h.1.1.0 ∙ ap (λ p. new ++ behind p (strands (node_of h.0))) way ∙ ap (λ xs. new ++ xs) (behind-one path i (strands (node_of h.0))))
     ∙ append_assoc new (behind path names) (behind path rest)
     ∙ ap (λ xs. new ++ xs) (sym (behind-append path names rest) ∙ ap (behind path) (sym from))
@@ -108,7 +83,7 @@ listed-more t n i c path inner old new more child way is of b f =
 pub listed-all : (t : Tree Layer) (n i : ℕ) (path : List ℕ) (old new : List (List ℕ)) → ((b : Branch Layer) → find t.strands n ≡ Some b → nth b.below i ≡ None) → IsListed t n path old i new →
     (b : Branch Layer) → find t.strands n ≡ Some b → new ≡ old ++ behind path (strands (node_of b))
 listed-all t n i path old new none is b f =
-    sym (append-nil new) ∙ ap (λ ns. new ++ behind path (among i ns)) (sym (from-end b i (none b f))) ∙ is b f
+    sym (append-nil new) ∙ ap (λ ns. new ++ behind path (strands_from i ns)) (sym (from-end b i (none b f))) ∙ is b f
 
 -- a number is put behind these, and taken away again
 pub put-behind : (path from inner : List ℕ) (i : ℕ) → inner ≡ from ++ i ∷ [] → from ≡ path → inner ≡ path ++ i ∷ []

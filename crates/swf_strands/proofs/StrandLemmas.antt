@@ -6,7 +6,7 @@ use Rattle.std.specs.Prelude.{Result, IfOk}
 use Rattle.swf_value.specs.Value.{Value}
 use Rattle.swf_document.specs.declared.common.Flow.{Flow}
 use Rattle.swf_document.specs.declared.error.Problem.{Problem}
-use Rattle.swf_document.specs.Task.{Task}
+use Rattle.swf_meaning.specs.Node.{Running}
 use Rattle.swf_meaning.specs.Strands.{can_go}
 use Rattle.swf_scene.specs.Layers.{frames_of, running_in, running, stacked}
 use Rattle.swf_scene.specs.Stack.{plug, top_node}
@@ -56,7 +56,7 @@ pub top-last : (fs : List Frame) (t : Top) (ls : List Layer) (l : Layer) → sta
 top-last fs t ls l e = (rest-same ls (running fs) l (layers.Top t) (sym e), last-same ls (running fs) l (layers.Top t) (sym e))
 
 -- the last of those that run
-split-last : (f : Frame) (fs : List Frame) → (os : List Frame) × ((g : Frame) × (f ∷ fs ≡ os ++ g ∷ []))
+pub split-last : (f : Frame) (fs : List Frame) → (os : List Frame) × ((g : Frame) × (f ∷ fs ≡ os ++ g ∷ []))
 split-last f [] = ([], (f, refl))
 split-last f (g ∷ fs) = let r = split-last g fs in (f ∷ r.0, (r.1.0, ap (λ gs. f ∷ gs) r.1.1))
 
@@ -116,10 +116,10 @@ some-failed now [] t q e p = let no : can_go now [] (top_node (tops.Fault q)) �
 some-failed now (f ∷ fs) t q e p = omega arith
 
 -- a `fork` that runs takes no step itself
-pub no-fork : (now : ℕ) (fs : List Frame) (r : Task) (v u : Value) → can_go now [] (plug fs (top_node (tops.Forked r v u))) ≡ true → ⊥
-no-fork now [] r v u p = cc
-no-fork now (f ∷ []) r v u p = cc
-no-fork now (f ∷ g ∷ fs) r v u p = no-fork now (g ∷ fs) r v u p
+pub no-fork : (now : ℕ) (fs : List Frame) (r : Running) → can_go now [] (plug fs (top_node (tops.Forked r))) ≡ true → ⊥
+no-fork now [] r p = cc
+no-fork now (f ∷ []) r p = cc
+no-fork now (f ∷ g ∷ fs) r p = no-fork now (g ∷ fs) r p
 
 -- for each that suits
 pub all-ok : {E A : Type 0} {Q : A → Type 0} (P : A → Made → Type 0) (r : Result Made E) → ((a : A) → Q a → IfOk r (P a)) → IfOk r (λ m. (a : A) → Q a → P a m)

@@ -3,13 +3,11 @@ use Rattle.std.proofs.Common.{◌≡◌, ◌∙◌, refl, sym, ap, subst, ℕ, z
 use Rattle.std.proofs.lemmas.Option.{same_Some}
 use Rattle.std.proofs.lemmas.Bool.{eq-eqb, cond-true}
 use Rattle.std.specs.Prelude.{option_map, option_and_then, IfSome, IfNone, ◌==◌}
-use Rattle.swf_value.specs.Value.{Value}
-use Rattle.swf_document.specs.Task.{Task}
 use Rattle.swf_frames.specs.Tree.{Tree, Strands, no_strands, strand, Branch, find, numbers, child}
 use Rattle.swf_frames.specs.Paths.{Found, nth, walk, edit_nth, along, AreDistinct}
 use Rattle.swf_frames.proofs.PathLemmas.{child-nth, find-child}
 use Rattle.swf_meaning.specs.Fork.{put}
-use Rattle.swf_meaning.specs.Node.{Node, Live, Forked, Nodes, no_nodes, branch}
+use Rattle.swf_meaning.specs.Node.{Node, Live, Forked, Nodes, no_nodes, branch, Running}
 use Rattle.swf_scene.specs.Layers.{frames_of, top_of}
 use Rattle.swf_scene.specs.Stack.{plug, top_node, forked, waiting}
 use Rattle.swf_scene.specs.declared.made.Frame.{Frame}
@@ -49,13 +47,13 @@ grown-nth (strand m ls below after) (suc i) c g e = grown-nth after i c g.2 e
 
 -- ---- what stands innermost, and what stands below it
 
-fork-of : (t : Top) → is_fork t ≡ true → (r : Task) × ((v : Value) × ((u : Value) × (t ≡ tops.Forked r v u)))
+fork-of : (t : Top) → is_fork t ≡ true → (r : Running) × (t ≡ tops.Forked r)
 fork-of (tops.Fresh r v) e = absurd (yes-no (sym e))
 fork-of (tops.Done w f) e = absurd (yes-no (sym e))
 fork-of (tops.Fault p) e = absurd (yes-no (sym e))
-fork-of (tops.Waiting r v u n m) e = absurd (yes-no (sym e))
-fork-of (tops.Hearing r v u b hs) e = absurd (yes-no (sym e))
-fork-of (tops.Forked r v u) e = (r, (v, (u, refl)))
+fork-of (tops.Waiting r n m) e = absurd (yes-no (sym e))
+fork-of (tops.Hearing r b hs) e = absurd (yes-no (sym e))
+fork-of (tops.Forked r) e = (r, refl)
 
 none-in : (i : ℕ) (c : Found Layer) (ss : Strands Layer) → ss ≡ no_strands → nth ss i ≡ Some c → ⊥
 none-in i c ss n e = nothing c (sym (ap (λ xs. nth xs i) n) ∙ e)
@@ -69,22 +67,22 @@ pub has-fork : (b : Branch Layer) (i : ℕ) (c : Found Layer) → IsGrownAt b �
 has-fork b i c g e = fork-by (is_fork (top_of b.frames)) b.below i c g.0.1 e
 
 -- its tree
-pub fork-node : (ls : List Layer) (ns : Nodes) → is_fork (top_of ls) ≡ true → (r : Task) × ((v : Value) × ((u : Value) × ((top_of ls ≡ tops.Forked r v u) × (strand_node ls ns ≡ plug (frames_of ls) (Live r v u (Forked ns))))))
+pub fork-node : (ls : List Layer) (ns : Nodes) → is_fork (top_of ls) ≡ true → (r : Running) × ((top_of ls ≡ tops.Forked r) × (strand_node ls ns ≡ plug (frames_of ls) (Live r (Forked ns))))
 fork-node ls ns e =
     let f = fork-of (top_of ls) e in
-    (f.0, (f.1.0, (f.1.1.0, (f.1.1.1, ap (λ t. plug (frames_of ls) (forked (top_node t) ns)) f.1.1.1))))
+    (f.0, (f.1, ap (λ t. plug (frames_of ls) (forked (top_node t) ns)) f.1))
 
-pub waiting-forked : (r : Task) (v u : Value) (n : Option ℕ) (m : ℕ) (ns : Nodes) → forked (Live r v u (waiting n m)) ns ≡ Live r v u (waiting n m)
-waiting-forked r v u None m ns = refl
-waiting-forked r v u (Some k) m ns = refl
+pub waiting-forked : (r : Running) (n : Option ℕ) (m : ℕ) (ns : Nodes) → forked (Live r (waiting n m)) ns ≡ Live r (waiting n m)
+waiting-forked r None m ns = refl
+waiting-forked r (Some k) m ns = refl
 
 no-fork-node : (t : Top) (ns : Nodes) → is_fork t ≡ false → forked (top_node t) ns ≡ top_node t
 no-fork-node (tops.Fresh r v) ns e = refl
 no-fork-node (tops.Done w f) ns e = refl
 no-fork-node (tops.Fault p) ns e = refl
-no-fork-node (tops.Waiting r v u n m) ns e = waiting-forked r v u n m ns
-no-fork-node (tops.Hearing r v u b hs) ns e = refl
-no-fork-node (tops.Forked r v u) ns e = absurd (yes-no e)
+no-fork-node (tops.Waiting r n m) ns e = waiting-forked r n m ns
+no-fork-node (tops.Hearing r b hs) ns e = refl
+no-fork-node (tops.Forked r) ns e = absurd (yes-no e)
 
 -- what holds no `fork` is what stands on it
 pub plain-node : (ls : List Layer) (ns : Nodes) → is_fork (top_of ls) ≡ false → strand_node ls ns ≡ plug (frames_of ls) (top_node (top_of ls))
@@ -111,19 +109,19 @@ at_among-none (suc i) is (branch m ns) e = at_among-none i is ns e
 pub at-child : (b : Branch Layer) (i : ℕ) (is : List ℕ) (c : Found Layer) → IsGrownAt b → nth b.below i ≡ Some c → at (i ∷ is) (node_of b) ≡ at is (node_of c.held)
 at-child b i is c g e =
     let f = fork-node b.frames (nodes_of b.below) (has-fork b i c g e) in
-    ap (at (i ∷ is)) f.1.1.1.1 ∙ at-plug i is (frames_of b.frames) (Live f.0 f.1.0 f.1.1.0 (Forked (nodes_of b.below))) ∙ at_among-nth i is (nodes_of b.below) (node_of c.held) (nth_node-of b.below i c e)
+    ap (at (i ∷ is)) f.1.1 ∙ at-plug i is (frames_of b.frames) (Live f.0 (Forked (nodes_of b.below))) ∙ at_among-nth i is (nodes_of b.below) (node_of c.held) (nth_node-of b.below i c e)
 
-at-waiting : (i : ℕ) (is : List ℕ) (r : Task) (v u : Value) (n : Option ℕ) (m : ℕ) → at (i ∷ is) (Live r v u (waiting n m)) ≡ None
-at-waiting i is r v u None m = refl
-at-waiting i is r v u (Some k) m = refl
+at-waiting : (i : ℕ) (is : List ℕ) (r : Running) (n : Option ℕ) (m : ℕ) → at (i ∷ is) (Live r (waiting n m)) ≡ None
+at-waiting i is r None m = refl
+at-waiting i is r (Some k) m = refl
 
 at-top : (i : ℕ) (is : List ℕ) (t : Top) (ns : Nodes) → nth_node ns i ≡ None → at (i ∷ is) (forked (top_node t) ns) ≡ None
 at-top i is (tops.Fresh r v) ns e = refl
 at-top i is (tops.Done w f) ns e = refl
 at-top i is (tops.Fault p) ns e = refl
-at-top i is (tops.Waiting r v u n m) ns e = ap (at (i ∷ is)) (waiting-forked r v u n m ns) ∙ at-waiting i is r v u n m
-at-top i is (tops.Hearing r v u b hs) ns e = refl
-at-top i is (tops.Forked r v u) ns e = at_among-none i is ns e
+at-top i is (tops.Waiting r n m) ns e = ap (at (i ∷ is)) (waiting-forked r n m ns) ∙ at-waiting i is r n m
+at-top i is (tops.Hearing r b hs) ns e = refl
+at-top i is (tops.Forked r) ns e = at_among-none i is ns e
 
 pub at-no-child : (b : Branch Layer) (i : ℕ) (is : List ℕ) → nth b.below i ≡ None → at (i ∷ is) (node_of b) ≡ None
 at-no-child b i is e = at-plug i is (frames_of b.frames) (forked (top_node (top_of b.frames)) (nodes_of b.below)) ∙ at-top i is (top_of b.frames) (nodes_of b.below) (nth_node-none b.below i e)
@@ -191,8 +189,8 @@ replaced_among-nth zero is m (branch k ns) n e = ap (λ x. branch (replaced is m
 replaced_among-nth (suc i) is m (branch k ns) n e = ap (branch k) (replaced_among-nth i is m ns n e)
 
 -- of a `fork` inside running tasks a branch is put anew
-pub replaced-fork : (i : ℕ) (is : List ℕ) (m : Node) (fs : List Frame) (t : Task) (v u : Value) (ns : Nodes) (n : Node) → nth_node ns i ≡ Some n → replaced (i ∷ is) m (plug fs (Live t v u (Forked ns))) ≡ plug fs (Live t v u (Forked (put ns i (replaced is m n))))
-replaced-fork i is m fs t v u ns n e = replaced-plug i is m fs (Live t v u (Forked ns)) ∙ ap (λ x. plug fs (Live t v u (Forked x))) (replaced_among-nth i is m ns n e)
+pub replaced-fork : (i : ℕ) (is : List ℕ) (m : Node) (fs : List Frame) (r : Running) (ns : Nodes) (n : Node) → nth_node ns i ≡ Some n → replaced (i ∷ is) m (plug fs (Live r (Forked ns))) ≡ plug fs (Live r (Forked (put ns i (replaced is m n))))
+replaced-fork i is m fs r ns n e = replaced-plug i is m fs (Live r (Forked ns)) ∙ ap (λ x. plug fs (Live r (Forked x))) (replaced_among-nth i is m ns n e)
 
 pub along-replaced : (is : List ℕ) (h : Branch Layer → Branch Layer) (r c : Found Layer) → IsGrownAt r.held → walk r is ≡ Some c → node_of (along is h r.held) ≡ replaced is (node_of (h c.held)) (node_of r.held)
 along-replaced [] h r c g e = ap (λ (d : Found Layer). node_of (h d.held)) (same_Some r c e)
@@ -202,13 +200,13 @@ along-replaced (i ∷ is) h r c g e =
     let fork = has-fork r.held i d.0 g d.1.0 in
     let old = fork-node r.held.frames ns fork in
     let new = fork-node r.held.frames (nodes_of (edit_nth (along is h) r.held.below i)) fork in
-    let top : tops.Forked new.0 new.1.0 new.1.1.0 ≡ tops.Forked old.0 old.1.0 old.1.1.0 = sym new.1.1.1.0 ∙ old.1.1.1.0 in
+    let top : tops.Forked new.0 ≡ tops.Forked old.0 = sym new.1.0 ∙ old.1.0 in
     let n = nth_node-of r.held.below i d.0 d.1.0 in
     let inner = along-replaced is h d.0 c (grown-nth r.held.below i d.0 g.1 d.1.0) d.1.1 in
-    new.1.1.1.1
+    new.1.1
     ∙ ap (λ t. plug (frames_of r.held.frames) (forked (top_node t) (nodes_of (edit_nth (along is h) r.held.below i)))) top
-    ∙ ap (λ x. plug (frames_of r.held.frames) (Live old.0 old.1.0 old.1.1.0 (Forked x))) (nodes_of-edit (along is h) r.held.below i d.0 d.1.0 ∙ ap (put ns i) inner)
-    ∙ sym (ap (replaced (i ∷ is) (node_of (h c.held))) old.1.1.1.1 ∙ replaced-fork i is (node_of (h c.held)) (frames_of r.held.frames) old.0 old.1.0 old.1.1.0 ns (node_of d.0.held) n)
+    ∙ ap (λ x. plug (frames_of r.held.frames) (Live old.0 (Forked x))) (nodes_of-edit (along is h) r.held.below i d.0 d.1.0 ∙ ap (put ns i) inner)
+    ∙ sym (ap (replaced (i ∷ is) (node_of (h c.held))) old.1.1 ∙ replaced-fork i is (node_of (h c.held)) (frames_of r.held.frames) old.0 ns (node_of d.0.held) n)
 
 -- ---- the first of all strands
 

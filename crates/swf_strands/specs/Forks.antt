@@ -25,9 +25,9 @@ abbrev pub branches_in : Top → Option (List Layer)
 branches_in (tops.Fresh t v) = None
 branches_in (tops.Done w f) = None
 branches_in (tops.Fault p) = None
-branches_in (tops.Waiting t v u n m) = None
-branches_in (tops.Hearing t v u bound hs) = None
-branches_in (tops.Forked t v u) = Some (fresh_layers (branches_of t) u)
+branches_in (tops.Waiting r n m) = None
+branches_in (tops.Hearing r bound hs) = None
+branches_in (tops.Forked r) = Some (fresh_layers (branches_of r.task) r.input)
 
 abbrev pub IsPutAnew : ℕ → List Layer → Tree Layer → Tree Layer → Type 0
 IsPutAnew n ls old new = new.strands ≡ edit (λ b. record { frames = ls; below = no_strands }) old.strands n

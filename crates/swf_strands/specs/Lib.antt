@@ -3,3 +3,4 @@ pub mod Ways
 pub mod Forks
 pub mod Asked
 pub mod Order
+pub mod Alarm

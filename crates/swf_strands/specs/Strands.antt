@@ -35,9 +35,9 @@ abbrev pub is_fork : Top → Bool
 is_fork (tops.Fresh t v) = false
 is_fork (tops.Done w f) = false
 is_fork (tops.Fault p) = false
-is_fork (tops.Waiting t v u n m) = false
-is_fork (tops.Hearing t v u bound hs) = false
-is_fork (tops.Forked t v u) = true
+is_fork (tops.Waiting r n m) = false
+is_fork (tops.Hearing r bound hs) = false
+is_fork (tops.Forked r) = true
 
 -- running tasks, and at the top what stands innermost
 abbrev pub IsStack : List Layer → Type 0

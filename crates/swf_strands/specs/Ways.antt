@@ -9,12 +9,12 @@ abbrev mutual
   pub at : List ℕ → Node → Option Node
   at [] n = Some n
   at (b ∷ bs) (Fresh t v) = None
-  at (b ∷ bs) (Live t v u k) = at_inside b bs k
+  at (b ∷ bs) (Live r k) = at_inside b bs k
   at (b ∷ bs) (Done w f) = None
   at (b ∷ bs) (Fault p) = None
 
   pub at_inside : ℕ → List ℕ → Inside → Option Node
-  at_inside b bs (At r i n) = at (b ∷ bs) n
+  at_inside b bs (At round i n) = at (b ∷ bs) n
   at_inside b bs (Later n m) = None
   at_inside b bs (Sleep m) = None
   at_inside b bs (Hear bound hs) = None
@@ -33,12 +33,12 @@ abbrev mutual
   pub replaced : List ℕ → Node → Node → Node
   replaced [] m n = m
   replaced (b ∷ bs) m (Fresh t v) = Fresh t v
-  replaced (b ∷ bs) m (Live t v u k) = Live t v u (replaced_inside b bs m k)
+  replaced (b ∷ bs) m (Live r k) = Live r (replaced_inside b bs m k)
   replaced (b ∷ bs) m (Done w f) = Done w f
   replaced (b ∷ bs) m (Fault p) = Fault p
 
   pub replaced_inside : ℕ → List ℕ → Node → Inside → Inside
-  replaced_inside b bs m (At r i n) = At r i (replaced (b ∷ bs) m n)
+  replaced_inside b bs m (At round i n) = At round i (replaced (b ∷ bs) m n)
   replaced_inside b bs m (Later n l) = Later n l
   replaced_inside b bs m (Sleep l) = Sleep l
   replaced_inside b bs m (Hear bound hs) = Hear bound hs
@@ -53,12 +53,12 @@ abbrev mutual
 abbrev mutual
   pub own_until : Node → Option ℕ
   own_until (Fresh t v) = None
-  own_until (Live t v u k) = own_until_inside k
+  own_until (Live r k) = own_until_inside k
   own_until (Done w f) = None
   own_until (Fault p) = None
 
   pub own_until_inside : Inside → Option ℕ
-  own_until_inside (At r i n) = own_until n
+  own_until_inside (At round i n) = own_until n
   own_until_inside (Later n m) = Some m
   own_until_inside (Sleep m) = Some m
   own_until_inside (Hear bound hs) = None
@@ -68,12 +68,12 @@ abbrev mutual
 abbrev mutual
   pub own_listens : Node → Bool
   own_listens (Fresh t v) = false
-  own_listens (Live t v u k) = own_listens_inside t k
+  own_listens (Live r k) = own_listens_inside r.task k
   own_listens (Done w f) = false
   own_listens (Fault p) = false
 
   pub own_listens_inside : Task → Inside → Bool
-  own_listens_inside t (At r i n) = own_listens n
+  own_listens_inside t (At round i n) = own_listens n
   own_listens_inside t (Later n m) = false
   own_listens_inside t (Sleep m) = false
   own_listens_inside t (Hear bound hs) = not (is_heard t hs)

@@ -33,8 +33,8 @@ fn can_go(around: &[Layer], top: &Top, now: Moment) -> bool
         Top::Done { .. } => !around.is_empty(),
         Top::Fault(_) => !around.is_empty(),
         Top::Waiting { until, .. } => *until <= now.milliseconds(),
-        Top::Hearing { task, heard, .. } => is_heard(task, heard.as_slice()),
-        Top::Forked { .. } => false,
+        Top::Hearing { running, heard, .. } => is_heard(running.task(), heard.as_slice()),
+        Top::Forked(_) => false,
     }
 }
 

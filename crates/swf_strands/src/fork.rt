@@ -1,8 +1,8 @@
 // How a strand is put anew, and how a `fork` begins on it (DSL 1.0.0, reference, "Fork").
-ghost use Rattle.std.specs.Prelude.{◌≡◌, ◌≤◌, ◌^◌, IfOk, IfSome, length, option_map, Some, true};
+ghost use Rattle.std.specs.Prelude.{◌≡◌, ◌≤◌, IfOk, IfSome, length, option_map, Some, true};
 ghost use Rattle.swf_scene.specs.Layers.{top_of};
 ghost use Rattle.swf_strands.specs.Forks.{branches_in, IsPutAnew, layers_node};
-ghost use Rattle.swf_strands.specs.Strands.{IsStack, IsHeld, is_fork, made_layers, root_node, IsGrown, most_beside};
+ghost use Rattle.swf_strands.specs.Strands.{IsStack, IsHeld, made_layers, root_node, IsGrown, most_beside};
 ghost use Rattle.swf_strands.specs.Ways.{has_strand, replaced};
 
 use crate::stack::strand_at;
@@ -19,15 +19,15 @@ pub fn branches_of(alloc: Global, layers: &[Layer]) -> Result<Option<Vec<Layer>>
     ensures branches { IfOk result (λ o. option_map (λ v. v.items) o ≡ branches_in (top_of layers.now)) }
     ensures few { IfOk result (λ o. IfSome o (λ v. length v.items ≤ most_beside)) }
 {
-    let Some(Layer::Top(Top::Forked { task, input, .. })) = layers.last() else {
+    let Some(Layer::Top(Top::Forked(running))) = layers.last() else {
         return Ok(None);
     };
     let mut branches = Vec::new(alloc);
-    while let Some(branch) = task.branch(branches.len())? {
+    while let Some(branch) = running.task().branch(branches.len())? {
         if branches.len() >= MOST_BESIDE {
             return Err(AllocError);
         }
-        let raw = input.copy()?;
+        let raw = running.input().copy()?;
         branches.push(Layer::Top(Top::Fresh { task: branch, raw }))?;
     }
     Ok(Some(branches))

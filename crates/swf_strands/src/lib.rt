@@ -1,12 +1,14 @@
 //! The strands of an instance, and the way to each.
 #![tactic(auto)]
 
+mod alarm;
 mod ask;
 mod fork;
 mod names;
 mod order;
 mod stack;
 
+pub use alarm::{alarm_in, own_until, put_kept, until_of};
 pub use ask::{Question, holds_here, holds_in};
 pub use fork::{branches_of, forked, put_at};
 pub use names::{list_strands, named};

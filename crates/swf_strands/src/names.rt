@@ -1,5 +1,5 @@
 // The names of strands.
-ghost use Rattle.std.specs.Prelude.{◌≡◌, ◌++◌, ℕ, List, IfOk, OnOk, Some, map};
+ghost use Rattle.std.specs.Prelude.{◌≡◌, ◌++◌, IfOk, OnOk, Some, map};
 ghost use Rattle.swf_frames.specs.Tree.{Branch, find};
 ghost use Rattle.swf_meaning.specs.Strands.{strands};
 ghost use Rattle.swf_scene.specs.declared.made.Layer.{Layer as TheLayer};

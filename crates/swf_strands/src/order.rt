@@ -1,5 +1,5 @@
 // Which strand has the next turn: they take turns in the order of their names.
-ghost use Rattle.std.specs.Prelude.{◌≡◌, ◌++◌, List, ℕ, OnOk, IfOk, Some, true, false};
+ghost use Rattle.std.specs.Prelude.{◌≡◌, OnOk, IfOk, Some, true, false};
 ghost use Rattle.swf_frames.specs.Tree.{Branch, find};
 ghost use Rattle.swf_meaning.specs.Local.{is_enabled};
 ghost use Rattle.swf_scene.specs.declared.made.Layer.{Layer as TheLayer};

@@ -1,7 +1,7 @@
 // What a strand holds, and which strands stand below it.
 ghost use Rattle.std.specs.Prelude.{◌≡◌, ◌<◌, ◌++◌, ◌∷◌, [], List, IfOk, IfSome, IfNone, length, option_to_list, Some, None};
 ghost use Rattle.swf_frames.specs.Tree.{Branch, find};
-ghost use Rattle.swf_frames.specs.Paths.{nth, walk, Found};
+ghost use Rattle.swf_frames.specs.Paths.{nth, walk};
 ghost use Rattle.swf_scene.specs.Layers.{frames_of, top_of, running, stacked};
 ghost use Rattle.swf_scene.specs.declared.made.Frame.{Frame as TheFrame};
 ghost use Rattle.swf_scene.specs.declared.made.Layer.{Layer as TheLayer};

@@ -2,62 +2,61 @@
 use Rattle.std.proofs.Common.{◌≡◌, ◌∙◌, ℕ, zero, suc, ◌+◌, ◌-◌, ◌≤◌, List, [], ◌∷◌, Ok, Err, true, false, Option, Some, None, refl, ap, sym, arith}
 use Rattle.std.specs.Prelude.{if◌then◌else◌, option_map, Result, OnErr}
 use Rattle.swf_cloudevents.specs.declared.event.Event.{Event}
-use Rattle.swf_document.specs.Task.{Task, Kind, listen}
+use Rattle.swf_document.specs.declared.event.ListenSpec.{ListenSpec}
 use Rattle.swf_meaning.specs.Around.{seen}
-use Rattle.swf_meaning.specs.Complete.{Stepped, complete}
+use Rattle.swf_meaning.specs.Complete.{Stepped, complete, step_of}
 use Rattle.swf_meaning.specs.Fork.{after_branch}
-use Rattle.swf_meaning.specs.Listen.{is_heard_in, heard_in, events_of}
+use Rattle.swf_meaning.specs.Line.{Line, Site}
+use Rattle.swf_meaning.specs.Listen.{is_heard_by, heard_by, events_of}
 use Rattle.swf_meaning.specs.Lists.{comes_to}
-use Rattle.swf_meaning.specs.Local.{local, local_inside, local_branch, put_back, competes}
-use Rattle.swf_meaning.specs.Node.{Node, Fresh, Live, Done, Fault, Inside, At, Later, Sleep, Hear, Forked, Nodes, no_nodes, branch, Round, Try}
-use Rattle.swf_meaning.specs.Parts.{kind_of}
+use Rattle.swf_meaning.specs.Local.{local, local_inside, local_branch, put_back}
+use Rattle.swf_meaning.specs.Node.{Node, Fresh, Live, Done, Fault, Inside, At, Later, Sleep, Hear, Forked, Nodes, no_nodes, branch, Round, Try, Running}
+use Rattle.swf_meaning.specs.Parts.{kind_of, listen_in}
 use Rattle.swf_meaning.specs.Shared.{is_shared, unshared, after_one, advanced}
-use Rattle.swf_meaning.specs.Sight.{Sight}
 use Rattle.swf_meaning.specs.Strands.{can_go, can_go_inside, can_go_branch}
-use Rattle.swf_meaning.specs.World.{Instance, sight, with_step}
+use Rattle.swf_meaning.specs.World.{Instance, line_of, site_of, step_at, with_step}
 use Rattle.swf_meaning.specs.declared.heard.Heard.{Heard}
 use Rattle.swf_tasks.specs.Taken.{taken}
-use Rattle.swf_value.specs.Value.{Value}
 
-none_back : (t : Task) (v u : Value) (r : Round) (i : ℕ) (o : Option Stepped) → o ≡ None → put_back t v u r i o ≡ None
-none_back t v u r i o e = ap (put_back t v u r i) e
+none_back : (r : Running) (round : Round) (i : ℕ) (o : Option Stepped) → o ≡ None → put_back r round i o ≡ None
+none_back r round i o e = ap (put_back r round i) e
 
 -- a task that has not heard all takes none
-unheard : (s : Sight) (t : Task) (v u : Value) (hs : List Heard) (k : Kind) → is_heard_in k hs ≡ false → heard_in s t v u hs k ≡ None
-unheard s t v u hs (listen l) e = ap (λ b. if b then Some (complete s t v u (events_of l hs)) else None) e
-unheard s t v u hs k e = refl
+unheard : (l : Line) (r : Running) (hs : List Heard) (o : Option ListenSpec) → is_heard_by hs o ≡ false → heard_by l r hs o ≡ None
+unheard l r hs None e = refl
+unheard l r hs (Some spec) e = ap (λ b. if b then Some (complete l r (events_of spec hs)) else None) e
 
 -- what can take no step takes none
 mutual
-  pub no_step : (s : Sight) (bs : List ℕ) (n : Node) → can_go s.now bs n ≡ false → local s bs n ≡ None
-  no_step s [] (Fresh t v) e = cc
-  no_step s (b ∷ bs) (Fresh t v) e = refl
-  no_step s bs (Live t v u k) e = no_step_inside s bs t v u k e
-  no_step s bs (Done w f) e = refl
-  no_step s bs (Fault p) e = refl
+  pub no_step : (s : Site) (l : Line) (bs : List ℕ) (n : Node) → can_go s.now bs n ≡ false → local s l bs n ≡ None
+  no_step s l [] (Fresh t v) e = cc
+  no_step s l (b ∷ bs) (Fresh t v) e = refl
+  no_step s l bs (Live r k) e = no_step_inside s l bs r k e
+  no_step s l bs (Done w f) e = refl
+  no_step s l bs (Fault p) e = refl
 
-  no_step_inside : (s : Sight) (bs : List ℕ) (t : Task) (v u : Value) (k : Inside) → can_go_inside s.now bs t k ≡ false → local_inside s bs t v u k ≡ None
-  no_step_inside s [] t v u (At r i (Fresh x y)) e = cc
-  no_step_inside s (b ∷ bs) t v u (At r i (Fresh x y)) e = refl
-  no_step_inside s bs t v u (At r i (Live x y z k)) e = none_back t v u r i (local (seen s t r) bs (Live x y z k)) (no_step_inside (seen s t r) bs x y z k e)
-  no_step_inside s [] t v u (At r i (Done w f)) e = cc
-  no_step_inside s (b ∷ bs) t v u (At r i (Done w f)) e = refl
-  no_step_inside s [] t v u (At r i (Fault p)) e = cc
-  no_step_inside s (b ∷ bs) t v u (At r i (Fault p)) e = refl
-  no_step_inside s [] t v u (Later n until) e = ap (λ x. if x then Some (comes_to s t v u (Try n) zero u) else None) e
-  no_step_inside s (b ∷ bs) t v u (Later n until) e = refl
-  no_step_inside s [] t v u (Sleep until) e = ap (λ x. if x then Some (complete s t v u u) else None) e
-  no_step_inside s (b ∷ bs) t v u (Sleep until) e = refl
-  no_step_inside s [] t v u (Hear bound hs) e = unheard s t v u hs (kind_of t) e
-  no_step_inside s (b ∷ bs) t v u (Hear bound hs) e = refl
-  no_step_inside s [] t v u (Forked ns) e = refl
-  no_step_inside s (b ∷ bs) t v u (Forked ns) e = ap (option_map (after_branch s t v u (competes t) ns b)) (no_step_branch s b bs ns e)
+  no_step_inside : (s : Site) (l : Line) (bs : List ℕ) (r : Running) (k : Inside) → can_go_inside s.now bs r.task k ≡ false → local_inside s l bs r k ≡ None
+  no_step_inside s l [] r (At round i (Fresh t v)) e = cc
+  no_step_inside s l (b ∷ bs) r (At round i (Fresh t v)) e = refl
+  no_step_inside s l bs r (At round i (Live q k)) e = none_back r round i (local s (seen l r.task round) bs (Live q k)) (no_step_inside s (seen l r.task round) bs q k e)
+  no_step_inside s l [] r (At round i (Done w f)) e = cc
+  no_step_inside s l (b ∷ bs) r (At round i (Done w f)) e = refl
+  no_step_inside s l [] r (At round i (Fault p)) e = cc
+  no_step_inside s l (b ∷ bs) r (At round i (Fault p)) e = refl
+  no_step_inside s l [] r (Later n until) e = ap (λ x. option_map (step_of l) (if x then Some (comes_to l r (Try n) zero r.input) else None)) e
+  no_step_inside s l (b ∷ bs) r (Later n until) e = refl
+  no_step_inside s l [] r (Sleep until) e = ap (λ x. option_map (step_of l) (if x then Some (complete l r r.input) else None)) e
+  no_step_inside s l (b ∷ bs) r (Sleep until) e = refl
+  no_step_inside s l [] r (Hear bound hs) e = ap (option_map (step_of l)) (unheard l r hs (listen_in (kind_of r.task)) e)
+  no_step_inside s l (b ∷ bs) r (Hear bound hs) e = refl
+  no_step_inside s l [] r (Forked ns) e = refl
+  no_step_inside s l (b ∷ bs) r (Forked ns) e = ap (option_map (after_branch l r ns b)) (no_step_branch s l b bs ns e)
 
-  no_step_branch : (s : Sight) (b : ℕ) (bs : List ℕ) (ns : Nodes) → can_go_branch s.now b bs ns ≡ false → local_branch s b bs ns ≡ None
-  no_step_branch s zero bs no_nodes e = refl
-  no_step_branch s (suc b) bs no_nodes e = refl
-  no_step_branch s zero bs (branch n ns) e = no_step s bs n e
-  no_step_branch s (suc b) bs (branch n ns) e = no_step_branch s b bs ns e
+  no_step_branch : (s : Site) (l : Line) (b : ℕ) (bs : List ℕ) (ns : Nodes) → can_go_branch s.now b bs ns ≡ false → local_branch s l b bs ns ≡ None
+  no_step_branch s l zero bs no_nodes e = refl
+  no_step_branch s l (suc b) bs no_nodes e = refl
+  no_step_branch s l zero bs (branch n ns) e = no_step s l bs n e
+  no_step_branch s l (suc b) bs (branch n ns) e = no_step_branch s l b bs ns e
 
 -- where no step is taken, none is more
 pub stands_still : (now : ℕ) (bs : List ℕ) (n : ℕ) (i : Instance) → unshared now bs i ≡ None → advanced now bs n i ≡ (i, 0)
@@ -65,18 +64,18 @@ stands_still now bs zero i e = refl
 stands_still now bs (suc n) i e = ap (λ o. after_one i (option_map (advanced now bs n) o)) e
 
 pub shared_none : (now : ℕ) (bs : List ℕ) (i : Instance) → is_shared bs i.node ≡ true → unshared now bs i ≡ None
-shared_none now bs i e = ap (λ b. if b then None else option_map (with_step i) (local (sight now i) bs i.node)) e
+shared_none now bs i e = ap (λ b. if b then None else option_map (with_step i) (step_at now bs i)) e
 
 pub still_none : (now : ℕ) (bs : List ℕ) (i : Instance) → is_shared bs i.node ≡ false → can_go now bs i.node ≡ false → unshared now bs i ≡ None
 still_none now bs i e h =
-    ap (λ b. if b then None else option_map (with_step i) (local (sight now i) bs i.node)) e ∙ ap (option_map (with_step i)) (no_step (sight now i) bs i.node h)
+    ap (λ b. if b then None else option_map (with_step i) (step_at now bs i)) e ∙ ap (option_map (with_step i)) (no_step (site_of now i) (line_of i) bs i.node h)
 
 taken_some : (i j : Instance) (x : Option Event) (o : Option Stepped) → option_map (taken i) o ≡ Some (j, x) → option_map (with_step i) o ≡ Some j
 taken_some i j x None h = cc
 taken_some i j x (Some m) h = ap (λ (r : Option (Instance × Option Event)). option_map (λ (p : Instance × Option Event). p.0) r) h
 
-pub step_some : (now : ℕ) (bs : List ℕ) (i j : Instance) (x : Option Event) → is_shared bs i.node ≡ false → option_map (taken i) (local (sight now i) bs i.node) ≡ Some (j, x) → unshared now bs i ≡ Some j
-step_some now bs i j x e h = ap (λ b. if b then None else option_map (with_step i) (local (sight now i) bs i.node)) e ∙ taken_some i j x (local (sight now i) bs i.node) h
+pub step_some : (now : ℕ) (bs : List ℕ) (i j : Instance) (x : Option Event) → is_shared bs i.node ≡ false → option_map (taken i) (step_at now bs i) ≡ Some (j, x) → unshared now bs i ≡ Some j
+step_some now bs i j x e h = ap (λ b. if b then None else option_map (with_step i) (step_at now bs i)) e ∙ taken_some i j x (step_at now bs i) h
 
 -- with so many steps taken before
 abbrev pub behind : ℕ → Instance × ℕ → Instance × ℕ

@@ -3,21 +3,21 @@ use Rattle.std.proofs.Common.{◌≡◌, ◌∙◌, refl, sym, ap, subst, ℕ, z
 use Rattle.std.specs.Prelude.{option_map, option_to_list, if◌then◌else◌, Result, IfOk}
 use Rattle.std.proofs.lemmas.Option.{same_Some}
 use Rattle.swf_value.specs.Value.{Value}
-use Rattle.swf_document.specs.Task.{Task}
 use Rattle.swf_document.specs.declared.common.Flow.TheVariants as flows
+use Rattle.swf_document.specs.declared.error.Problem.{Problem}
 use Rattle.swf_frames.specs.Tree.{Tree, Branch, find}
 use Rattle.swf_frames.specs.Paths.{Found, nth}
-use Rattle.swf_meaning.specs.Complete.{Stepped, becomes, complete}
-use Rattle.swf_meaning.specs.Fork.{after_branch, joined, outputs, put, settled}
-use Rattle.swf_meaning.specs.Local.{local, local_branch, competes}
+use Rattle.swf_meaning.specs.Complete.{Stepped, becomes, complete, step_of}
+use Rattle.swf_meaning.specs.Fork.{after_branch, competes, joined, outputs, put, settled}
+use Rattle.swf_meaning.specs.Line.{Line, Site}
+use Rattle.swf_meaning.specs.Local.{local, local_branch}
 use Rattle.swf_meaning.specs.Strands.{can_go, can_go_branch}
-use Rattle.swf_meaning.specs.Node.{Node, Fresh, Live, Done, Fault, Forked, Nodes, no_nodes, branch}
-use Rattle.swf_meaning.specs.Sight.{Sight}
-use Rattle.swf_rules.specs.Settles.{ending, GivesSome}
+use Rattle.swf_meaning.specs.Node.{Node, Fresh, Live, Done, Fault, Forked, Nodes, no_nodes, branch, Running}
+use Rattle.swf_rules.specs.Settles.{ending, MakesSome}
 use Rattle.swf_scene.specs.Layers.{frames_of, top_of, running, stacked}
-use Rattle.swf_scene.specs.Stack.{plug, top_node, made_node, stepped_of, seen_in, forked, waiting}
+use Rattle.swf_scene.specs.Stack.{plug, top_node, made_node, stepped_of, used_by, seen_in, forked, waiting}
 use Rattle.swf_scene.proofs.LayerLemmas.{frames_of-running, frames_of-stacked, top_of-stacked}
-use Rattle.swf_scene.specs.Halts.{Gives}
+use Rattle.swf_scene.specs.Halts.{Makes}
 use Rattle.swf_scene.specs.declared.halt.Halt.{Halt}
 use Rattle.swf_scene.specs.declared.halt.Halt.TheVariants as halts
 use Rattle.swf_scene.specs.declared.made.Frame.{Frame}
@@ -27,11 +27,12 @@ use Rattle.swf_scene.specs.declared.made.Made.{Made}
 use Rattle.swf_scene.specs.declared.made.Top.{Top}
 use Rattle.swf_scene.specs.declared.made.Top.TheVariants as tops
 use Rattle.swf_tasks.specs.Installed.{put_in, IsStep, AreAround}
-use Rattle.swf_tasks.specs.Stepped.{IsChange, IsChangeOf, IsForkOf, ended_of, if_ended, has_ended, listed}
+use Rattle.swf_tasks.specs.Stepped.{IsChange, IsChangeOf, IsForkOf, change_at, ended_of, if_ended, has_ended, listed}
 use Rattle.swf_strands.specs.Strands.{IsStack, made_layers, node_of, nodes_of, is_fork, IsGrownAt, IsHeld}
 use Rattle.swf_strands.specs.Ways.{has_strand, replaced}
 use Rattle.swf_tasks.specs.declared.step.Change.{Change}
-use Rattle.swf_tasks.proofs.StepLemmas.{plug-append, is_open, local-plug, can_go-live}
+use Rattle.swf_tasks.proofs.StepLemmas.{plug-append, is_open, local-plug}
+use Rattle.swf_strands.proofs.AskLemmas.{can_go-live}
 use Rattle.swf_strands.proofs.TreeLemmas.{nth_node, nth_node-of, nth_node-none, nothing, yes-no, has-fork, fork-node, at-child, replaced-fork, plain-node, held-is, IsChild}
 use Rattle.swf_strands.proofs.OrderLemmas.{can_go-child}
 
@@ -51,13 +52,13 @@ made-around os m ls e = made-stack (os ++ option_to_list m.frame) m.top ls e ∙
 
 -- ---- what stands innermost takes its step
 
-pub own-change : (s : Sight) (fs os : List Frame) (t : Top) (m : Made) (c : Change) → AreAround fs t os → IsStep s fs t (stepped_of m) → c.depth ≡ 0 → c.layers.items ≡ stacked (os ++ option_to_list m.frame) m.top → c.context ≡ m.context → c.emitted ≡ m.emitted →
-    IsChange s [] (plug fs (top_node t)) c
-own-change s fs os t m c around step d ls x e = record {
+pub own-change : (s : Site) (l : Line) (fs os : List Frame) (t : Top) (m : Made) (c : Change) → AreAround fs t os → IsStep s l fs t (stepped_of m) → c.depth ≡ 0 → c.layers.items ≡ stacked (os ++ option_to_list m.frame) m.top → c.context ≡ m.context → c.emitted ≡ m.emitted →
+    IsChange s l [] (plug fs (top_node t)) c
+own-change s l fs os t m c around step d ls x e = record {
   deep = omega (arith, d);
   there = ap (λ n. has_strand (take n []) (plug fs (top_node t))) d;
   stack = stack-is (os ++ option_to_list m.frame) m.top c.layers.items ls;
-  step = step os around ∙ ap Some (λ i. record { node = node i; context = sym x i; emitted = sym e i });
+  step = step os around ∙ ap Some (λ i. record { node = node i; context = sym x i; used = used_by (sym e i); emitted = sym e i });
 }
   where
     node : plug os (stepped_of m).node ≡ replaced (take c.depth []) (made_layers c.layers.items) (plug fs (top_node t))
@@ -65,25 +66,35 @@ own-change s fs os t m c around step d ls x e = record {
 
 -- ---- a branch takes its step
 
-pub local_branch-nth : (s : Sight) (i : ℕ) (bs : List ℕ) (ns : Nodes) (n : Node) → nth_node ns i ≡ Some n → local_branch s i bs ns ≡ local s bs n
-local_branch-nth s i bs no_nodes n e = absurd (nothing n e)
-local_branch-nth s zero bs (branch m ns) n e = ap (local s bs) (same_Some m n e)
-local_branch-nth s (suc i) bs (branch m ns) n e = local_branch-nth s i bs ns n e
+local_branch-nth : (s : Site) (l : Line) (i : ℕ) (bs : List ℕ) (ns : Nodes) (n : Node) → nth_node ns i ≡ Some n → local_branch s l i bs ns ≡ local s l bs n
+local_branch-nth s l i bs no_nodes n e = absurd (nothing n e)
+local_branch-nth s l zero bs (branch m ns) n e = ap (local s l bs) (same_Some m n e)
+local_branch-nth s l (suc i) bs (branch m ns) n e = local_branch-nth s l i bs ns n e
 
 -- inside running tasks a branch of a `fork` takes its step
-pub local-fork : (s : Sight) (fs : List Frame) (t : Task) (v u : Value) (ns : Nodes) (i : ℕ) (bs : List ℕ) (n : Node) (m : Stepped) → nth_node ns i ≡ Some n → local (seen_in s fs) bs n ≡ Some m →
-    local s (i ∷ bs) (plug fs (Live t v u (Forked ns))) ≡ Some (put_in fs (after_branch (seen_in s fs) t v u (competes t) ns i m))
-local-fork s fs t v u ns i bs n m e l =
-    local-plug s (i ∷ bs) fs (Live t v u (Forked ns)) (after_branch (seen_in s fs) t v u (competes t) ns i m) refl
-    (ap (option_map (after_branch (seen_in s fs) t v u (competes t) ns i)) (local_branch-nth (seen_in s fs) i bs ns n e ∙ l))
+local-fork : (s : Site) (l : Line) (fs : List Frame) (r : Running) (ns : Nodes) (i : ℕ) (bs : List ℕ) (n : Node) (m : Stepped) → nth_node ns i ≡ Some n → local s (seen_in l fs) bs n ≡ Some m →
+    local s l (i ∷ bs) (plug fs (Live r (Forked ns))) ≡ Some (put_in fs (after_branch (seen_in l fs) r ns i m))
+local-fork s l fs r ns i bs n m e h =
+    let z = seen_in l fs in
+    local-plug s l (i ∷ bs) fs (Live r (Forked ns)) (after_branch z r ns i m) refl (ap (option_map (after_branch z r ns i)) (local_branch-nth s z i bs ns n e ∙ h))
 
--- the `fork` goes on while the branch has not ended
-open-after : (s : Sight) (t : Task) (v u : Value) (compete : Bool) (ns : Nodes) (i : ℕ) (m : Stepped) → is_open m.node ≡ true → after_branch s t v u compete ns i m ≡ record { node = Live t v u (Forked (put ns i m.node)); context = m.context; emitted = m.emitted }
-open-after s t v u compete ns i m e = by m.node refl
+-- the `fork` goes on with what the branch became
+abbrev pub goes_with : Running → Nodes → ℕ → Stepped → Stepped
+goes_with r ns i m = record m { node = Live r (Forked (put ns i m.node)) }
+
+-- it does so while the branch has not ended
+open-after : (l : Line) (r : Running) (ns : Nodes) (i : ℕ) (m : Stepped) → is_open m.node ≡ true → after_branch l r ns i m ≡ goes_with r ns i m
+open-after l r ns i m e = by m.node refl
   where
-    by : (n : Node) → n ≡ m.node → after_branch s t v u compete ns i m ≡ record { node = Live t v u (Forked (put ns i m.node)); context = m.context; emitted = m.emitted }
-    by (Fresh q w) h = ap (λ x. record (settled (record s { context = m.context }) t v u compete (put ns i m.node) x) { emitted = m.emitted }) (sym h)
-    by (Live q w x k) h = ap (λ y. record (settled (record s { context = m.context }) t v u compete (put ns i m.node) y) { emitted = m.emitted }) (sym h)
+    k : Line
+    k = record l { context = m.context }
+
+    same : (n : Node) → n ≡ m.node → settled k r (competes r.task) (put ns i m.node) n ≡ Ok (becomes k (Live r (Forked (put ns i m.node)))) → after_branch l r ns i m ≡ goes_with r ns i m
+    same n h is = ap (λ x. record (step_of k x) { used = m.used; emitted = m.emitted }) (ap (settled k r (competes r.task) (put ns i m.node)) (sym h) ∙ is)
+
+    by : (n : Node) → n ≡ m.node → after_branch l r ns i m ≡ goes_with r ns i m
+    by (Fresh t v) h = same (Fresh t v) h refl
+    by (Live q x) h = same (Live q x) h refl
     by (Done w f) h = absurd (yes-no (sym e ∙ ap is_open (sym h)))
     by (Fault p) h = absurd (yes-no (sym e ∙ ap is_open (sym h)))
 
@@ -112,9 +123,9 @@ open-or-ended zero bs ls n l h stack none = open-layers ls stack none
     open-top (tops.Fresh r v) e = refl
     open-top (tops.Done w f) e = absurd (nothing _ (sym e))
     open-top (tops.Fault p) e = absurd (nothing _ (sym e))
-    open-top (tops.Waiting r v u k m) e = refl
-    open-top (tops.Hearing r v u b hs) e = refl
-    open-top (tops.Forked r v u) e = refl
+    open-top (tops.Waiting r k m) e = refl
+    open-top (tops.Hearing r b hs) e = refl
+    open-top (tops.Forked r) e = refl
 
     open-layers : (ls : List Layer) → IsStack ls → ended_of zero ls ≡ None → is_open (made_layers ls) ≡ true
     open-layers [] stack e = cc
@@ -122,7 +133,7 @@ open-or-ended zero bs ls n l h stack none = open-layers ls stack none
     open-layers (layers.Top t ∷ ls) stack e = subst (λ ks. is_open (made_layers (layers.Top t ∷ ks)) ≡ true) (sym (top-alone t ls stack)) (open-top t e)
 open-or-ended (suc d) [] ls n l h stack none = absurd (omega (arith, l))
 open-or-ended (suc d) (b ∷ bs) ls (Fresh t v) l h stack none = absurd (yes-no (sym h))
-open-or-ended (suc d) (b ∷ bs) ls (Live t v u k) l h stack none = refl
+open-or-ended (suc d) (b ∷ bs) ls (Live t k) l h stack none = refl
 open-or-ended (suc d) (b ∷ bs) ls (Done w f) l h stack none = absurd (yes-no (sym h))
 open-or-ended (suc d) (b ∷ bs) ls (Fault p) l h stack none = absurd (yes-no (sym h))
 
@@ -131,22 +142,18 @@ open-or-ended (suc d) (b ∷ bs) ls (Fault p) l h stack none = absurd (yes-no (s
 take-first : (d i : ℕ) (is : List ℕ) → take (d + 1) (i ∷ is) ≡ i ∷ take d is
 take-first d i is = ap (λ n. take n (i ∷ is)) (add-one d)
 
--- what the node of a branch becomes
-abbrev pub branch_after : Change → List ℕ → Node → Stepped
-branch_after c inner n = record { node = replaced (take c.depth inner) (made_layers c.layers.items) n; context = c.context; emitted = c.emitted }
-
 -- the strand with the branch anew
-pub goes-on : (s : Sight) (b : Branch Layer) (i : ℕ) (h : Found Layer) (inner : List ℕ) (c r : Change) → IsGrownAt b → nth b.below i ≡ Some h → IsChange (seen_in s (frames_of b.frames)) inner (node_of h.held) c →
-    ((t : Task) (v u : Value) → top_of b.frames ≡ tops.Forked t v u → after_branch (seen_in s (frames_of b.frames)) t v u (competes t) (nodes_of b.below) i (branch_after c inner (node_of h.held)) ≡ record { node = Live t v u (Forked (put (nodes_of b.below) i (branch_after c inner (node_of h.held)).node)); context = c.context; emitted = c.emitted }) →
-    r ≡ record c { depth = c.depth + 1 } → IsChange s (i ∷ inner) (node_of b) r
-goes-on s b i h inner c r g e change after is = subst (IsChange s (i ∷ inner) (node_of b)) (sym is) (record {
+goes-on : (s : Site) (l : Line) (b : Branch Layer) (i : ℕ) (h : Found Layer) (inner : List ℕ) (c r : Change) → IsGrownAt b → nth b.below i ≡ Some h → IsChange s (seen_in l (frames_of b.frames)) inner (node_of h.held) c →
+    ((q : Running) → top_of b.frames ≡ tops.Forked q → after_branch (seen_in l (frames_of b.frames)) q (nodes_of b.below) i (change_at c inner (node_of h.held)) ≡ goes_with q (nodes_of b.below) i (change_at c inner (node_of h.held))) →
+    r ≡ record c { depth = c.depth + 1 } → IsChange s l (i ∷ inner) (node_of b) r
+goes-on s l b i h inner c r g e change after is = subst (IsChange s l (i ∷ inner) (node_of b)) (sym is) (record {
   deep = omega (arith, change.deep);
   there = ap (λ bs. has_strand bs (node_of b)) (take-first c.depth i inner) ∙ ap is_some (at-child b i (take c.depth inner) h g e) ∙ change.there;
   stack = change.stack;
-  step = ap (local s (i ∷ inner)) f.1.1.1.1
-      ∙ local-fork s fs f.0 f.1.0 f.1.1.0 ns i inner (node_of h.held) x n change.step
-      ∙ ap (λ y. Some (put_in fs y)) (after f.0 f.1.0 f.1.1.0 f.1.1.1.0)
-      ∙ ap (λ m. Some (record { node = m; context = c.context; emitted = c.emitted })) (sym node);
+  step = ap (local s l (i ∷ inner)) f.1.1
+      ∙ local-fork s l fs f.0 ns i inner (node_of h.held) x n change.step
+      ∙ ap (λ y. Some (put_in fs y)) (after f.0 f.1.0)
+      ∙ ap (λ m. Some (record x { node = m })) (sym node);
 })
   where
     fs : List Frame
@@ -156,63 +163,63 @@ goes-on s b i h inner c r g e change after is = subst (IsChange s (i ∷ inner) 
     ns = nodes_of b.below
 
     x : Stepped
-    x = branch_after c inner (node_of h.held)
+    x = change_at c inner (node_of h.held)
 
     n : nth_node ns i ≡ Some (node_of h.held)
     n = nth_node-of b.below i h e
 
-    f : (t : Task) × ((v : Value) × ((u : Value) × ((top_of b.frames ≡ tops.Forked t v u) × (node_of b ≡ plug fs (Live t v u (Forked ns))))))
+    f : (q : Running) × ((top_of b.frames ≡ tops.Forked q) × (node_of b ≡ plug fs (Live q (Forked ns))))
     f = fork-node b.frames ns (has-fork b i h g e)
 
-    node : replaced (take (c.depth + 1) (i ∷ inner)) (made_layers c.layers.items) (node_of b) ≡ plug fs (Live f.0 f.1.0 f.1.1.0 (Forked (put ns i x.node)))
+    node : replaced (take (c.depth + 1) (i ∷ inner)) (made_layers c.layers.items) (node_of b) ≡ plug fs (Live f.0 (Forked (put ns i x.node)))
     node = ap (λ bs. replaced bs (made_layers c.layers.items) (node_of b)) (take-first c.depth i inner)
-        ∙ ap (replaced (i ∷ take c.depth inner) (made_layers c.layers.items)) f.1.1.1.1
-        ∙ replaced-fork i (take c.depth inner) (made_layers c.layers.items) fs f.0 f.1.0 f.1.1.0 ns (node_of h.held) n
+        ∙ ap (replaced (i ∷ take c.depth inner) (made_layers c.layers.items)) f.1.1
+        ∙ replaced-fork i (take c.depth inner) (made_layers c.layers.items) fs f.0 ns (node_of h.held) n
 
 -- where the branch has not ended
-pub goes-deeper : (s : Sight) (b : Branch Layer) (i : ℕ) (h : Found Layer) (inner : List ℕ) (c r : Change) → IsGrownAt b → nth b.below i ≡ Some h → IsChange (seen_in s (frames_of b.frames)) inner (node_of h.held) c →
-    ended_of c.depth c.layers.items ≡ None → r ≡ record c { depth = c.depth + 1 } → IsChange s (i ∷ inner) (node_of b) r
-goes-deeper s b i h inner c r g e change none is =
-    goes-on s b i h inner c r g e change
-    (λ t v u top. open-after (seen_in s (frames_of b.frames)) t v u (competes t) (nodes_of b.below) i (branch_after c inner (node_of h.held)) (open-or-ended c.depth inner c.layers.items (node_of h.held) change.deep change.there change.stack none)) is
+pub goes-deeper : (s : Site) (l : Line) (b : Branch Layer) (i : ℕ) (h : Found Layer) (inner : List ℕ) (c r : Change) → IsGrownAt b → nth b.below i ≡ Some h → IsChange s (seen_in l (frames_of b.frames)) inner (node_of h.held) c →
+    ended_of c.depth c.layers.items ≡ None → r ≡ record c { depth = c.depth + 1 } → IsChange s l (i ∷ inner) (node_of b) r
+goes-deeper s l b i h inner c r g e change none =
+    goes-on s l b i h inner c r g e change
+    (λ q top. open-after (seen_in l (frames_of b.frames)) q (nodes_of b.below) i (change_at c inner (node_of h.held)) (open-or-ended c.depth inner c.layers.items (node_of h.held) change.deep change.there change.stack none))
 
 -- ---- a branch ends
 
-abbrev pub or_on : Sight → Task → Value → Value → Nodes → Option Stepped → Stepped
-or_on s t v u ns None = becomes s (Live t v u (Forked ns))
-or_on s t v u ns (Some m) = m
+abbrev pub or_on : Line → Running → Nodes → Option Stepped → Stepped
+or_on l r ns None = becomes l (Live r (Forked ns))
+or_on l r ns (Some m) = m
 
-or-joined : (s : Sight) (t : Task) (v u : Value) (ns : Nodes) (compete : Bool) (w : Value) (ws : Option (List Value)) →
-    (if compete then complete s t v u w else joined s t v u ns ws) ≡ or_on s t v u ns (if compete then Some (complete s t v u w) else option_map (complete s t v u) (option_map listed ws))
-or-joined s t v u ns true w ws = refl
-or-joined s t v u ns false w None = refl
-or-joined s t v u ns false w (Some ws) = refl
+or-joined : (l : Line) (r : Running) (ns : Nodes) (compete : Bool) (w : Value) (ws : Option (List Value)) →
+    step_of l (if compete then complete l r w else joined l r ns ws) ≡ or_on l r ns (option_map (step_of l) (if compete then Some (complete l r w) else option_map (complete l r) (option_map listed ws)))
+or-joined l r ns true w ws = refl
+or-joined l r ns false w None = refl
+or-joined l r ns false w (Some ws) = refl
 
 -- what becomes of the `fork`
-pub settled-ending : (s : Sight) (t : Task) (v u : Value) (compete : Bool) (ns : Nodes) (x : Top) → has_ended x ≡ true → settled s t v u compete ns (top_node x) ≡ or_on s t v u ns (ending s t v u compete (option_map listed (outputs ns)) x)
-settled-ending s t v u compete ns (tops.Fresh r w) e = absurd (yes-no (sym e))
-settled-ending s t v u compete ns (tops.Waiting r w y n m) e = absurd (yes-no (sym e))
-settled-ending s t v u compete ns (tops.Hearing r w y b hs) e = absurd (yes-no (sym e))
-settled-ending s t v u compete ns (tops.Forked r w y) e = absurd (yes-no (sym e))
-settled-ending s t v u compete ns (tops.Done w flows.End) e = refl
-settled-ending s t v u compete ns (tops.Done w flows.Continue) e = or-joined s t v u ns compete w (outputs ns)
-settled-ending s t v u compete ns (tops.Done w flows.Exit) e = or-joined s t v u ns compete w (outputs ns)
-settled-ending s t v u compete ns (tops.Done w (flows.Task k)) e = or-joined s t v u ns compete w (outputs ns)
-settled-ending s t v u compete ns (tops.Fault p) e = refl
+settled-ending : (l : Line) (r : Running) (compete : Bool) (ns : Nodes) (x : Top) → has_ended x ≡ true → step_of l (settled l r compete ns (top_node x)) ≡ or_on l r ns (option_map (step_of l) (ending l r compete (option_map listed (outputs ns)) x))
+settled-ending l r compete ns (tops.Fresh t w) e = absurd (yes-no (sym e))
+settled-ending l r compete ns (tops.Waiting q n m) e = absurd (yes-no (sym e))
+settled-ending l r compete ns (tops.Hearing q b hs) e = absurd (yes-no (sym e))
+settled-ending l r compete ns (tops.Forked q) e = absurd (yes-no (sym e))
+settled-ending l r compete ns (tops.Done w flows.End) e = refl
+settled-ending l r compete ns (tops.Done w flows.Continue) e = or-joined l r ns compete w (outputs ns)
+settled-ending l r compete ns (tops.Done w flows.Exit) e = or-joined l r ns compete w (outputs ns)
+settled-ending l r compete ns (tops.Done w (flows.Task k)) e = or-joined l r ns compete w (outputs ns)
+settled-ending l r compete ns (tops.Fault p) e = refl
 
 ended-top : (t x : Top) → if_ended t ≡ Some x → (t ≡ x) × (has_ended x ≡ true)
 ended-top (tops.Fresh r v) x e = absurd (nothing x e)
-ended-top (tops.Waiting r v u n m) x e = absurd (nothing x e)
-ended-top (tops.Hearing r v u b hs) x e = absurd (nothing x e)
-ended-top (tops.Forked r v u) x e = absurd (nothing x e)
+ended-top (tops.Waiting r n m) x e = absurd (nothing x e)
+ended-top (tops.Hearing r b hs) x e = absurd (nothing x e)
+ended-top (tops.Forked r) x e = absurd (nothing x e)
 ended-top (tops.Done w f) x e = (same_Some _ x e, ap has_ended (sym (same_Some (tops.Done w f) x e)))
 ended-top (tops.Fault p) x e = (same_Some _ x e, ap has_ended (sym (same_Some (tops.Fault p) x e)))
 
 made-ended : (x : Top) → has_ended x ≡ true → made_node x ≡ top_node x
 made-ended (tops.Fresh r v) e = refl
-made-ended (tops.Waiting r v u n m) e = refl
-made-ended (tops.Hearing r v u b hs) e = refl
-made-ended (tops.Forked r v u) e = absurd (yes-no (sym e))
+made-ended (tops.Waiting r n m) e = refl
+made-ended (tops.Hearing r b hs) e = refl
+made-ended (tops.Forked r) e = absurd (yes-no (sym e))
 made-ended (tops.Done w f) e = refl
 made-ended (tops.Fault p) e = refl
 
@@ -225,45 +232,50 @@ ended-node zero bs (layers.Running f ∷ ls) n x stack e = absurd (nothing x e)
 ended-node zero bs [] n x stack e = absurd (nothing x e)
 ended-node (suc d) bs ls n x stack e = absurd (nothing x e)
 
--- what the `fork` sees of the branch that ended
-abbrev settling : Sight → Branch Layer → ℕ → Change → Top → Task → Value → Value → Option Stepped
-settling s b i c x t v u = ending (record s { context = c.context }) t v u (competes t) (option_map listed (outputs (put (nodes_of b.below) i (top_node x)))) x
+-- what the `fork` ends in that sees the branch that ended
+abbrev ends : Line → Branch Layer → ℕ → Change → Top → Running → Option Stepped
+ends l b i c x r = let k = record l { context = c.context } in option_map (step_of k) (ending k r (competes r.task) (option_map listed (outputs (put (nodes_of b.below) i (top_node x)))) x)
 
-after-ended : (s : Sight) (b : Branch Layer) (i : ℕ) (c : Change) (inner : List ℕ) (n : Node) (x : Top) (t : Task) (v u : Value) → IsStack c.layers.items → ended_of c.depth c.layers.items ≡ Some x →
-    after_branch s t v u (competes t) (nodes_of b.below) i (branch_after c inner n) ≡ record (or_on (record s { context = c.context }) t v u (put (nodes_of b.below) i (top_node x)) (settling s b i c x t v u)) { emitted = c.emitted }
-after-ended s b i c inner n x t v u stack e =
+after-ended : (l : Line) (b : Branch Layer) (i : ℕ) (c : Change) (inner : List ℕ) (n : Node) (x : Top) (r : Running) → IsStack c.layers.items → ended_of c.depth c.layers.items ≡ Some x →
+    after_branch l r (nodes_of b.below) i (change_at c inner n) ≡ record (or_on (record l { context = c.context }) r (put (nodes_of b.below) i (top_node x)) (ends l b i c x r)) { used = used_by c.emitted; emitted = c.emitted }
+after-ended l b i c inner n x r stack e =
+    let k = record l { context = c.context } in
     let h = ended-node c.depth inner c.layers.items n x stack e in
-    ap (λ y. record (settled (record s { context = c.context }) t v u (competes t) (put (nodes_of b.below) i y) y) { emitted = c.emitted }) h.1
-    ∙ ap (λ (y : Stepped). record y { emitted = c.emitted }) (settled-ending (record s { context = c.context }) t v u (competes t) (put (nodes_of b.below) i (top_node x)) x h.0)
+    ap (λ y. record (step_of k (settled k r (competes r.task) (put (nodes_of b.below) i y) y)) { used = used_by c.emitted; emitted = c.emitted }) h.1
+    ∙ ap (λ (y : Stepped). record y { used = used_by c.emitted; emitted = c.emitted }) (settled-ending k r (competes r.task) (put (nodes_of b.below) i (top_node x)) x h.0)
 
 -- it goes on
-pub settle-on : (s : Sight) (b : Branch Layer) (i : ℕ) (h : Found Layer) (inner : List ℕ) (c r : Change) (x : Top) → IsGrownAt b → nth b.below i ≡ Some h → IsChange (seen_in s (frames_of b.frames)) inner (node_of h.held) c →
-    ended_of c.depth c.layers.items ≡ Some x → ((t : Task) (v u : Value) → top_of b.frames ≡ tops.Forked t v u → settling (seen_in s (frames_of b.frames)) b i c x t v u ≡ None) → r ≡ record c { depth = c.depth + 1 } → IsChange s (i ∷ inner) (node_of b) r
-settle-on s b i h inner c r x g e change ended none is =
-    goes-on s b i h inner c r g e change (λ t v u top.
-    after-ended (seen_in s (frames_of b.frames)) b i c inner (node_of h.held) x t v u change.stack ended
-    ∙ ap (λ o. record (or_on (record (seen_in s (frames_of b.frames)) { context = c.context }) t v u (put (nodes_of b.below) i (top_node x)) o) { emitted = c.emitted }) (none t v u top)
-    ∙ ap (λ y. record { node = Live t v u (Forked (put (nodes_of b.below) i y)); context = c.context; emitted = c.emitted }) (sym (ended-node c.depth inner c.layers.items (node_of h.held) x change.stack ended).1)) is
+pub settle-on : (s : Site) (l : Line) (b : Branch Layer) (i : ℕ) (h : Found Layer) (inner : List ℕ) (c r : Change) (x : Top) → IsGrownAt b → nth b.below i ≡ Some h → IsChange s (seen_in l (frames_of b.frames)) inner (node_of h.held) c →
+    ended_of c.depth c.layers.items ≡ Some x → ((q : Running) → top_of b.frames ≡ tops.Forked q → ends (seen_in l (frames_of b.frames)) b i c x q ≡ None) → r ≡ record c { depth = c.depth + 1 } → IsChange s l (i ∷ inner) (node_of b) r
+settle-on s l b i h inner c r x g e change ended none =
+    let z = seen_in l (frames_of b.frames) in
+    goes-on s l b i h inner c r g e change (λ q top.
+    after-ended z b i c inner (node_of h.held) x q change.stack ended
+    ∙ ap (λ o. record (or_on (record z { context = c.context }) q (put (nodes_of b.below) i (top_node x)) o) { used = used_by c.emitted; emitted = c.emitted }) (none q top)
+    ∙ ap (λ y. record (change_at c inner (node_of h.held)) { node = Live q (Forked (put (nodes_of b.below) i y)) }) (sym (ended-node c.depth inner c.layers.items (node_of h.held) x change.stack ended).1))
 
 -- it ends
-pub settle-off : (s : Sight) (b : Branch Layer) (i : ℕ) (h : Found Layer) (inner : List ℕ) (c r : Change) (x : Top) (m : Made) → IsGrownAt b → nth b.below i ≡ Some h → IsChange (seen_in s (frames_of b.frames)) inner (node_of h.held) c →
-    ended_of c.depth c.layers.items ≡ Some x → ((t : Task) (v u : Value) → top_of b.frames ≡ tops.Forked t v u → settling (seen_in s (frames_of b.frames)) b i c x t v u ≡ Some (stepped_of m)) →
-    r.depth ≡ 0 → r.layers.items ≡ stacked (frames_of b.frames ++ option_to_list m.frame) m.top → r.context ≡ m.context → r.emitted ≡ c.emitted → IsChange s (i ∷ inner) (node_of b) r
-settle-off s b i h inner c r x m g e change ended some d ls k o = record {
+pub settle-off : (s : Site) (l : Line) (b : Branch Layer) (i : ℕ) (h : Found Layer) (inner : List ℕ) (c r : Change) (x : Top) (m : Made) → IsGrownAt b → nth b.below i ≡ Some h → IsChange s (seen_in l (frames_of b.frames)) inner (node_of h.held) c →
+    ended_of c.depth c.layers.items ≡ Some x → ((q : Running) → top_of b.frames ≡ tops.Forked q → ends (seen_in l (frames_of b.frames)) b i c x q ≡ Some (stepped_of m)) →
+    r.depth ≡ 0 → r.layers.items ≡ stacked (frames_of b.frames ++ option_to_list m.frame) m.top → r.context ≡ m.context → r.emitted ≡ c.emitted → IsChange s l (i ∷ inner) (node_of b) r
+settle-off s l b i h inner c r x m g e change ended some d ls k o = record {
   deep = omega (arith, d);
   there = ap (λ n. has_strand (take n (i ∷ inner)) (node_of b)) d;
   stack = stack-is (fs ++ option_to_list m.frame) m.top r.layers.items ls;
-  step = ap (local s (i ∷ inner)) f.1.1.1.1
-      ∙ local-fork s fs f.0 f.1.0 f.1.1.0 (nodes_of b.below) i inner (node_of h.held) (branch_after c inner (node_of h.held)) (nth_node-of b.below i h e) change.step
-      ∙ ap (λ y. Some (put_in fs y)) (after-ended (seen_in s fs) b i c inner (node_of h.held) x f.0 f.1.0 f.1.1.0 change.stack ended)
-      ∙ ap (λ o. Some (put_in fs (record (or_on (record (seen_in s fs) { context = c.context }) f.0 f.1.0 f.1.1.0 (put (nodes_of b.below) i (top_node x)) o) { emitted = c.emitted }))) (some f.0 f.1.0 f.1.1.0 f.1.1.1.0)
-      ∙ ap Some (λ j. record { node = node j; context = sym k j; emitted = sym o j });
+  step = ap (local s l (i ∷ inner)) f.1.1
+      ∙ local-fork s l fs f.0 (nodes_of b.below) i inner (node_of h.held) (change_at c inner (node_of h.held)) (nth_node-of b.below i h e) change.step
+      ∙ ap (λ y. Some (put_in fs y)) (after-ended z b i c inner (node_of h.held) x f.0 change.stack ended)
+      ∙ ap (λ o. Some (put_in fs (record (or_on (record z { context = c.context }) f.0 (put (nodes_of b.below) i (top_node x)) o) { used = used_by c.emitted; emitted = c.emitted }))) (some f.0 f.1.0)
+      ∙ ap Some (λ j. record { node = node j; context = sym k j; used = used_by (sym o j); emitted = sym o j });
 }
   where
     fs : List Frame
     fs = frames_of b.frames
 
-    f : (t : Task) × ((v : Value) × ((u : Value) × ((top_of b.frames ≡ tops.Forked t v u) × (node_of b ≡ plug fs (Live t v u (Forked (nodes_of b.below)))))))
+    z : Line
+    z = seen_in l fs
+
+    f : (q : Running) × ((top_of b.frames ≡ tops.Forked q) × (node_of b ≡ plug fs (Live q (Forked (nodes_of b.below)))))
     f = fork-node b.frames (nodes_of b.below) (has-fork b i h g e)
 
     node : plug fs (stepped_of m).node ≡ replaced (take r.depth (i ∷ inner)) (made_layers r.layers.items) (node_of b)
@@ -271,29 +283,26 @@ settle-off s b i h inner c r x m g e change ended some d ls k o = record {
 
 -- ---- what the rule of a `fork` gives
 
-abbrev pub on_fork : (Task → Value → Value → Type 0) → Top → Type 0
-on_fork P (tops.Fresh t v) = Unit {0}
-on_fork P (tops.Done w f) = Unit {0}
-on_fork P (tops.Fault p) = Unit {0}
-on_fork P (tops.Waiting t v u n m) = Unit {0}
-on_fork P (tops.Hearing t v u bound hs) = Unit {0}
-on_fork P (tops.Forked t v u) = P t v u
+abbrev on_fork : (Running → Type 0) → Top → Type 0
+on_fork P (tops.Forked r) = P r
+on_fork P t = Unit {0}
 
 -- what it makes of the branch that ended is what the definition does
-pub settles-to : (z s : Sight) (b : Branch Layer) (i : ℕ) (c : Change) (x : Top) (a : Task) (p q k : Value) (compete : Bool) (o : Option Value) (e : Option Stepped) → z ≡ record s { context = k } → k ≡ c.context → compete ≡ competes a →
-    o ≡ option_map listed (outputs (put (nodes_of b.below) i (top_node x))) → ending z a p q compete o x ≡ e → top_of b.frames ≡ tops.Forked a p q → (t : Task) (v u : Value) → top_of b.frames ≡ tops.Forked t v u → settling s b i c x t v u ≡ e
-settles-to z s b i c x a p q k compete o e hz hk hc ho he ha t v u ht =
-    subst (on_fork (λ t v u. settling s b i c x t v u ≡ e)) (sym ha ∙ ht) here
+pub settles-to : (z l : Line) (b : Branch Layer) (i : ℕ) (c : Change) (x : Top) (a : Running) (k : Value) (compete : Bool) (o : Option Value) (e : Option Stepped) → z ≡ record l { context = k } → k ≡ c.context → compete ≡ competes a.task →
+    o ≡ option_map listed (outputs (put (nodes_of b.below) i (top_node x))) → option_map (step_of z) (ending z a compete o x) ≡ e → top_of b.frames ≡ tops.Forked a → (r : Running) → top_of b.frames ≡ tops.Forked r → ends l b i c x r ≡ e
+settles-to z l b i c x a k compete o e hz hk hc ho he ha r hr = subst (on_fork (λ q. ends l b i c x q ≡ e)) (sym ha ∙ hr) here
   where
-    here : settling s b i c x a p q ≡ e
-    here = sym (ap (λ y. ending y a p q compete o x) (hz ∙ ap (λ y. record s { context = y }) hk)
-        ∙ ap (λ y. ending (record s { context = c.context }) a p q y o x) hc
-        ∙ ap (λ y. ending (record s { context = c.context }) a p q (competes a) y x) ho) ∙ he
+    seen : z ≡ record l { context = c.context }
+    seen = hz ∙ ap (λ y. record l { context = y }) hk
 
-pub halted : (z : Sight) (t : Task) (v : Value) (e : Option Stepped) (h : Halt) (m : Made) → GivesSome z e (Err h) → ((s : Sight) (x : Stepped) → s.context ≡ z.context → Gives s x (Err h) → stepped_of m ≡ x) → e ≡ Some (stepped_of m)
-halted z t v e (halts.Fault p) m h k = h ∙ ap Some (sym (k z (becomes z (Fault p)) refl refl))
-halted z t v e halts.OutOfMemory m h k =
-    absurd (yes-no (sym (ap (λ (x : Stepped). is_open x.node) (k z (becomes z (Fresh t v)) refl tt)) ∙ ap (λ (x : Stepped). is_open x.node) (k z (becomes z (Done v flows.Continue)) refl tt)))
+    here : ends l b i c x a ≡ e
+    here = sym (λ j. option_map (step_of (seen j)) (ending (seen j) a (hc j) (ho j) x)) ∙ he
+
+-- where it ends in an error
+pub halted : (z : Line) (r : Running) (e : Option (Result Stepped Problem)) (h : Halt) (m : Made) → MakesSome e (Err h) → ((g : Result Stepped Problem) → Makes g (Err h) → stepped_of m ≡ step_of z g) → option_map (step_of z) e ≡ Some (stepped_of m)
+halted z r e (halts.Fault p) m h k = ap (option_map (step_of z)) h ∙ ap Some (sym (k (Err p) refl))
+halted z r e halts.OutOfMemory m h k =
+    absurd (yes-no (sym (ap (λ (x : Stepped). is_open x.node) (k (Ok (becomes z (Fresh r.task r.raw))) tt)) ∙ ap (λ (x : Stepped). is_open x.node) (k (Ok (becomes z (Done r.raw flows.Continue))) tt)))
 
 -- ---- options
 
@@ -313,7 +322,7 @@ own-fork now b can = by (is_fork (top_of b.frames)) refl
     by false e = e
     by true e =
         let f = fork-node b.frames (nodes_of b.below) e in
-        absurd (yes-no (sym can ∙ ap (can_go now []) f.1.1.1.1 ∙ can_go-live now (frames_of b.frames) f.0 f.1.0 f.1.1.0 (Forked (nodes_of b.below))))
+        absurd (yes-no (sym can ∙ ap (can_go now []) f.1.1 ∙ can_go-live now (frames_of b.frames) f.0 (Forked (nodes_of b.below))))
 
 module _ (now : ℕ) (is : List ℕ) where
   can_go-among : (i : ℕ) (ns : Nodes) → nth_node ns i ≡ None → can_go_branch now i is ns ≡ false
@@ -322,22 +331,22 @@ module _ (now : ℕ) (is : List ℕ) where
   can_go-among zero (branch m ns) e = absurd (nothing m (sym e))
   can_go-among (suc i) (branch m ns) e = can_go-among i ns e
 
-  can_go-waiting : (i : ℕ) (r : Task) (v u : Value) (n : Option ℕ) (m : ℕ) (ns : Nodes) → can_go now (i ∷ is) (forked (Live r v u (waiting n m)) ns) ≡ false
-  can_go-waiting i r v u None m ns = refl
-  can_go-waiting i r v u (Some k) m ns = refl
+  can_go-waiting : (i : ℕ) (r : Running) (n : Option ℕ) (m : ℕ) (ns : Nodes) → can_go now (i ∷ is) (forked (Live r (waiting n m)) ns) ≡ false
+  can_go-waiting i r None m ns = refl
+  can_go-waiting i r (Some k) m ns = refl
 
   can_go-top : (i : ℕ) (t : Top) (ns : Nodes) → nth_node ns i ≡ None → can_go now (i ∷ is) (forked (top_node t) ns) ≡ false
   can_go-top i (tops.Fresh r v) ns e = refl
   can_go-top i (tops.Done w f) ns e = refl
   can_go-top i (tops.Fault p) ns e = refl
-  can_go-top i (tops.Waiting r v u n m) ns e = can_go-waiting i r v u n m ns
-  can_go-top i (tops.Hearing r v u b hs) ns e = refl
-  can_go-top i (tops.Forked r v u) ns e = can_go-among i ns e
+  can_go-top i (tops.Waiting r n m) ns e = can_go-waiting i r n m ns
+  can_go-top i (tops.Hearing r b hs) ns e = refl
+  can_go-top i (tops.Forked r) ns e = can_go-among i ns e
 
   can_go-plug : (i : ℕ) (fs : List Frame) (n : Node) → can_go now (i ∷ is) n ≡ false → can_go now (i ∷ is) (plug fs n) ≡ false
   can_go-plug i [] n e = e
   can_go-plug i (f ∷ []) (Fresh a v) e = refl
-  can_go-plug i (f ∷ []) (Live a v u k) e = e
+  can_go-plug i (f ∷ []) (Live a k) e = e
   can_go-plug i (f ∷ []) (Done w d) e = refl
   can_go-plug i (f ∷ []) (Fault p) e = refl
   can_go-plug i (f ∷ g ∷ fs) n e = can_go-plug i (g ∷ fs) n e
@@ -373,12 +382,12 @@ own-goes now t n bs ls x held empty goes around top =
     let can = subst (λ is. can_go now is (node_of b) ≡ true) empty (goes b f) in
     (frames_of b.frames, (around b f, ap (can_go now []) (sym (own-node now t n x b top f can)) ∙ can))
 
-pub own-told : {E : Type 0} (s : Sight) (t : Tree Layer) (n : ℕ) (bs : List ℕ) (ls : List Layer) (x : Top) (r : Result Change E) → bs ≡ [] → Goes s.now t n bs → Around t n ls → OnTop t n x →
-    IfOk r (λ c. (fs : List Frame) → ls ≡ running fs → IsChange s [] (plug fs (top_node x)) c) → IfOk r (λ c. (b : Branch Layer) → find t.strands n ≡ Some b → IsChange s bs (node_of b) c)
-own-told s t n bs ls x (Err e) empty goes around top h = tt
-own-told s t n bs ls x (Ok c) empty goes around top h = λ b f.
+pub own-told : {E : Type 0} (s : Site) (l : Line) (t : Tree Layer) (n : ℕ) (bs : List ℕ) (ls : List Layer) (x : Top) (r : Result Change E) → bs ≡ [] → Goes s.now t n bs → Around t n ls → OnTop t n x →
+    IfOk r (λ c. (fs : List Frame) → ls ≡ running fs → IsChange s l [] (plug fs (top_node x)) c) → IfOk r (λ c. (b : Branch Layer) → find t.strands n ≡ Some b → IsChange s l bs (node_of b) c)
+own-told s l t n bs ls x (Err e) empty goes around top h = tt
+own-told s l t n bs ls x (Ok c) empty goes around top h = λ b f.
     let can = subst (λ is. can_go s.now is (node_of b) ≡ true) empty (goes b f) in
-    subst (λ is. IsChange s is (node_of b) c) (sym empty) (subst (λ m. IsChange s [] m c) (sym (own-node s.now t n x b top f can)) (h (frames_of b.frames) (around b f)))
+    subst (λ is. IsChange s l is (node_of b) c) (sym empty) (subst (λ m. IsChange s l [] m c) (sym (own-node s.now t n x b top f can)) (h (frames_of b.frames) (around b f)))
 
 -- ---- the step of a branch, told of the strand
 
@@ -397,16 +406,17 @@ fork-there t n i c held child b f =
     let d : Found Layer = record { number = c; held = h.0 } in
     (has-fork b i d (held-is t n b held f) h.1.0, (d, h.1.0))
 
-pub branch-told : {E : Type 0} (s z y : Sight) (t : Tree Layer) (n i c : ℕ) (bs is : List ℕ) (ls : List Layer) (x : Change) (r : Result Change E) → IsHeld t n → IsChild t n i c → bs ≡ i ∷ is → Around t n ls → z ≡ seen_in s (frames_of ls) → y ≡ z →
-    ((h : Branch Layer) → find t.strands c ≡ Some h → IsChange y is (node_of h) x) →
-    IfOk r (λ k. (b : Branch Layer) (s : Sight) (inner : List ℕ) → find t.strands n ≡ Some b → z ≡ seen_in s (frames_of b.frames) → IsChangeOf z inner b i x → IsChange s (i ∷ inner) (node_of b) k) →
-    IfOk r (λ k. (b : Branch Layer) → find t.strands n ≡ Some b → IsChange s bs (node_of b) k)
-branch-told s z y t n i c bs is ls x (Err e) held child eq around seen same inner h = tt
-branch-told s z y t n i c bs is ls x (Ok k) held child eq around seen same inner h = λ b f.
+pub branch-told : {E : Type 0} (s p q : Site) (l z y : Line) (t : Tree Layer) (n i c : ℕ) (bs is : List ℕ) (ls : List Layer) (x : Change) (r : Result Change E) → IsHeld t n → IsChild t n i c → bs ≡ i ∷ is → Around t n ls → p ≡ s → q ≡ p → z ≡ seen_in l (frames_of ls) → y ≡ z →
+    ((h : Branch Layer) → find t.strands c ≡ Some h → IsChange q y is (node_of h) x) →
+    IfOk r (λ k. (b : Branch Layer) (l : Line) (inner : List ℕ) → find t.strands n ≡ Some b → z ≡ seen_in l (frames_of b.frames) → IsChangeOf p z inner b i x → IsChange p l (i ∷ inner) (node_of b) k) →
+    IfOk r (λ k. (b : Branch Layer) → find t.strands n ≡ Some b → IsChange s l bs (node_of b) k)
+branch-told s p q l z y t n i c bs is ls x (Err e) held child eq around place same seen copied inner h = tt
+branch-told s p q l z y t n i c bs is ls x (Ok k) held child eq around place same seen copied inner h = λ b f.
     let d = child b f in
     let fs : frames_of ls ≡ frames_of b.frames = ap frames_of (around b f) ∙ frames_of-running (frames_of b.frames) in
-    subst (λ js. IsChange s js (node_of b) k) (sym eq)
-    (h b s is f (seen ∙ ap (seen_in s) fs) (record { number = c; held = d.0 }, (d.1.0, subst (λ w. IsChange w is (node_of d.0) x) same (inner d.0 d.1.1.0))))
+    let change : IsChange p z is (node_of d.0) x = subst (λ w. IsChange p w is (node_of d.0) x) copied (subst (λ w. IsChange w y is (node_of d.0) x) same (inner d.0 d.1.1.0)) in
+    subst (λ js. IsChange s l js (node_of b) k) (sym eq)
+    (subst (λ w. IsChange w l (i ∷ is) (node_of b) k) place (h b l is f (seen ∙ ap (seen_in l) fs) (record { number = c; held = d.0 }, (d.1.0, change))))
 
 pub ok-then : {E : Type 0} (P Q : Change → Type 0) (r : Result Change E) → IfOk r Q → ((c : Change) → Q c → P c) → IfOk r P
 ok-then P Q (Ok c) h f = f c h

@@ -4,18 +4,17 @@ use Rattle.std.specs.Prelude.{◌||◌, nat_lt, if◌then◌else◌, SomeIff}
 use Rattle.std.proofs.lemmas.Bool.{eq-eqb}
 use Rattle.std.proofs.lemmas.Option.{same_Some}
 use Rattle.std.proofs.lemmas.Bool.Decides.{nat_tests}
-use Rattle.swf_value.specs.Value.{Value, Members}
+use Rattle.swf_value.specs.Value.{Members}
 use Rattle.swf_cloudevents.specs.declared.event.Event.{Event}
-use Rattle.swf_document.specs.Task.{Task}
 use Rattle.swf_frames.specs.Tree.{Tree, Strands, no_strands, strand, Branch, find, numbers, changed}
 use Rattle.swf_frames.specs.Paths.{nth, edit_nth, edit, AreDistinct}
 use Rattle.swf_frames.proofs.PathLemmas.{edit-child, edit-edit, edit-same, edit-nothing, find-edit, changed-edit}
-use Rattle.swf_meaning.specs.Node.{Node, Live, At, Forked, Nodes, branch}
-use Rattle.swf_meaning.specs.Offer.{offered, offered_among, or_same, takes_in}
-use Rattle.swf_meaning.specs.Parts.{kind_of}
+use Rattle.swf_meaning.specs.Node.{Node, Live, Forked, Nodes, branch, Running}
+use Rattle.swf_meaning.specs.Offer.{offered, offered_among, or_same, takes_by}
+use Rattle.swf_meaning.specs.Parts.{kind_of, listen_in}
 use Rattle.swf_meaning.specs.declared.heard.Heard.{Heard}
 use Rattle.swf_scene.specs.Layers.{frames_of, top_of, stacked}
-use Rattle.swf_scene.specs.Stack.{plug, top_node, forked, round_of}
+use Rattle.swf_scene.specs.Stack.{plug, top_node, forked}
 use Rattle.swf_scene.proofs.LayerLemmas.{frames_of-stacked, top_of-stacked}
 use Rattle.swf_scene.specs.declared.made.Frame.{Frame}
 use Rattle.swf_scene.specs.declared.made.Layer.{Layer}
@@ -30,8 +29,8 @@ use Rattle.swf_strands.proofs.TreeLemmas.{nothing, fork-node, plain-node, root-h
 
 -- ---- how many take the event
 
-fork-takers : (e : Event) (t : Top) (r : Task) (v u : Value) → t ≡ tops.Forked r v u → (offered e (top_node t)).1 ≡ 0
-fork-takers e t r v u is = ap (λ x. (offered e (top_node x)).1) is
+fork-takers : (e : Event) (t : Top) (r : Running) → t ≡ tops.Forked r → (offered e (top_node t)).1 ≡ 0
+fork-takers e t r is = ap (λ x. (offered e (top_node x)).1) is
 
 -- those of a strand, and those below it
 pub takers-node : (e : Event) (b : Branch Layer) → IsGrownAt b → (offered e (node_of b)).1 ≡ (offered e (top_node (top_of b.frames))).1 + (offered_among e (nodes_of b.below)).1
@@ -41,8 +40,8 @@ takers-node e b g = by (is_fork (top_of b.frames)) refl
     by true is =
         let f = fork-node b.frames (nodes_of b.below) is in
         let all : (offered e (node_of b)).1 ≡ (offered_among e (nodes_of b.below)).1 =
-        ap (λ n. (offered e n).1) f.1.1.1.1 ∙ takers-plug e (frames_of b.frames) (Live f.0 f.1.0 f.1.1.0 (Forked (nodes_of b.below))) in
-        let none = fork-takers e (top_of b.frames) f.0 f.1.0 f.1.1.0 f.1.1.1.0 in
+        ap (λ n. (offered e n).1) f.1.1 ∙ takers-plug e (frames_of b.frames) (Live f.0 (Forked (nodes_of b.below))) in
+        let none = fork-takers e (top_of b.frames) f.0 f.1.0 in
         omega (arith, all, none)
     by false is =
         let all : (offered e (node_of b)).1 ≡ (offered e (top_node (top_of b.frames))).1 =
@@ -61,18 +60,18 @@ top-after e ls = top_of-stacked (frames_of ls) (offered_top e (top_of ls))
 stack-after : (e : Event) (ls : List Layer) → IsStack (offered_layers e ls)
 stack-after e ls = sym (ap (λ fs. stacked fs (top_of (offered_layers e ls))) (frames-after e ls) ∙ ap (stacked (frames_of ls)) (top-after e ls))
 
-no-fork-heard : (t : Task) (v u : Value) (bound : Members) (hs : List Heard) (o : Option (Members × List Heard)) → is_fork (heard_by t v u bound hs o) ≡ false
-no-fork-heard t v u bound hs None = refl
-no-fork-heard t v u bound hs (Some p) = refl
+no-fork-heard : (r : Running) (bound : Members) (hs : List Heard) (o : Option (Members × List Heard)) → is_fork (heard_by r bound hs o) ≡ false
+no-fork-heard r bound hs None = refl
+no-fork-heard r bound hs (Some p) = refl
 
 -- it begins and ends no `fork`
 fork-after : (e : Event) (t : Top) → is_fork (offered_top e t) ≡ is_fork t
 fork-after e (tops.Fresh r v) = refl
 fork-after e (tops.Done w d) = refl
 fork-after e (tops.Fault p) = refl
-fork-after e (tops.Waiting r v u n m) = refl
-fork-after e (tops.Hearing r v u bound hs) = no-fork-heard r v u bound hs _
-fork-after e (tops.Forked r v u) = refl
+fork-after e (tops.Waiting r n m) = refl
+fork-after e (tops.Hearing r bound hs) = no-fork-heard r bound hs _
+fork-after e (tops.Forked r) = refl
 
 numbers-strands : (e : Event) (ss : Strands Layer) → numbers (offered_strands e ss) ≡ numbers ss
 numbers-strands e no_strands = refl
@@ -260,20 +259,20 @@ far-all e n old i new k held far none b f =
 
 offered-plug : (e : Event) (fs : List Frame) (n : Node) → (offered e (plug fs n)).0 ≡ plug fs (offered e n).0
 offered-plug e [] n = refl
-offered-plug e (f ∷ fs) n = ap (λ m. Live f.task f.raw f.input (At (round_of f.round) f.place m)) (offered-plug e fs n)
+offered-plug e (f ∷ fs) n = ap (λ m. plug (f ∷ []) m) (offered-plug e fs n)
 
-heard-node-by : (t : Task) (v u : Value) (bound : Members) (hs : List Heard) (o : Option (Members × List Heard)) (ns : Nodes) → forked (top_node (heard_by t v u bound hs o)) ns ≡ Live t v u (or_same bound hs o).0
-heard-node-by t v u bound hs None ns = refl
-heard-node-by t v u bound hs (Some p) ns = refl
+heard-node-by : (r : Running) (bound : Members) (hs : List Heard) (o : Option (Members × List Heard)) (ns : Nodes) → forked (top_node (heard_by r bound hs o)) ns ≡ Live r (or_same bound hs o).0
+heard-node-by r bound hs None ns = refl
+heard-node-by r bound hs (Some p) ns = refl
 
 top-offered : (e : Event) (t : Top) (ns : Nodes) → is_fork t ≡ false → forked (top_node (offered_top e t)) ns ≡ (offered e (top_node t)).0
 top-offered e (tops.Fresh r v) ns isnt = refl
 top-offered e (tops.Done w d) ns isnt = refl
 top-offered e (tops.Fault p) ns isnt = refl
-top-offered e (tops.Waiting r v u None m) ns isnt = refl
-top-offered e (tops.Waiting r v u (Some n) m) ns isnt = refl
-top-offered e (tops.Hearing r v u bound hs) ns isnt = heard-node-by r v u bound hs (takes_in (kind_of r) bound hs e) ns
-top-offered e (tops.Forked r v u) ns isnt = cc
+top-offered e (tops.Waiting r None m) ns isnt = refl
+top-offered e (tops.Waiting r (Some n) m) ns isnt = refl
+top-offered e (tops.Hearing r bound hs) ns isnt = heard-node-by r bound hs (takes_by (listen_in (kind_of r.task)) bound hs e) ns
+top-offered e (tops.Forked r) ns isnt = cc
 
 layers-offered : (e : Event) (ls : List Layer) (ns : Nodes) → strand_node (offered_layers e ls) ns ≡ plug (frames_of ls) (forked (top_node (offered_top e (top_of ls))) ns)
 layers-offered e ls ns =
@@ -287,9 +286,9 @@ strand-offered e ls ns ms h = by (is_fork (top_of ls)) refl
     by true is =
         let f = fork-node ls ns is in
         layers-offered e ls ms
-        ∙ ap (λ t. plug (frames_of ls) (forked (top_node (offered_top e t)) ms)) f.1.1.1.0
-        ∙ ap (λ xs. plug (frames_of ls) (Live f.0 f.1.0 f.1.1.0 (Forked xs))) h
-        ∙ sym (ap (λ n. (offered e n).0) f.1.1.1.1 ∙ offered-plug e (frames_of ls) (Live f.0 f.1.0 f.1.1.0 (Forked ns)))
+        ∙ ap (λ t. plug (frames_of ls) (forked (top_node (offered_top e t)) ms)) f.1.0
+        ∙ ap (λ xs. plug (frames_of ls) (Live f.0 (Forked xs))) h
+        ∙ sym (ap (λ n. (offered e n).0) f.1.1 ∙ offered-plug e (frames_of ls) (Live f.0 (Forked ns)))
     by false is =
         layers-offered e ls ms
         ∙ ap (plug (frames_of ls)) (top-offered e (top_of ls) ms is)

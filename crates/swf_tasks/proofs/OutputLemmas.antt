@@ -13,6 +13,7 @@ use Rattle.swf_scene.specs.declared.made.Frame.{Frame}
 use Rattle.swf_scene.specs.declared.made.Layer.{Layer}
 use Rattle.swf_scene.specs.declared.made.Top.{Top}
 use Rattle.swf_scene.specs.declared.made.Top.TheVariants as tops
+use Rattle.swf_tasks.specs.Installed.{output_in}
 use Rattle.swf_tasks.specs.Stepped.{listed, output_on}
 use Rattle.swf_strands.specs.Strands.{node_of, nodes_of, IsGrownAt}
 use Rattle.swf_strands.proofs.TreeLemmas.{nth_node, nth_node-of, nth_node-none, nothing}
@@ -48,32 +49,25 @@ put-none (branch k ns) zero (suc j) m e = e
 put-none (branch k ns) (suc i) zero m e = absurd (nothing k (sym e))
 put-none (branch k ns) (suc i) (suc j) m e = put-none ns i j m e
 
--- the output of a node that is done
-abbrev pub node_output : Node → Option Value
-node_output (Fresh t v) = None
-node_output (Live t v u k) = None
-node_output (Done w f) = Some w
-node_output (Fault p) = None
-
-output-top : (t : Top) (ns : Nodes) → output_on [] t ≡ node_output (forked (top_node t) ns)
+output-top : (t : Top) (ns : Nodes) → output_on [] t ≡ output_in (forked (top_node t) ns)
 output-top (tops.Fresh r v) ns = refl
 output-top (tops.Done w f) ns = refl
 output-top (tops.Fault p) ns = refl
-output-top (tops.Waiting r v u n m) ns = refl
-output-top (tops.Hearing r v u b hs) ns = refl
-output-top (tops.Forked r v u) ns = refl
+output-top (tops.Waiting r n m) ns = refl
+output-top (tops.Hearing r b hs) ns = refl
+output-top (tops.Forked r) ns = refl
 
-pub output-plug : (fs : List Frame) (t : Top) (ns : Nodes) → output_on (running fs) t ≡ node_output (plug fs (forked (top_node t) ns))
+pub output-plug : (fs : List Frame) (t : Top) (ns : Nodes) → output_on (running fs) t ≡ output_in (plug fs (forked (top_node t) ns))
 output-plug [] t ns = output-top t ns
 output-plug (f ∷ fs) t ns = refl
 
-output-ended : (t : Top) → output_on [] t ≡ node_output (top_node t)
+output-ended : (t : Top) → output_on [] t ≡ output_in (top_node t)
 output-ended (tops.Fresh r v) = refl
 output-ended (tops.Done w f) = refl
 output-ended (tops.Fault p) = refl
-output-ended (tops.Waiting r v u n m) = refl
-output-ended (tops.Hearing r v u b hs) = refl
-output-ended (tops.Forked r v u) = refl
+output-ended (tops.Waiting r n m) = refl
+output-ended (tops.Hearing r b hs) = refl
+output-ended (tops.Forked r) = refl
 
 -- the outputs up to a number are these
 abbrev pub AreUpTo : Nodes → ℕ → List Value → Type 0
@@ -86,15 +80,15 @@ up-to-none ms = same (outputs ms)
     same None = refl
     same (Some x) = refl
 
-with-first : (n : Node) (w : Value) (ns : Nodes) → node_output n ≡ Some w → outputs (branch n ns) ≡ option_map (λ (rest : List Value). w ∷ rest) (outputs ns)
+with-first : (n : Node) (w : Value) (ns : Nodes) → output_in n ≡ Some w → outputs (branch n ns) ≡ option_map (λ (rest : List Value). w ∷ rest) (outputs ns)
 with-first (Fresh t v) w ns e = absurd (nothing w e)
-with-first (Live t v u k) w ns e = absurd (nothing w e)
+with-first (Live r k) w ns e = absurd (nothing w e)
 with-first (Done x f) w ns e = ap (λ y. option_map (λ (rest : List Value). y ∷ rest) (outputs ns)) (same_Some x w e)
 with-first (Fault p) w ns e = absurd (nothing w e)
 
-without-first : (n : Node) (ns : Nodes) → node_output n ≡ None → outputs (branch n ns) ≡ None
+without-first : (n : Node) (ns : Nodes) → output_in n ≡ None → outputs (branch n ns) ≡ None
 without-first (Fresh t v) ns e = refl
-without-first (Live t v u k) ns e = refl
+without-first (Live r k) ns e = refl
 without-first (Done x f) ns e = absurd (nothing x (sym e))
 without-first (Fault p) ns e = refl
 
@@ -102,11 +96,11 @@ joins : (ws : List Value) (w : Value) (o : Option (List Value)) → option_map (
 joins ws w None = refl
 joins ws w (Some x) = ap Some (sym (append_assoc ws (w ∷ []) x))
 
-pub one-more : (ms : Nodes) (k : ℕ) (ws : List Value) (n : Node) (w : Value) → AreUpTo ms k ws → nth_node ms k ≡ Some n → node_output n ≡ Some w → AreUpTo ms (suc k) (ws ++ w ∷ [])
+pub one-more : (ms : Nodes) (k : ℕ) (ws : List Value) (n : Node) (w : Value) → AreUpTo ms k ws → nth_node ms k ≡ Some n → output_in n ≡ Some w → AreUpTo ms (suc k) (ws ++ w ∷ [])
 one-more ms k ws n w up e o =
     up ∙ ap (λ x. option_map (λ (rest : List Value). ws ++ rest) (outputs x)) (nodes_from-some ms k n e) ∙ ap (option_map (λ (rest : List Value). ws ++ rest)) (with-first n w (nodes_from (suc k) ms) o) ∙ joins ws w (outputs (nodes_from (suc k) ms))
 
-pub not-all : (ms : Nodes) (k : ℕ) (ws : List Value) (n : Node) → AreUpTo ms k ws → nth_node ms k ≡ Some n → node_output n ≡ None → None ≡ option_map listed (outputs ms)
+pub not-all : (ms : Nodes) (k : ℕ) (ws : List Value) (n : Node) → AreUpTo ms k ws → nth_node ms k ≡ Some n → output_in n ≡ None → None ≡ option_map listed (outputs ms)
 not-all ms k ws n up e o =
     sym (ap (option_map listed) (up ∙ ap (λ x. option_map (λ (rest : List Value). ws ++ rest) (outputs x)) (nodes_from-some ms k n e) ∙ ap (option_map (λ (rest : List Value). ws ++ rest)) (without-first n (nodes_from (suc k) ms) o)))
 
@@ -120,7 +114,7 @@ by_case true c t = output_on [] t
 by_case false c t = output_on (running (frames_of c.held.frames)) (top_of c.held.frames)
 
 pub output-of-branch : (b : Branch Layer) (number k : ℕ) (c : Found Layer) (t : Top) → nth b.below k ≡ Some c → (same : Bool) → (same ≡ true → k ≡ number) → (same ≡ false → number ≡ k → ⊥) →
-    (n : Node) × ((nth_node (put (nodes_of b.below) number (top_node t)) k ≡ Some n) × (node_output n ≡ by_case same c t))
+    (n : Node) × ((nth_node (put (nodes_of b.below) number (top_node t)) k ≡ Some n) × (output_in n ≡ by_case same c t))
 output-of-branch b number k c t g true p q =
     let e : number ≡ k = sym (p refl) in
     (top_node t, (ap (λ i. nth_node (put (nodes_of b.below) i (top_node t)) k) e ∙ put-here (nodes_of b.below) k (top_node t) (node_of c.held) (nth_node-of b.below k c g), sym (output-ended t)))

@@ -8,21 +8,22 @@ use Rattle.std.specs.Prelude.{◌||◌, ◌==◌, option_map}
 use Rattle.swf_value.specs.Value.{Value}
 use Rattle.swf_document.specs.Task.{Tasks, no_tasks, named}
 use Rattle.swf_frames.specs.Tree.{Tree, Strands, no_strands, strand, Branch, find, numbers, count}
-use Rattle.swf_meaning.specs.Fork.{branches_in, branches_of, fresh, count as count_nodes}
+use Rattle.swf_meaning.specs.Fork.{branches_in, branches_among, branches_of, fresh, count as count_nodes}
 use Rattle.swf_meaning.specs.Node.{Node, Fresh, Live, Done, Fault, Inside, At, Later, Sleep, Hear, Forked, Nodes, no_nodes, branch}
-use Rattle.swf_meaning.specs.Sight.{Sight}
+use Rattle.swf_meaning.specs.Line.{Line, Site}
 use Rattle.swf_meaning.specs.Strands.{can_go}
 use Rattle.swf_meaning.specs.Wake.{waits, waits_inside, waits_among}
-use Rattle.swf_meaning.specs.World.{Instance, number_after, sight}
+use Rattle.swf_meaning.specs.World.{Instance, line_of, site_of, with_step}
 use Rattle.swf_scene.specs.Layers.{frames_of, top_of}
-use Rattle.swf_scene.specs.Stack.{plug, top_node, made_node, setting_sight, instance_of}
+use Rattle.swf_scene.specs.Stack.{plug, top_node, made_node, setting_line, instance_of, used_by}
 use Rattle.swf_scene.specs.declared.made.Frame.{Frame}
 use Rattle.swf_scene.specs.declared.made.Layer.{Layer}
 use Rattle.swf_scene.specs.declared.made.Top.{Top}
 use Rattle.swf_scene.specs.declared.made.Top.TheVariants as tops
 use Rattle.swf_scene.specs.declared.setting.Setting.{Setting}
-use Rattle.swf_tasks.specs.Prepares.{applied, changed, Fits, IsPrepared, Puts, waits_for, is_at, until_in, until_in_top}
-use Rattle.swf_tasks.specs.Stepped.{IsChange}
+use Rattle.swf_tasks.specs.Prepares.{applied, changed, Fits, IsPrepared, Puts, waits_for, is_at}
+use Rattle.swf_tasks.specs.Stepped.{IsChange, change_at}
+use Rattle.swf_strands.specs.Alarm.{until_in, until_in_top}
 use Rattle.swf_strands.specs.Strands.{strand_node, nodes_of, node_of, root_node, is_fork, made_layers, Stands, IsGrown}
 use Rattle.swf_tasks.specs.Taken.{taken}
 use Rattle.swf_strands.specs.Ways.{replaced, replaced_inside, replaced_among}
@@ -30,54 +31,33 @@ use Rattle.swf_tasks.specs.declared.machine.Part.{Part}
 use Rattle.swf_tasks.specs.declared.machine.Prepared.{Prepared}
 use Rattle.swf_tasks.specs.declared.machine.Step.TheVariants as steps
 use Rattle.swf_tasks.specs.declared.step.Change.{Change}
+use Rattle.swf_strands.proofs.AskLemmas.{waits-plug}
 use Rattle.swf_strands.proofs.TreeLemmas.{yes-no, fork-node, plain-node, root-holds}
 
 -- ---- how many branches run
 
--- the branches of the `fork`s of a node, as `branches_in` has them
-abbrev mutual
-  branches : Node → ℕ
-  branches (Fresh t v) = zero
-  branches (Live t v u k) = branches_inside k
-  branches (Done w f) = zero
-  branches (Fault p) = zero
-
-  branches_inside : Inside → ℕ
-  branches_inside (At r i n) = branches n
-  branches_inside (Later n m) = zero
-  branches_inside (Sleep m) = zero
-  branches_inside (Hear bound hs) = zero
-  branches_inside (Forked ns) = count_nodes ns + branches_among ns
-
-  branches_among : Nodes → ℕ
-  branches_among no_nodes = zero
-  branches_among (branch n ns) = branches n + branches_among ns
-
-branches-same : (n : Node) → branches_in n ≡ branches n
-branches-same n = refl
-
-branches-plug : (fs : List Frame) (n : Node) → branches (plug fs n) ≡ branches n
+branches-plug : (fs : List Frame) (n : Node) → branches_in (plug fs n) ≡ branches_in n
 branches-plug [] n = refl
 branches-plug (f ∷ fs) n = branches-plug fs n
 
-plain-branches : (t : Top) → is_fork t ≡ false → branches (top_node t) ≡ 0
+plain-branches : (t : Top) → is_fork t ≡ false → branches_in (top_node t) ≡ 0
 plain-branches (tops.Fresh r v) e = refl
 plain-branches (tops.Done w d) e = refl
 plain-branches (tops.Fault p) e = refl
-plain-branches (tops.Waiting r v u None m) e = refl
-plain-branches (tops.Waiting r v u (Some n) m) e = refl
-plain-branches (tops.Hearing r v u bound hs) e = refl
-plain-branches (tops.Forked r v u) e = cc
+plain-branches (tops.Waiting r None m) e = refl
+plain-branches (tops.Waiting r (Some n) m) e = refl
+plain-branches (tops.Hearing r bound hs) e = refl
+plain-branches (tops.Forked r) e = cc
 
-branches-node : (ls : List Layer) (below : Strands Layer) → Stands ls below → branches (strand_node ls (nodes_of below)) ≡ count_nodes (nodes_of below) + branches_among (nodes_of below)
+branches-node : (ls : List Layer) (below : Strands Layer) → Stands ls below → branches_in (strand_node ls (nodes_of below)) ≡ count_nodes (nodes_of below) + branches_among (nodes_of below)
 branches-node ls below s = by (is_fork (top_of ls)) refl
   where
-    by : (x : Bool) → is_fork (top_of ls) ≡ x → branches (strand_node ls (nodes_of below)) ≡ count_nodes (nodes_of below) + branches_among (nodes_of below)
+    by : (x : Bool) → is_fork (top_of ls) ≡ x → branches_in (strand_node ls (nodes_of below)) ≡ count_nodes (nodes_of below) + branches_among (nodes_of below)
     by true e =
         let f = fork-node ls (nodes_of below) e in
-        ap branches f.1.1.1.1 ∙ branches-plug (frames_of ls) (Live f.0 f.1.0 f.1.1.0 (Forked (nodes_of below)))
+        ap branches_in f.1.1 ∙ branches-plug (frames_of ls) (Live f.0 (Forked (nodes_of below)))
     by false e =
-        ap branches (plain-node ls (nodes_of below) e) ∙ branches-plug (frames_of ls) (top_node (top_of ls)) ∙ plain-branches (top_of ls) e
+        ap branches_in (plain-node ls (nodes_of below) e) ∙ branches-plug (frames_of ls) (top_node (top_of ls)) ∙ plain-branches (top_of ls) e
         ∙ sym (ap (λ ss. count_nodes (nodes_of ss) + branches_among (nodes_of ss)) (s.1 e))
 
 count-strands : (ss : Strands Layer) → IsGrown ss → count ss ≡ count_nodes (nodes_of ss) + branches_among (nodes_of ss)
@@ -95,20 +75,21 @@ count-branches t r e g =
     let all : count t.strands ≡ count (strand r b.0.frames b.0.below no_strands) = ap count b.1.1.1.0 in
     let inner = count-strands b.0.below b.1.1.0.1 in
     let here = branches-node b.0.frames b.0.below b.1.1.0.0 in
-    let root : branches_in (root_node t.strands) ≡ branches (node_of b.0) = ap branches_in b.1.1.1.1 in
+    let root : branches_in (root_node t.strands) ≡ branches_in (node_of b.0) = ap branches_in b.1.1.1.1 in
     omega (arith, all, inner, here, root)
 
-sight-is : (s : Setting) (n : Node) (k now : ℕ) → k ≡ branches_in n + 1 → setting_sight s (k - 1) now ≡ sight now (instance_of s n)
-sight-is s n k now e = let few : k - 1 ≡ branches_in n = omega (arith, e) in ap (λ j. setting_sight s j now) few
-
 -- the change that the root tells is that of the instance
-pub root-change : (t : Tree Layer) (r k now : ℕ) (s : Setting) (i : Instance) (sg : Sight) (bs : List ℕ) (c : Change) → instance_of s (root_node t.strands) ≡ i → numbers t.strands ≡ r ∷ [] → IsGrown t.strands → k ≡ count t.strands →
-    sg ≡ setting_sight s (k - 1) now → ((b : Branch Layer) → find t.strands r ≡ Some b → IsChange sg bs (node_of b) c) → IsChange (sight now i) bs i.node c
-root-change t r k now s i sg bs c view e g many seen change =
+pub root-change : (t : Tree Layer) (r k now : ℕ) (s : Setting) (i : Instance) (at : Site) (l : Line) (bs : List ℕ) (c : Change) → instance_of s (root_node t.strands) ≡ i → numbers t.strands ≡ r ∷ [] → IsGrown t.strands → k ≡ count t.strands →
+    at ≡ record { number = s.number; branches = k - 1; now = now } → l ≡ setting_line s → ((b : Branch Layer) → find t.strands r ≡ Some b → IsChange at l bs (node_of b) c) → IsChange (site_of now i) (line_of i) bs i.node c
+root-change t r k now s i at l bs c view e g many place line change =
     let b = root-holds t r e g in
-    let same : sg ≡ sight now (instance_of s (root_node t.strands)) = seen ∙ sight-is s (root_node t.strands) k now (many ∙ count-branches t r e g) in
-    let root : IsChange sg bs (root_node t.strands) c = subst (λ n. IsChange sg bs n c) (sym b.1.1.1.1) (change b.0 b.1.0) in
-    subst (λ (j : Instance). IsChange (sight now j) bs j.node c) view (subst (λ x. IsChange x bs (root_node t.strands) c) same root)
+    let n = root_node t.strands in
+    let all = count-branches t r e g in
+    let few : k - 1 ≡ branches_in n = omega (arith, many, all) in
+    let here : at ≡ site_of now (instance_of s n) = place ∙ (λ j. record { number = s.number; branches = few j; now = now }) in
+    let root : IsChange at l bs n c = subst (λ m. IsChange at l bs m c) (sym b.1.1.1.1) (change b.0 b.1.0) in
+    let seen : IsChange (site_of now (instance_of s n)) (setting_line s) bs n c = subst (λ x. IsChange x (setting_line s) bs n c) here (subst (λ x. IsChange at x bs n c) line root) in
+    subst (λ (j : Instance). IsChange (site_of now j) (line_of j) bs j.node c) view seen
 
 -- what the root is told: the strand of the instance can take a step
 pub root-can : (t : Tree Layer) (r now then : ℕ) (s : Setting) (i : Instance) (bs ws : List ℕ) → instance_of s (root_node t.strands) ≡ i → numbers t.strands ≡ r ∷ [] → IsGrown t.strands → then ≡ now → ws ≡ bs → can_go now bs i.node ≡ true →
@@ -163,12 +144,12 @@ mutual
   waits-replaced : (m : ℕ) (bs : List ℕ) (x n : Node) → waits_for m (replaced bs x n) ≡ true → (waits_for m x || waits_for m n) ≡ true
   waits-replaced m [] x n h = or-left (waits_for m x) (waits_for m n) h
   waits-replaced m (b ∷ bs) x (Fresh t v) h = or-right (waits_for m x) false h
-  waits-replaced m (b ∷ bs) x (Live t v u k) h = waits-inside m b bs x k h
+  waits-replaced m (b ∷ bs) x (Live t k) h = waits-inside m b bs x k h
   waits-replaced m (b ∷ bs) x (Done w f) h = or-right (waits_for m x) false h
   waits-replaced m (b ∷ bs) x (Fault p) h = or-right (waits_for m x) false h
 
   waits-inside : (m b : ℕ) (bs : List ℕ) (x : Node) (k : Inside) → is_among m (waits_inside (replaced_inside b bs x k)) ≡ true → (waits_for m x || is_among m (waits_inside k)) ≡ true
-  waits-inside m b bs x (At r i n) h = waits-replaced m (b ∷ bs) x n h
+  waits-inside m b bs x (At round i n) h = waits-replaced m (b ∷ bs) x n h
   waits-inside m b bs x (Later n k) h = or-right (waits_for m x) (is_among m (k ∷ [])) h
   waits-inside m b bs x (Sleep k) h = or-right (waits_for m x) (is_among m (k ∷ [])) h
   waits-inside m b bs x (Hear bound hs) h = or-right (waits_for m x) false h
@@ -183,10 +164,6 @@ mutual
       ap (λ y. waits_for m x || y) (list_any-append (λ k. m == k) (waits n) (waits_among ns))
       ∙ either-rest (waits_for m n) (waits_for m x) (is_among m (waits_among (replaced_among b bs x ns))) (is_among m (waits_among ns)) (waits-beside m b bs x ns) (sym (list_any-append (λ k. m == k) (waits n) (waits_among (replaced_among b bs x ns))) ∙ h)
 
-waits-plug : (fs : List Frame) (n : Node) → waits (plug fs n) ≡ waits n
-waits-plug [] n = refl
-waits-plug (f ∷ fs) n = waits-plug fs n
-
 waits-fresh : (ts : Tasks) (u : Value) → waits_among (fresh ts u) ≡ []
 waits-fresh no_tasks u = refl
 waits-fresh (named k t ts) u = waits-fresh ts u
@@ -195,10 +172,10 @@ waits-top : (m : ℕ) (t : Top) → waits_for m (made_node t) ≡ is_at m (until
 waits-top m (tops.Fresh r v) = refl
 waits-top m (tops.Done w d) = refl
 waits-top m (tops.Fault p) = refl
-waits-top m (tops.Waiting r v u None k) = or-false (m == k)
-waits-top m (tops.Waiting r v u (Some n) k) = or-false (m == k)
-waits-top m (tops.Hearing r v u bound hs) = refl
-waits-top m (tops.Forked r v u) = ap (is_among m) (waits-fresh (branches_of r) u)
+waits-top m (tops.Waiting r None k) = or-false (m == k)
+waits-top m (tops.Waiting r (Some n) k) = or-false (m == k)
+waits-top m (tops.Hearing r bound hs) = refl
+waits-top m (tops.Forked r) = ap (is_among m) (waits-fresh (branches_of r.task) r.input)
 
 waits-made : (m : ℕ) (ls : List Layer) → waits_for m (made_layers ls) ≡ is_at m (until_in ls)
 waits-made m ls = ap (is_among m) (waits-plug (frames_of ls) (made_node (top_of ls))) ∙ waits-top m (top_of ls)
@@ -207,15 +184,15 @@ waits-made m ls = ap (is_among m) (waits-plug (frames_of ls) (made_node (top_of 
 
 -- the instance after a change
 abbrev pub instance_after : Instance → List ℕ → Change → Instance
-instance_after i bs c = record i { node = replaced (take c.depth bs) (made_layers c.layers.items) i.node; context = c.context; number = number_after i.number c.emitted }
+instance_after i bs c = with_step i (change_at c bs i.node)
 
-pub becomes-after : (s : Setting) (n : Node) (i j : Instance) (bs ws : List ℕ) (c : Change) (k : ℕ) → instance_of s n ≡ i → ws ≡ bs → k ≡ number_after s.number c.emitted →
+pub becomes-after : (s : Setting) (n : Node) (i j : Instance) (bs ws : List ℕ) (c : Change) (k : ℕ) → instance_of s n ≡ i → ws ≡ bs → k ≡ s.number + used_by c.emitted →
     j ≡ record i { node = replaced (take c.depth ws) (made_layers c.layers.items) i.node; context = c.context; number = k } → j ≡ instance_after i bs c
 becomes-after s n i j bs ws c k view same next is =
-    let number : k ≡ number_after i.number c.emitted = next ∙ ap (λ (x : Instance). number_after x.number c.emitted) view in
+    let number : k ≡ i.number + used_by c.emitted = next ∙ ap (λ (x : Instance). x.number + used_by c.emitted) view in
     is ∙ λ a. record i { node = replaced (take c.depth (same a)) (made_layers c.layers.items) i.node; context = c.context; number = number a }
 
-pub prepared-by : (now : ℕ) (bs : List ℕ) (i : Instance) (c : Change) (p : Prepared) → IsChange (sight now i) bs i.node c → Fits p.step i → applied p.step i ≡ instance_after i bs c → p.emitted ≡ c.emitted → p.until ≡ until_in c.layers.items → IsPrepared now bs i p
+pub prepared-by : (now : ℕ) (bs : List ℕ) (i : Instance) (c : Change) (p : Prepared) → IsChange (site_of now i) (line_of i) bs i.node c → Fits p.step i → applied p.step i ≡ instance_after i bs c → p.emitted ≡ c.emitted → p.until ≡ until_in c.layers.items → IsPrepared now bs i p
 prepared-by now bs i c p change fits is same until = record {
   fits = fits;
   step = ap (option_map (taken i)) change.step ∙ λ j. Some (sym is j, sym same j);

@@ -8,7 +8,7 @@ use Rattle.swf_document.specs.declared.common.Flow.{Flow}
 use Rattle.swf_document.specs.declared.error.Problem.{Problem}
 use Rattle.swf_frames.specs.Tree.{Tree, Branch, find, numbers}
 use Rattle.swf_meaning.specs.Listen.{is_heard}
-use Rattle.swf_meaning.specs.Node.{Node, Fresh, Live, Done, Fault, Inside, At, Later, Sleep, Hear, Forked, Nodes, no_nodes, branch}
+use Rattle.swf_meaning.specs.Node.{Node, Fresh, Live, Done, Fault, Inside, At, Later, Sleep, Hear, Forked, Nodes, no_nodes, branch, Running}
 use Rattle.swf_meaning.specs.Parts.{kind_of}
 use Rattle.swf_meaning.specs.Shared.{is_shared, is_shared_inside, is_shared_branch, is_shared_kind, is_shared_error}
 use Rattle.swf_meaning.specs.Strands.{can_go, can_go_inside, can_go_branch}
@@ -23,7 +23,7 @@ use Rattle.swf_scene.specs.declared.made.Top.TheVariants as tops
 use Rattle.swf_scene.specs.declared.setting.Setting.{Setting}
 use Rattle.swf_tasks.specs.Installed.{output_in, problem_in}
 use Rattle.swf_strands.specs.Strands.{nodes_of, node_of, root_node, IsGrown, IsHeld}
-use Rattle.swf_strands.specs.Ways.{at, at_inside, at_among, own_until, own_until_inside, own_listens}
+use Rattle.swf_strands.specs.Ways.{at, at_inside, at_among, own_listens}
 use Rattle.swf_tasks.proofs.StepLemmas.{plug-append}
 use Rattle.swf_strands.proofs.TreeLemmas.{root-holds, at-walk, at-nowhere, waiting-forked, IsAt, IsNowhere}
 
@@ -71,15 +71,15 @@ mutual
   pub can_go-at : (now : ℕ) (bs : List ℕ) (n : Node) → can_go now bs n ≡ can_go_there now (at bs n)
   can_go-at now [] n = refl
   can_go-at now (b ∷ bs) (Fresh t v) = refl
-  can_go-at now (b ∷ bs) (Live t v u k) = can_go-inside now b bs t k
+  can_go-at now (b ∷ bs) (Live r k) = can_go-inside now b bs r.task k
   can_go-at now (b ∷ bs) (Done w f) = refl
   can_go-at now (b ∷ bs) (Fault p) = refl
 
   can_go-inside : (now b : ℕ) (bs : List ℕ) (t : Task) (k : Inside) → can_go_inside now (b ∷ bs) t k ≡ can_go_there now (at_inside b bs k)
-  can_go-inside now b bs t (At r i (Fresh x y)) = refl
-  can_go-inside now b bs t (At r i (Live x y z k)) = can_go-inside now b bs x k
-  can_go-inside now b bs t (At r i (Done w f)) = refl
-  can_go-inside now b bs t (At r i (Fault p)) = refl
+  can_go-inside now b bs t (At round i (Fresh x y)) = refl
+  can_go-inside now b bs t (At round i (Live r k)) = can_go-inside now b bs r.task k
+  can_go-inside now b bs t (At round i (Done w f)) = refl
+  can_go-inside now b bs t (At round i (Fault p)) = refl
   can_go-inside now b bs t (Later n m) = refl
   can_go-inside now b bs t (Sleep m) = refl
   can_go-inside now b bs t (Hear bound hs) = refl
@@ -101,15 +101,15 @@ mutual
   pub is_shared-at : (bs : List ℕ) (n : Node) → is_shared bs n ≡ is_shared_there (at bs n)
   is_shared-at [] n = refl
   is_shared-at (b ∷ bs) (Fresh t v) = refl
-  is_shared-at (b ∷ bs) (Live t v u k) = is_shared-inside b bs t k
+  is_shared-at (b ∷ bs) (Live r k) = is_shared-inside b bs r.task k
   is_shared-at (b ∷ bs) (Done w f) = refl
   is_shared-at (b ∷ bs) (Fault p) = refl
 
   is_shared-inside : (b : ℕ) (bs : List ℕ) (t : Task) (k : Inside) → is_shared_inside (b ∷ bs) t k ≡ is_shared_there (at_inside b bs k)
-  is_shared-inside b bs t (At r i (Fresh x y)) = refl
-  is_shared-inside b bs t (At r i (Live x y z k)) = is_shared-inside b bs x k
-  is_shared-inside b bs t (At r i (Done w f)) = refl
-  is_shared-inside b bs t (At r i (Fault p)) = refl
+  is_shared-inside b bs t (At round i (Fresh x y)) = refl
+  is_shared-inside b bs t (At round i (Live r k)) = is_shared-inside b bs r.task k
+  is_shared-inside b bs t (At round i (Done w f)) = refl
+  is_shared-inside b bs t (At round i (Fault p)) = refl
   is_shared-inside b bs t (Later n m) = refl
   is_shared-inside b bs t (Sleep m) = refl
   is_shared-inside b bs t (Hear bound hs) = refl
@@ -121,14 +121,15 @@ mutual
   is_shared-among zero bs (branch n ns) = is_shared-at bs n
   is_shared-among (suc b) bs (branch n ns) = is_shared-among b bs ns
 
-is_shared-done : (f : Frame) (fs : List Frame) (w : Value) (d : Flow) → is_shared [] (plug (f ∷ fs) (Done w d)) ≡ false
-is_shared-done f [] w d = refl
-is_shared-done f (g ∷ gs) w d = is_shared-done g gs w d
+is_shared-done : (fs : List Frame) (w : Value) (d : Flow) → is_shared [] (plug fs (Done w d)) ≡ false
+is_shared-done [] w d = refl
+is_shared-done (f ∷ []) w d = refl
+is_shared-done (f ∷ g ∷ gs) w d = is_shared-done (g ∷ gs) w d
 
-is_shared-live : (fs : List Frame) (t : Task) (v u : Value) (k : Inside) → is_shared [] (plug fs (Live t v u k)) ≡ is_shared_inside [] t k
-is_shared-live [] t v u k = refl
-is_shared-live (f ∷ []) t v u k = refl
-is_shared-live (f ∷ g ∷ gs) t v u k = is_shared-live (g ∷ gs) t v u k
+is_shared-live : (fs : List Frame) (r : Running) (k : Inside) → is_shared [] (plug fs (Live r k)) ≡ is_shared_inside [] r.task k
+is_shared-live [] r k = refl
+is_shared-live (f ∷ []) r k = refl
+is_shared-live (f ∷ g ∷ gs) r k = is_shared-live (g ∷ gs) r k
 
 is_shared-fresh : (fs : List Frame) (t : Task) (v : Value) → is_shared [] (plug fs (Fresh t v)) ≡ is_shared_kind (kind_of t)
 is_shared-fresh [] t v = refl
@@ -149,62 +150,32 @@ shares-is b t x y s e h = sym (ap (shares_with b) (sym s ∙ e) ∙ h)
 pub shared-fresh : (b : Branch Layer) (t : Top) (r : Task) (v : Value) → t ≡ top_of b.frames → t ≡ tops.Fresh r v → is_shared_kind (kind_of r) ≡ is_shared [] (node_of b)
 shared-fresh b t r v s e = shares-is b t (tops.Fresh r v) (is_shared_kind (kind_of r)) s e (is_shared-fresh (frames_of b.frames) r v)
 
-pub shared-done : (b : Branch Layer) (t : Top) (w : Value) (d : Flow) → t ≡ top_of b.frames → t ≡ tops.Done w d → false ≡ is_shared [] (node_of b)
-shared-done b t w d s e = shares-is b t (tops.Done w d) false s e (by (frames_of b.frames))
-  where
-    by : (fs : List Frame) → is_shared [] (plug fs (Done w d)) ≡ false
-    by [] = refl
-    by (f ∷ fs) = is_shared-done f fs w d
-
 pub shared-fault : (b : Branch Layer) (t : Top) (p : Problem) (y : Bool) → t ≡ top_of b.frames → t ≡ tops.Fault p → y ≡ is_shared [] (plug (frames_of b.frames) (Fault p)) → y ≡ is_shared [] (node_of b)
 shared-fault b t p y s e h = shares-is b t (tops.Fault p) y s e (sym h)
 
-pub shared-waiting : (b : Branch Layer) (t : Top) (r : Task) (v u : Value) (n : Option ℕ) (m : ℕ) → t ≡ top_of b.frames → t ≡ tops.Waiting r v u n m → false ≡ is_shared [] (node_of b)
-shared-waiting b t r v u n m s e =
-    shares-is b t (tops.Waiting r v u n m) false s e
-    (ap (λ x. is_shared [] (plug (frames_of b.frames) x)) (waiting-forked r v u n m (nodes_of b.below)) ∙ is_shared-live (frames_of b.frames) r v u (waiting n m) ∙ waiting-alone r n m)
+-- what has begun and is no error shares nothing
+pub shared-not : (b : Branch Layer) (t : Top) → t ≡ top_of b.frames → ((r : Task) (v : Value) → t ≡ tops.Fresh r v → ⊥) → ((p : Problem) → t ≡ tops.Fault p → ⊥) → false ≡ is_shared [] (node_of b)
+shared-not b t s fresh fault = shares-is b t t false s refl (by t fresh fault)
+  where
+    fs : List Frame
+    fs = frames_of b.frames
 
-pub shared-hearing : (b : Branch Layer) (t : Top) (r : Task) (v u : Value) (bound : Members) (hs : List Heard) → t ≡ top_of b.frames → t ≡ tops.Hearing r v u bound hs → false ≡ is_shared [] (node_of b)
-shared-hearing b t r v u bound hs s e = shares-is b t (tops.Hearing r v u bound hs) false s e (is_shared-live (frames_of b.frames) r v u (Hear bound hs))
-
-pub shared-forked : (b : Branch Layer) (t : Top) (r : Task) (v u : Value) → t ≡ top_of b.frames → t ≡ tops.Forked r v u → false ≡ is_shared [] (node_of b)
-shared-forked b t r v u s e = shares-is b t (tops.Forked r v u) false s e (is_shared-live (frames_of b.frames) r v u (Forked (nodes_of b.below)))
+    by : (t : Top) → ((r : Task) (v : Value) → t ≡ tops.Fresh r v → ⊥) → ((p : Problem) → t ≡ tops.Fault p → ⊥) → shares_with b t ≡ false
+    by (tops.Fresh r v) fresh fault = absurd (fresh r v refl)
+    by (tops.Done w d) fresh fault = is_shared-done fs w d
+    by (tops.Fault p) fresh fault = absurd (fault p refl)
+    by (tops.Waiting r n m) fresh fault = ap (λ x. is_shared [] (plug fs x)) (waiting-forked r n m (nodes_of b.below)) ∙ is_shared-live fs r (waiting n m) ∙ waiting-alone r.task n m
+    by (tops.Hearing r bound hs) fresh fault = is_shared-live fs r (Hear bound hs)
+    by (tops.Forked r) fresh fault = is_shared-live fs r (Forked (nodes_of b.below))
 
 -- an error inside the last of some tasks
-pub error-last : (fs os : List Frame) (f : Frame) (p : Problem) → fs ≡ os ++ f ∷ [] → is_shared_error (round_of f.round) (kind_of f.task) ≡ is_shared [] (plug fs (Fault p))
+pub error-last : (fs os : List Frame) (f : Frame) (p : Problem) → fs ≡ os ++ f ∷ [] → is_shared_error (round_of f.round) (kind_of f.running.task) ≡ is_shared [] (plug fs (Fault p))
 error-last fs os f p e =
     sym (ap (λ hs. is_shared [] (plug hs (Fault p))) e ∙ ap (is_shared []) (plug-append os (f ∷ []) (Fault p))
-    ∙ is_shared-live os f.task f.raw f.input (At (round_of f.round) f.place (Fault p)))
+    ∙ is_shared-live os f.running (At (round_of f.round) f.place (Fault p)))
 
 pub error-none : (fs : List Frame) (p : Problem) → fs ≡ [] → false ≡ is_shared [] (plug fs (Fault p))
 error-none fs p e = sym (ap (λ gs. is_shared [] (plug gs (Fault p))) e)
-
--- ---- it waits
-
-own_until-plug : (fs : List Frame) (n : Node) → own_until (plug fs n) ≡ own_until n
-own_until-plug [] n = refl
-own_until-plug (f ∷ fs) n = own_until-plug fs n
-
-own_until-waiting : (n : Option ℕ) (m : ℕ) → own_until_inside (waiting n m) ≡ Some m
-own_until-waiting None m = refl
-own_until-waiting (Some n) m = refl
-
-pub until-waiting : (b : Branch Layer) (t : Top) (r : Task) (v u : Value) (n : Option ℕ) (m : ℕ) → t ≡ top_of b.frames → t ≡ tops.Waiting r v u n m → Some m ≡ own_until (node_of b)
-until-waiting b t r v u n m s e =
-    sym (own_until-plug (frames_of b.frames) (forked (top_node (top_of b.frames)) (nodes_of b.below)) ∙ ap (λ x. own_until (forked (top_node x) (nodes_of b.below))) (sym s ∙ e)
-    ∙ ap own_until (waiting-forked r v u n m (nodes_of b.below)) ∙ own_until-waiting n m)
-
-pub until-not : (b : Branch Layer) (t : Top) → t ≡ top_of b.frames → ((r : Task) (v u : Value) (n : Option ℕ) (m : ℕ) → t ≡ tops.Waiting r v u n m → ⊥) → None ≡ own_until (node_of b)
-until-not b t s isnt =
-    sym (own_until-plug (frames_of b.frames) (forked (top_node (top_of b.frames)) (nodes_of b.below)) ∙ ap (λ x. own_until (forked (top_node x) (nodes_of b.below))) (sym s) ∙ by t isnt)
-  where
-    by : (t : Top) → ((r : Task) (v u : Value) (n : Option ℕ) (m : ℕ) → t ≡ tops.Waiting r v u n m → ⊥) → own_until (forked (top_node t) (nodes_of b.below)) ≡ None
-    by (tops.Fresh r v) isnt = refl
-    by (tops.Done w d) isnt = refl
-    by (tops.Fault p) isnt = refl
-    by (tops.Waiting r v u n m) isnt = absurd (isnt r v u n m refl)
-    by (tops.Hearing r v u bound hs) isnt = refl
-    by (tops.Forked r v u) isnt = refl
 
 -- ---- it listens
 
@@ -215,20 +186,20 @@ own_listens-plug (f ∷ fs) n = own_listens-plug fs n
 own_listens-top : (b : Branch Layer) (t : Top) → t ≡ top_of b.frames → own_listens (node_of b) ≡ own_listens (forked (top_node t) (nodes_of b.below))
 own_listens-top b t s = own_listens-plug (frames_of b.frames) (forked (top_node (top_of b.frames)) (nodes_of b.below)) ∙ ap (λ x. own_listens (forked (top_node x) (nodes_of b.below))) (sym s)
 
-pub listens-hearing : (b : Branch Layer) (t : Top) (r : Task) (v u : Value) (bound : Members) (hs : List Heard) → t ≡ top_of b.frames → t ≡ tops.Hearing r v u bound hs → not (is_heard r hs) ≡ own_listens (node_of b)
-listens-hearing b t r v u bound hs s e = sym (own_listens-top b t s ∙ ap (λ x. own_listens (forked (top_node x) (nodes_of b.below))) e)
+pub listens-hearing : (b : Branch Layer) (t : Top) (r : Running) (bound : Members) (hs : List Heard) → t ≡ top_of b.frames → t ≡ tops.Hearing r bound hs → not (is_heard r.task hs) ≡ own_listens (node_of b)
+listens-hearing b t r bound hs s e = sym (own_listens-top b t s ∙ ap (λ x. own_listens (forked (top_node x) (nodes_of b.below))) e)
 
-pub listens-not : (b : Branch Layer) (t : Top) → t ≡ top_of b.frames → ((r : Task) (v u : Value) (bound : Members) (hs : List Heard) → t ≡ tops.Hearing r v u bound hs → ⊥) → false ≡ own_listens (node_of b)
+pub listens-not : (b : Branch Layer) (t : Top) → t ≡ top_of b.frames → ((r : Running) (bound : Members) (hs : List Heard) → t ≡ tops.Hearing r bound hs → ⊥) → false ≡ own_listens (node_of b)
 listens-not b t s isnt = sym (own_listens-top b t s ∙ by t isnt)
   where
-    by : (t : Top) → ((r : Task) (v u : Value) (bound : Members) (hs : List Heard) → t ≡ tops.Hearing r v u bound hs → ⊥) → own_listens (forked (top_node t) (nodes_of b.below)) ≡ false
+    by : (t : Top) → ((r : Running) (bound : Members) (hs : List Heard) → t ≡ tops.Hearing r bound hs → ⊥) → own_listens (forked (top_node t) (nodes_of b.below)) ≡ false
     by (tops.Fresh r v) isnt = refl
     by (tops.Done w d) isnt = refl
     by (tops.Fault p) isnt = refl
-    by (tops.Waiting r v u None m) isnt = refl
-    by (tops.Waiting r v u (Some n) m) isnt = refl
-    by (tops.Hearing r v u bound hs) isnt = absurd (isnt r v u bound hs refl)
-    by (tops.Forked r v u) isnt = refl
+    by (tops.Waiting r None m) isnt = refl
+    by (tops.Waiting r (Some n) m) isnt = refl
+    by (tops.Hearing r bound hs) isnt = absurd (isnt r bound hs refl)
+    by (tops.Forked r) isnt = refl
 
 -- ---- what an instance ended in
 
@@ -267,9 +238,9 @@ output-none b t s isnt = sym (ap output_in (ended-at b t s) ∙ by (frames_of b.
     by [] (tops.Fresh r v) isnt = refl
     by [] (tops.Done w d) isnt = absurd (isnt w d refl)
     by [] (tops.Fault p) isnt = refl
-    by [] (tops.Waiting r v u n m) isnt = refl
-    by [] (tops.Hearing r v u bound hs) isnt = refl
-    by [] (tops.Forked r v u) isnt = refl
+    by [] (tops.Waiting r n m) isnt = refl
+    by [] (tops.Hearing r bound hs) isnt = refl
+    by [] (tops.Forked r) isnt = refl
 
 pub problem-some : (b : Branch Layer) (t : Top) (p : Problem) (n : ℕ) (x : Bool) → t ≡ top_of b.frames → t ≡ tops.Fault p → n ≡ length (frames_of b.frames) → x ≡ (n == 0) → x ≡ true → Some p ≡ problem_in (node_of b)
 problem-some b t p n x s e l h is = sym (ap problem_in (ended-at b t s ∙ ap (λ y. ended_as (frames_of b.frames) y (nodes_of b.below)) e) ∙ by (frames_of b.frames) l)
@@ -293,6 +264,6 @@ problem-none b t s isnt = sym (ap problem_in (ended-at b t s) ∙ by (frames_of 
     by [] (tops.Fresh r v) isnt = refl
     by [] (tops.Done w d) isnt = refl
     by [] (tops.Fault p) isnt = absurd (isnt p refl)
-    by [] (tops.Waiting r v u n m) isnt = refl
-    by [] (tops.Hearing r v u bound hs) isnt = refl
-    by [] (tops.Forked r v u) isnt = refl
+    by [] (tops.Waiting r n m) isnt = refl
+    by [] (tops.Hearing r bound hs) isnt = refl
+    by [] (tops.Forked r) isnt = refl

@@ -5,7 +5,7 @@ use Rattle.swf_document.specs.declared.error.Problem.{Problem}
 use Rattle.swf_meaning.specs.Complete.{Stepped}
 use Rattle.swf_meaning.specs.Local.{local}
 use Rattle.swf_meaning.specs.Node.{Node, Fresh, Live, Done, Fault}
-use Rattle.swf_meaning.specs.Sight.{Sight}
+use Rattle.swf_meaning.specs.Line.{Line, Site}
 use Rattle.swf_scene.specs.Stack.{plug, top_node}
 use Rattle.swf_scene.specs.declared.made.Frame.{Frame}
 use Rattle.swf_scene.specs.declared.made.Top.{Top}
@@ -13,30 +13,27 @@ use Rattle.swf_scene.specs.declared.made.Top.TheVariants as tops
 
 -- the tasks around: all where the innermost has not begun or waits, and else all but the last
 abbrev pub AreAround : List Frame → Top → List Frame → Type 0
-AreAround fs (tops.Fresh t v) os = fs ≡ os
-AreAround fs (tops.Waiting t v u n m) os = fs ≡ os
-AreAround fs (tops.Hearing t v u bound hs) os = fs ≡ os
-AreAround fs (tops.Forked t v u) os = fs ≡ os
 AreAround fs (tops.Done w g) os = (f : Frame) × (fs ≡ os ++ f ∷ [])
 AreAround fs (tops.Fault p) os = (f : Frame) × (fs ≡ os ++ f ∷ [])
+AreAround fs t os = fs ≡ os
 
 -- a step with these tasks around it
 abbrev pub put_in : List Frame → Stepped → Stepped
 put_in os m = record m { node = plug os m.node }
 
-abbrev pub IsStep : Sight → List Frame → Top → Stepped → Type 0
-IsStep s fs t m = (os : List Frame) → AreAround fs t os → local s [] (plug fs (top_node t)) ≡ Some (put_in os m)
+abbrev pub IsStep : Site → Line → List Frame → Top → Stepped → Type 0
+IsStep s l fs t m = (os : List Frame) → AreAround fs t os → local s l [] (plug fs (top_node t)) ≡ Some (put_in os m)
 
 -- the output of an instance that is done
 abbrev pub output_in : Node → Option Value
 output_in (Fresh t v) = None
-output_in (Live t v u k) = None
+output_in (Live r k) = None
 output_in (Done w f) = Some w
 output_in (Fault p) = None
 
 -- the error of an instance that ended in one
 abbrev pub problem_in : Node → Option Problem
 problem_in (Fresh t v) = None
-problem_in (Live t v u k) = None
+problem_in (Live r k) = None
 problem_in (Done w f) = None
 problem_in (Fault p) = Some p

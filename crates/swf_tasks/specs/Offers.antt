@@ -1,14 +1,13 @@
 -- What an offer leaves of the strands of an instance.
-use Rattle.std.specs.Prelude.{◌≡◌, ℕ, zero, suc, Option, Some, None}
-use Rattle.swf_value.specs.Value.{Value, Members}
+use Rattle.std.specs.Prelude.{◌≡◌, ℕ, zero, suc, List, Option, Some, None}
+use Rattle.swf_value.specs.Value.{Members}
 use Rattle.swf_cloudevents.specs.declared.event.Event.{Event}
-use Rattle.swf_document.specs.Task.{Task}
 use Rattle.swf_frames.specs.Paths.{edit, AreDistinct}
 use Rattle.swf_frames.specs.Tree.{Tree, Branch, Strands, no_strands, strand}
-use Rattle.swf_meaning.specs.Offer.{offered, takes_in}
-use Rattle.swf_meaning.specs.Parts.{kind_of}
+use Rattle.swf_meaning.specs.Node.{Running}
+use Rattle.swf_meaning.specs.Offer.{offered, takes_by}
+use Rattle.swf_meaning.specs.Parts.{kind_of, listen_in}
 use Rattle.swf_meaning.specs.declared.heard.Heard.{Heard}
-use Rattle.std.specs.Prelude.{List}
 use Rattle.swf_scene.specs.Layers.{frames_of, top_of, stacked}
 use Rattle.swf_scene.specs.Stack.{top_node}
 use Rattle.swf_scene.specs.declared.made.Layer.{Layer}
@@ -17,17 +16,17 @@ use Rattle.swf_scene.specs.declared.made.Top.TheVariants as tops
 use Rattle.swf_strands.specs.Strands.{node_of}
 
 -- what stands innermost after the offer
-abbrev pub heard_by : Task → Value → Value → Members → List Heard → Option (Members × List Heard) → Top
-heard_by t v u bound hs None = tops.Hearing t v u bound hs
-heard_by t v u bound hs (Some p) = tops.Hearing t v u p.0 p.1
+abbrev pub heard_by : Running → Members → List Heard → Option (Members × List Heard) → Top
+heard_by r bound hs None = tops.Hearing r bound hs
+heard_by r bound hs (Some p) = tops.Hearing r p.0 p.1
 
 abbrev pub offered_top : Event → Top → Top
-offered_top e (tops.Hearing t v u bound hs) = heard_by t v u bound hs (takes_in (kind_of t) bound hs e)
+offered_top e (tops.Hearing r bound hs) = heard_by r bound hs (takes_by (listen_in (kind_of r.task)) bound hs e)
 offered_top e (tops.Fresh t v) = tops.Fresh t v
 offered_top e (tops.Done w f) = tops.Done w f
 offered_top e (tops.Fault p) = tops.Fault p
-offered_top e (tops.Waiting t v u n m) = tops.Waiting t v u n m
-offered_top e (tops.Forked t v u) = tops.Forked t v u
+offered_top e (tops.Waiting r n m) = tops.Waiting r n m
+offered_top e (tops.Forked r) = tops.Forked r
 
 abbrev pub offered_layers : Event → List Layer → List Layer
 offered_layers e ls = stacked (frames_of ls) (offered_top e (top_of ls))

@@ -1,14 +1,9 @@
 -- A step that was prepared, and what it makes of the instance.
 use Rattle.std.specs.Prelude.{◌≡◌, ◌||◌, ◌==◌, ◌≤◌, ℕ, List, Bool, true, false, length, take, Option, Some, None, option_map}
 use Rattle.std.specs.List.{list_any}
-use Rattle.swf_meaning.specs.Local.{local}
 use Rattle.swf_meaning.specs.Node.{Node}
 use Rattle.swf_meaning.specs.Wake.{waits}
-use Rattle.swf_meaning.specs.World.{Instance, sight}
-use Rattle.swf_scene.specs.Layers.{top_of}
-use Rattle.swf_scene.specs.declared.made.Layer.{Layer}
-use Rattle.swf_scene.specs.declared.made.Top.{Top}
-use Rattle.swf_scene.specs.declared.made.Top.TheVariants as tops
+use Rattle.swf_meaning.specs.World.{Instance, step_at}
 use Rattle.swf_strands.specs.Forks.{layers_node}
 use Rattle.swf_strands.specs.Strands.{IsStack, made_layers}
 use Rattle.swf_tasks.specs.Taken.{taken}
@@ -46,17 +41,5 @@ is_at m (Some k) = m == k
 -- the step is that of the strand, and no other moment is waited for than before and the new one
 pub record IsPrepared (now : ℕ) (bs : List ℕ) (i : Instance) (p : Prepared) : Type 0 where
   pub fits : Fits p.step i
-  pub step : option_map (taken i) (local (sight now i) bs i.node) ≡ Some (applied p.step i, p.emitted)
+  pub step : option_map (taken i) (step_at now bs i) ≡ Some (applied p.step i, p.emitted)
   pub waits : (m : ℕ) → waits_for m (applied p.step i).node ≡ true → (is_at m p.until || waits_for m i.node) ≡ true
-
--- the moment that a strand waits for that holds these
-abbrev pub until_in_top : Top → Option ℕ
-until_in_top (tops.Fresh t v) = None
-until_in_top (tops.Done w f) = None
-until_in_top (tops.Fault p) = None
-until_in_top (tops.Waiting t v u n m) = Some m
-until_in_top (tops.Hearing t v u bound hs) = None
-until_in_top (tops.Forked t v u) = None
-
-abbrev pub until_in : List Layer → Option ℕ
-until_in ls = until_in_top (top_of ls)

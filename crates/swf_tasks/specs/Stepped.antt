@@ -1,13 +1,15 @@
 -- What a step changes of a node.
-use Rattle.std.specs.Prelude.{◌≡◌, ◌≤◌, ℕ, zero, List, [], ◌∷◌, Bool, true, false, length, take, Option, Some, None}
+use Rattle.std.specs.Prelude.{◌≡◌, ◌≤◌, ℕ, zero, List, [], ◌∷◌, Bool, true, false, length, take, Option, Some, None, if◌then◌else◌}
 use Rattle.swf_value.specs.Node.{items_of}
 use Rattle.swf_value.specs.Value.{Value, list}
 use Rattle.swf_frames.specs.Tree.{Branch}
 use Rattle.swf_frames.specs.Paths.{Found, nth}
+use Rattle.swf_meaning.specs.Complete.{Stepped}
 use Rattle.swf_meaning.specs.Local.{local}
 use Rattle.swf_meaning.specs.Node.{Node}
-use Rattle.swf_meaning.specs.Sight.{Sight}
+use Rattle.swf_meaning.specs.Line.{Line, Site}
 use Rattle.swf_scene.specs.Layers.{top_of}
+use Rattle.swf_scene.specs.Stack.{used_by}
 use Rattle.swf_scene.specs.declared.made.Layer.{Layer}
 use Rattle.swf_scene.specs.declared.made.Layer.TheVariants as layers
 use Rattle.swf_scene.specs.declared.made.Top.{Top}
@@ -20,21 +22,13 @@ abbrev pub listed : List Value → Value
 listed ws = list (items_of ws)
 
 abbrev pub has_ended : Top → Bool
-has_ended (tops.Fresh t v) = false
-has_ended (tops.Waiting t v u n m) = false
-has_ended (tops.Hearing t v u bound hs) = false
-has_ended (tops.Forked t v u) = false
 has_ended (tops.Done w f) = true
 has_ended (tops.Fault p) = true
+has_ended t = false
 
 -- what stands innermost, where it ended
 abbrev pub if_ended : Top → Option Top
-if_ended (tops.Fresh t v) = None
-if_ended (tops.Waiting t v u n m) = None
-if_ended (tops.Hearing t v u bound hs) = None
-if_ended (tops.Forked t v u) = None
-if_ended (tops.Done w f) = Some (tops.Done w f)
-if_ended (tops.Fault p) = Some (tops.Fault p)
+if_ended t = if has_ended t then Some t else None
 
 -- what the outermost strand ended in, where that is the one that a step puts anew
 abbrev pub ended_of : ℕ → List Layer → Option Top
@@ -50,16 +44,20 @@ abbrev pub output_on : List Layer → Top → Option Value
 output_on [] t = output_of_top t
 output_on (l ∷ ls) t = None
 
+-- the step that puts the strand anew to which the first branch numbers lead, so many
+abbrev pub change_at : Change → List ℕ → Node → Stepped
+change_at c bs n = record { node = replaced (take c.depth bs) (made_layers c.layers.items) n; context = c.context; used = used_by c.emitted; emitted = c.emitted }
+
 -- a strand is put anew, which so many branch numbers lead to
-pub record IsChange (s : Sight) (bs : List ℕ) (n : Node) (c : Change) : Type 0 where
+pub record IsChange (s : Site) (l : Line) (bs : List ℕ) (n : Node) (c : Change) : Type 0 where
   pub deep : c.depth ≤ length bs
   pub there : has_strand (take c.depth bs) n ≡ true
   pub stack : IsStack c.layers.items
-  pub step : local s bs n ≡ Some (record { node = replaced (take c.depth bs) (made_layers c.layers.items) n; context = c.context; emitted = c.emitted })
+  pub step : local s l bs n ≡ Some (change_at c bs n)
 
 -- the branch of that number of the strand takes the step
-abbrev pub IsChangeOf : Sight → List ℕ → Branch Layer → ℕ → Change → Type 0
-IsChangeOf s inner b number c = (h : Found Layer) × ((nth b.below number ≡ Some h) × IsChange s inner (node_of h.held) c)
+abbrev pub IsChangeOf : Site → Line → List ℕ → Branch Layer → ℕ → Change → Type 0
+IsChangeOf s l inner b number c = (h : Found Layer) × ((nth b.below number ≡ Some h) × IsChange s l inner (node_of h.held) c)
 
 -- a `fork` stands innermost on the strand, which has a branch of that number
 abbrev pub IsForkOf : Branch Layer → ℕ → Type 0

@@ -1,15 +1,15 @@
 -- What a step and an offer leave of an instance.
 use Rattle.std.specs.Prelude.{◌≡◌, List, Option, Some, None, Result}
-use Rattle.swf_value.specs.Value.{Value}
 use Rattle.swf_cloudevents.specs.declared.event.Event.{Event}
-use Rattle.swf_document.specs.Task.{Task}
+use Rattle.swf_document.specs.declared.error.Problem.{Problem}
 use Rattle.swf_meaning.specs.Complete.{Stepped}
 use Rattle.swf_meaning.specs.Listen.{heard}
 use Rattle.swf_meaning.specs.Offer.{offered}
-use Rattle.swf_meaning.specs.Sight.{Sight}
+use Rattle.swf_meaning.specs.Line.{Line}
+use Rattle.swf_meaning.specs.Node.{Running}
 use Rattle.swf_meaning.specs.World.{Instance, with_step}
 use Rattle.swf_meaning.specs.declared.heard.Heard.{Heard}
-use Rattle.swf_scene.specs.Halts.{Gives}
+use Rattle.swf_scene.specs.Halts.{Makes}
 use Rattle.swf_scene.specs.Stack.{top_node}
 use Rattle.swf_scene.specs.declared.halt.Halt.{Halt}
 use Rattle.swf_scene.specs.declared.made.Frame.{Frame}
@@ -33,5 +33,5 @@ IsOffered t e None = offered e (top_node t) ≡ (top_node t, 0)
 IsOffered t e (Some x) = (offered e (top_node t) ≡ (top_node x, 1)) × ((fs : List Frame) → AreAround fs t fs)
 
 -- the step of a task that heard all
-abbrev pub IsListened : Sight → Task → Value → Value → List Heard → Result Made Halt → Type 0
-IsListened s t v u hs r = (m : Stepped) → heard s t v u hs ≡ Some m → Gives s m r
+abbrev pub IsListened : Line → Running → List Heard → Result Made Halt → Type 0
+IsListened l r hs g = (m : Result Stepped Problem) → heard l r hs ≡ Some m → Makes m g

@@ -2,107 +2,88 @@
 ghost use Rattle.swf_meaning.specs.Parts.{common_of, kind_of};
 ghost use Rattle.swf_document.specs.Task.{set};
 ghost use Rattle.swf_document.specs.declared.common.Flow.TheVariants.{Continue};
+ghost use Rattle.std.specs.Prelude.{Ok};
 ghost use Rattle.swf_meaning.specs.Node.{Done};
 ghost use Rattle.swf_meaning.specs.Complete.{becomes};
 ghost use Rattle.swf_meaning.specs.Enter.{begun, guarded, enter};
-ghost use Rattle.swf_scene.specs.Halts.{Gives};
-ghost use Rattle.swf_scene.specs.Stack.{sight_of};
+ghost use Rattle.swf_rules.specs.Rules.{line_in, site_in};
+ghost use Rattle.swf_scene.specs.Halts.{Makes};
+ghost use Rattle.swf_scene.specs.Stack.{line_of, site_of};
 
 use std::alloc::Global;
 use swf_document::{Flow, Template};
-use swf_jq_builtins::is_true;
-use swf_rules::{
-    comes_to, complete, emitting, forking, input_of, listening, looping, raising, switched, waiting,
-};
-use swf_scene::{Halt, Made, Round, Scene, TaskRef, Top, Work, value_of, within};
-use swf_transform::{fill, first};
+use swf_rules::{Rule, input_of};
+use swf_scene::{Halt, Made, Round, Running, Scene, TaskRef, Top, Work, within};
 use swf_value::Json;
 
 // A `set` gives what its template is filled to.
-fn set_value(
-    alloc: Global,
-    scene: &Scene,
-    task: &TaskRef,
-    raw: &Json,
-    input: &Json,
-    template: &Template,
-) -> Result<Made, Halt>
-    ensures { Gives (sight_of scene.entry.now) (begun (sight_of scene.entry.now) task.now raw.now input.now (set template.now)) result }
+fn set_value(rule: &Rule, template: &Template) -> Result<Made, Halt>
+    ensures { Makes (begun (site_in rule.now) (line_in rule.now) rule.now.running.now (set template.now)) result }
 {
-    let vars = within(alloc, scene, task, raw, input)?;
-    let value = value_of(alloc, task, fill(alloc, template, &vars, input)?)?;
-    complete(alloc, scene, task, raw, input, value)
+    let value = rule.filled(template)?;
+    rule.complete(value)
 }
 
 // A task begins on its transformed input.
-fn begun(
-    alloc: Global,
-    scene: &Scene,
-    task: &TaskRef,
-    raw: &Json,
-    input: &Json,
-) -> Result<Made, Halt>
-    ensures { Gives (sight_of scene.entry.now) (begun (sight_of scene.entry.now) task.now raw.now input.now (kind_of task.now)) result }
+fn begun(rule: &Rule) -> Result<Made, Halt>
+    ensures { Makes (begun (site_in rule.now) (line_in rule.now) rule.now.running.now (kind_of rule.now.running.now.task)) result }
 {
-    match task.work() {
-        Work::Do(_) => comes_to(alloc, scene, task, raw, input, Round::Seq, 0, input.copy()?),
-        Work::Emit(template) => emitting(alloc, scene, task, raw, input, template),
-        Work::For(spec) => looping(alloc, scene, task, raw, input, spec),
-        Work::Fork(spec) => forking(alloc, scene, task, raw, input, spec),
-        Work::Listen(spec) => listening(alloc, scene, task, raw, input, spec),
-        Work::Raise(reference) => raising(alloc, scene, task, raw, input, reference),
-        Work::Set(template) => set_value(alloc, scene, task, raw, input, template),
-        Work::Switch(cases) => switched(alloc, scene, task, raw, input, cases.as_slice()),
-        Work::Try(_) => {
-            let round = Round::Try { retries: 0 };
-            comes_to(alloc, scene, task, raw, input, round, 0, input.copy()?)
-        }
-        Work::Wait(duration) => waiting(scene, task, raw, input, duration),
-        Work::Other => complete(alloc, scene, task, raw, input, input.copy()?),
+    let input = rule.running.input();
+    match rule.running.task().work() {
+        Work::Do(_) => rule.comes_to(Round::Seq, 0, input.copy()?),
+        Work::Emit(template) => rule.emitting(template),
+        Work::For(spec) => rule.looping(spec),
+        Work::Fork(spec) => rule.forking(spec),
+        Work::Listen(spec) => rule.listening(spec),
+        Work::Raise(reference) => rule.raising(reference),
+        Work::Set(template) => set_value(rule, template),
+        Work::Switch(cases) => rule.switched(cases.as_slice()),
+        Work::Try(_) => rule.comes_to(Round::Try { retries: 0 }, 0, input.copy()?),
+        Work::Wait(duration) => rule.waiting(duration),
+        Work::Other => rule.complete(input.copy()?),
     }
 }
 
 // A task whose `if` is not true is done with its raw input.
-fn skipped(scene: &Scene, raw: &Json) -> Result<Made, Halt>
-    ensures { Gives (sight_of scene.entry.now) (becomes (sight_of scene.entry.now) (Done raw.now Continue)) result }
+fn skipped(rule: &Rule) -> Result<Made, Halt>
+    ensures { Makes (Ok (becomes (line_in rule.now) (Done rule.now.running.now.raw Continue))) result }
 {
     Ok(Made {
         frame: None,
         top: Top::Done {
-            output: raw.copy()?,
+            output: rule.running.raw().copy()?,
             flow: Flow::Continue,
         },
-        context: scene.context.copy()?,
+        context: rule.scene.context.copy()?,
         emitted: None,
     })
 }
 
 // A task begins, unless its `if` is not true.
-fn guarded(
-    alloc: Global,
-    scene: &Scene,
-    task: &TaskRef,
-    raw: &Json,
-    input: &Json,
-) -> Result<Made, Halt>
-    ensures { Gives (sight_of scene.entry.now) (guarded (sight_of scene.entry.now) task.now raw.now input.now (common_of task.now).cond) result }
+fn guarded(rule: &Rule) -> Result<Made, Halt>
+    ensures { Makes (guarded (site_in rule.now) (line_in rule.now) rule.now.running.now (common_of rule.now.running.now.task).cond) result }
 {
-    let Some(condition) = task.cond() else {
-        return begun(alloc, scene, task, raw, input);
+    let running = rule.running;
+    let Some(condition) = running.task().cond() else {
+        return begun(rule);
     };
-    let vars = within(alloc, scene, task, raw, input)?;
-    let value = value_of(alloc, task, first(alloc, condition, &vars, input)?)?;
-    if is_true(&value) {
-        begun(alloc, scene, task, raw, input)
+    let vars = within(rule.alloc, rule.scene, running)?;
+    if rule.asked(&vars, running.input(), condition)? {
+        begun(rule)
     } else {
-        skipped(scene, raw)
+        skipped(rule)
     }
 }
 
 /// A task that has not begun takes its step.
 pub fn enter(alloc: Global, scene: &Scene, task: &TaskRef, raw: &Json) -> Result<Made, Halt>
-    ensures { Gives (sight_of scene.entry.now) (enter (sight_of scene.entry.now) task.now raw.now) result }
+    ensures { Makes (enter (site_of scene.entry.now) (line_of scene.entry.now) task.now raw.now) result }
 {
     let input = input_of(alloc, scene, task, raw)?;
-    guarded(alloc, scene, task, raw, &input)
+    let running = Running::new(task.copy()?, raw.copy()?, input);
+    guarded(&Rule {
+        alloc,
+        scene,
+        running: &running,
+    })
 }

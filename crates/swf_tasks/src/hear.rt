@@ -1,20 +1,18 @@
 // A task that listens (DSL 1.0.0, reference, "Listen").
-ghost use Rattle.std.specs.Prelude.{◌≡◌, ◌∷◌, ◌++◌, [], IfOk, IfSome, true, nat_lt, option_map, Some, None};
-ghost use Rattle.swf_meaning.specs.Listen.{is_heard, events_of};
-ghost use Rattle.swf_meaning.specs.Local.{local_inside};
-ghost use Rattle.swf_meaning.specs.Node.{Hear};
-ghost use Rattle.swf_meaning.specs.Offer.{offered, takes_in};
-ghost use Rattle.swf_meaning.specs.Parts.{kind_of};
+ghost use Rattle.std.specs.Prelude.{◌≡◌, ◌∷◌, ◌++◌, [], IfOk, true, nat_lt, option_map, Some, None};
+ghost use Rattle.swf_meaning.specs.Listen.{is_heard};
+ghost use Rattle.swf_meaning.specs.Offer.{offered, takes_by};
+ghost use Rattle.swf_meaning.specs.Parts.{kind_of, listen_in};
+ghost use Rattle.swf_rules.specs.Rules.{line_in};
 ghost use Rattle.swf_tasks.specs.Taken.{IsListened, IsOffered};
-ghost use Rattle.swf_scene.specs.Stack.{sight_of, top_node};
+ghost use Rattle.swf_scene.specs.Stack.{top_node};
 
 use std::alloc::{AllocError, Global};
 use swf_cloudevents::{Event, NamedValues};
 use swf_document::Listing;
 use swf_meaning::Heard;
-use swf_rules::{heard, takes};
-use swf_scene::{Halt, Made, Scene, TaskRef, Top, Work};
-use swf_value::Json;
+use swf_rules::{Rule, takes};
+use swf_scene::{Halt, Made, TaskRef, Top, Work};
 
 // What a task has bound after an event that it takes, and the event with the place of its filter.
 fn taken(
@@ -24,7 +22,7 @@ fn taken(
     heard: &[Heard],
     event: &Event,
 ) -> Result<Option<(NamedValues, Heard)>, AllocError>
-    ensures { IfOk result (λ o. option_map (λ p. (p.0, heard.now ++ p.1 ∷ [])) o ≡ takes_in (kind_of task.now) bound.now heard.now event.now) }
+    ensures { IfOk result (λ o. option_map (λ p. (p.0, heard.now ++ p.1 ∷ [])) o ≡ takes_by (listen_in (kind_of task.now)) bound.now heard.now event.now) }
 {
     match task.work() {
         Work::Listen(spec) => takes(alloc, spec, bound, heard, event),
@@ -38,11 +36,10 @@ pub fn hears(alloc: Global, top: &Top, event: &Event) -> Result<bool, AllocError
 {
     match top {
         Top::Hearing {
-            task,
+            running,
             bound,
             heard,
-            ..
-        } => Ok(taken(alloc, task, bound, heard.as_slice(), event)?.is_some()),
+        } => Ok(taken(alloc, running.task(), bound, heard.as_slice(), event)?.is_some()),
         _ => Ok(false),
     }
 }
@@ -64,9 +61,7 @@ pub fn offered(alloc: Global, top: &Top, event: &Event) -> Result<Option<Top>, A
     ensures { IfOk result (λ o. IsOffered top.now event.now o) }
 {
     let Top::Hearing {
-        task,
-        raw,
-        input,
+        running,
         bound,
         heard,
     } = top
@@ -74,33 +69,24 @@ pub fn offered(alloc: Global, top: &Top, event: &Event) -> Result<Option<Top>, A
         return Ok(None);
     };
     let heard = heard.as_slice();
-    let Some((bound, one)) = taken(alloc, task, bound, heard, event)? else {
+    let Some((bound, one)) = taken(alloc, running.task(), bound, heard, event)? else {
         return Ok(None);
     };
     let heard = with_heard(alloc, heard, one)?;
     Ok(Some(Top::Hearing {
-        task: task.copy()?,
-        raw: raw.copy()?,
-        input: input.copy()?,
+        running: running.copy()?,
         bound,
         heard,
     }))
 }
 
 /// A task that heard all is complete.
-pub fn listened(
-    alloc: Global,
-    scene: &Scene,
-    task: &TaskRef,
-    raw: &Json,
-    input: &Json,
-    events: &[Heard],
-) -> Result<Made, Halt>
-    requires { is_heard task.now events.now ≡ true }
-    ensures { IsListened (sight_of scene.entry.now) task.now raw.now input.now events.now result }
+pub fn listened(rule: &Rule, events: &[Heard]) -> Result<Made, Halt>
+    requires { is_heard rule.now.running.now.task events.now ≡ true }
+    ensures { IsListened (line_in rule.now) rule.now.running.now events.now result }
 {
-    match task.work() {
-        Work::Listen(spec) => heard(alloc, scene, task, raw, input, spec, events),
+    match rule.running.task().work() {
+        Work::Listen(spec) => rule.heard(spec, events),
         _ => Err(Halt::OutOfMemory),
     }
 }

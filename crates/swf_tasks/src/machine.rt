@@ -1,21 +1,22 @@
 // One instance: its setting, and the stacks of its strands.
-ghost use Rattle.std.specs.Prelude.{◌≡◌, ◌↔◌, ◌<◌, ℕ, [], List, Err, IfOk, OnOk, OnErr, Some, None, true, false, nat_lt, option_map};
+ghost use Rattle.std.specs.Prelude.{◌≡◌, ◌↔◌, ◌<◌, ◌+◌, ℕ, [], List, Err, IfOk, OnErr, Some, None, true, false, nat_lt, option_map};
 ghost use Rattle.swf_document.specs.declared.error.Problem.{Problem};
-ghost use Rattle.swf_meaning.specs.Local.{local, is_enabled};
+ghost use Rattle.swf_meaning.specs.Local.{is_enabled};
 ghost use Rattle.swf_meaning.specs.Node.{Fault};
 ghost use Rattle.swf_meaning.specs.Offer.{offered_one, takers_in};
 ghost use Rattle.swf_meaning.specs.Parts.{kind_of};
 ghost use Rattle.swf_meaning.specs.Shared.{advanced, is_shared, is_shared_error};
 ghost use Rattle.swf_meaning.specs.Strands.{can_go, strands};
 ghost use Rattle.swf_meaning.specs.Wake.{is_due};
-ghost use Rattle.swf_meaning.specs.World.{new_instance, number_after, sight};
+ghost use Rattle.swf_meaning.specs.World.{new_instance, step_at};
 ghost use Rattle.swf_scene.specs.Layers.{running};
-ghost use Rattle.swf_scene.specs.Stack.{plug, round_of};
+ghost use Rattle.swf_scene.specs.Stack.{plug, round_of, used_by};
 ghost use Rattle.swf_scene.specs.declared.made.Frame.{Frame as TheFrame};
 ghost use Rattle.swf_tasks.specs.Installed.{output_in, problem_in};
+ghost use Rattle.swf_strands.specs.Alarm.{alarm_of};
 ghost use Rattle.swf_strands.specs.Order.{IsNext};
-ghost use Rattle.swf_tasks.specs.Prepares.{applied, Fits, IsPrepared, Puts, until_in};
-ghost use Rattle.swf_strands.specs.Strands.{IsGrown, IsStack, root_node};
+ghost use Rattle.swf_tasks.specs.Prepares.{applied, Fits, IsPrepared, Puts};
+ghost use Rattle.swf_strands.specs.Strands.{IsGrown, root_node};
 ghost use Rattle.swf_tasks.specs.declared.machine.Step.TheVariants as Step;
 ghost use Rattle.swf_tasks.specs.Taken.{taken, emitted_of};
 ghost use Rattle.swf_tasks.specs.Views.{IsViewOf};
@@ -36,8 +37,8 @@ use swf_scene::{
     is_heard,
 };
 use swf_strands::{
-    Question, Standing, branches_of, forked, holds_here, holds_in, lead_in, lead_on, list_strands,
-    named, put_at, stack_of, strand_at,
+    Question, Standing, alarm_in, branches_of, forked, holds_here, holds_in, lead_in, lead_on,
+    list_strands, named, own_until, put_kept, stack_of, strand_at, until_of,
 };
 use swf_text::{Strand, Text};
 use swf_validate::Accepted;
@@ -53,6 +54,8 @@ pub struct Machine {
     setting: Setting,
     /// The strand that took the last step.
     turn: Strand,
+    /// The least moment that a strand waits for, in milliseconds.
+    alarm: Option<u64>,
 }
 
 /// What a step makes of an instance.
@@ -112,11 +115,13 @@ impl Model for Machine {
     ghost coded = { instance_code };
 
     ghost use Rattle.swf_scene.specs.Stack.{instance_of};
+    ghost use Rattle.std.specs.Prelude.{◌≡◌};
+    ghost use Rattle.swf_strands.specs.Alarm.{alarm_of};
     ghost use Rattle.swf_strands.specs.Strands.{root_node, IsGrown};
 
     ghost view = { λ m. instance_of m.setting (root_node m.forest.strands) };
 
-    ghost invariant = { λ m. IsGrown m.forest.strands };
+    ghost invariant = { λ m. IsGrown m.forest.strands × (m.alarm ≡ alarm_of (root_node m.forest.strands)) };
 }
 
 impl Machine {
@@ -137,6 +142,7 @@ impl Machine {
             setting: Setting::new(alloc, document, id, input, site)?,
             forest: Forest::new(alloc, Layer::Top(Top::Fresh { task, raw }))?,
             turn: Strand::root(alloc),
+            alarm: None,
         })
     }
 
@@ -148,6 +154,7 @@ impl Machine {
             setting: self.setting.copy()?,
             forest: self.forest.copy(alloc)?,
             turn: named(alloc, self.turn.as_slice())?,
+            alarm: self.alarm,
         })
     }
 
@@ -189,10 +196,7 @@ impl Machine {
         ensures { result ≡ until_at strand.now self.now.node }
     {
         let strand = strand_at(&self.forest, self.forest.root(), strand.as_slice())?;
-        match stack_of(&self.forest, strand).top {
-            Top::Waiting { until, .. } => Some(*until),
-            _ => None,
-        }
+        own_until(&self.forest, strand)
     }
 
     /// Whether a strand listens, and has not heard all.
@@ -203,9 +207,16 @@ impl Machine {
             return false;
         };
         match stack_of(&self.forest, strand).top {
-            Top::Hearing { task, heard, .. } => !is_heard(task, heard.as_slice()),
+            Top::Hearing { running, heard, .. } => !is_heard(running.task(), heard.as_slice()),
             _ => false,
         }
+    }
+
+    /// The least moment, in milliseconds, that a strand waits for, where one waits. It takes no memory, and goes over no strands.
+    pub fn alarm(&self) -> Option<u64>
+        ensures { result ≡ alarm_of self.now.node }
+    {
+        self.alarm
     }
 
     /// Whether some strand waits until a moment, in milliseconds, or one before it. It takes no memory.
@@ -285,7 +296,8 @@ impl Machine {
             context,
             number,
         } = part;
-        put_at(&mut self.forest, &strand.as_slice()[..depth], layers);
+        let changed = &strand.as_slice()[..depth];
+        self.alarm = put_kept(&mut self.forest, changed, layers, self.alarm);
         self.setting.context = context;
         self.setting.number = number;
         self.turn = strand;
@@ -356,10 +368,12 @@ impl Machine {
         let mut setting = self.setting.copy()?;
         setting.context = context;
         setting.number = number;
+        let alarm = alarm_in(&forest, forest.root());
         Ok(Machine {
             setting,
             forest,
             turn: strand,
+            alarm,
         })
     }
 
@@ -370,7 +384,7 @@ impl Machine {
         strand: &Strand,
         site: &Site,
     ) -> Result<StepResult, StepFault>
-        ensures ok { IfOk result (λ r. option_map (taken self.old) (local (sight site.entry.now.now self.old) strand.now self.old.node) ≡ Some (self.new, emitted_of r)) }
+        ensures ok { IfOk result (λ r. option_map (taken self.old) (step_at site.entry.now.now strand.now self.old) ≡ Some (self.new, emitted_of r)) }
         ensures err { OnErr result (self.new ≡ self.old) }
         ensures not_enabled { (result ≡ Err StepFault.NotEnabled) ↔ (can_go site.entry.now.now strand.now self.old.node ≡ false) }
     {
@@ -429,11 +443,8 @@ impl Machine {
         let Standing { around, top } = stack_of(&self.forest, strand);
         match top {
             Top::Fresh { task, .. } => task.is_shared(),
-            Top::Done { .. } => false,
             Top::Fault(_) => is_error_shared(around),
-            Top::Waiting { .. } => false,
-            Top::Hearing { .. } => false,
-            Top::Forked { .. } => false,
+            _ => false,
         }
     }
 
@@ -452,6 +463,7 @@ impl Machine {
         let mut forest = self.forest.copy(alloc)?;
         let root = forest.root();
         let taken = offer_in(alloc, &mut forest, root, event)?;
+        self.alarm = alarm_in(&forest, forest.root());
         self.forest = forest;
         Ok(taken)
     }
@@ -494,7 +506,7 @@ impl Machine {
 
 // The number of the next event, where this one goes out. There is none behind the greatest.
 fn number_after(number: u64, emitted: &Option<SentEvent>) -> Result<u64, AllocError>
-    ensures { IfOk result (λ n. n ≡ number_after number emitted.now) }
+    ensures { IfOk result (λ n. n ≡ number + used_by emitted.now) }
 {
     match emitted {
         None => Ok(number),
@@ -504,9 +516,9 @@ fn number_after(number: u64, emitted: &Option<SentEvent>) -> Result<u64, AllocEr
 
 // Whether an error of a task's list may lead to another try.
 fn may_try_again(frame: &Frame) -> bool
-    ensures { result ≡ is_shared_error (round_of frame.now.round) (kind_of frame.now.task) }
+    ensures { result ≡ is_shared_error (round_of frame.now.round) (kind_of frame.now.running.task) }
 {
-    match (&frame.round, frame.task.work()) {
+    match (&frame.round, frame.running.task().work()) {
         (Round::Try { .. }, Work::Try(spec)) => spec.retry.is_some(),
         _ => false,
     }
@@ -520,16 +532,5 @@ fn is_error_shared(around: &[Layer]) -> bool
         Some((Layer::Running(frame), _)) => may_try_again(frame.frame()),
         Some((Layer::Top(_), _)) => false,
         None => false,
-    }
-}
-
-// The moment that a strand which holds these waits for, where it does.
-fn until_of(layers: &[Layer]) -> Option<u64>
-    requires { IsStack layers.now }
-    ensures { result ≡ until_in layers.now }
-{
-    match layers.last() {
-        Some(Layer::Top(Top::Waiting { until, .. })) => Some(*until),
-        _ => None,
     }
 }

@@ -1,14 +1,14 @@
 // What a step of a strand leads to, and what becomes of the forks that it ends.
-ghost use Rattle.std.specs.Prelude.{◌≡◌, ◌<◌, ◌+◌, ◌∷◌, [], ℕ, List, IfOk, IfSome, Some, length, option_map, true};
-ghost use Rattle.swf_document.specs.Task.{Task};
+ghost use Rattle.std.specs.Prelude.{◌≡◌, ◌<◌, ◌+◌, ◌∷◌, [], ℕ, List, IfOk, Result, Some, option_map, true};
 ghost use Rattle.swf_frames.specs.Tree.{Branch, find};
-ghost use Rattle.swf_meaning.specs.Complete.{Stepped};
+ghost use Rattle.swf_document.specs.declared.error.Problem.{Problem as TheProblem};
+ghost use Rattle.swf_meaning.specs.Complete.{Stepped, step_of};
 ghost use Rattle.swf_meaning.specs.Fork.{outputs, put};
-ghost use Rattle.swf_meaning.specs.Sight.{Sight};
+ghost use Rattle.swf_meaning.specs.Line.{Line};
 ghost use Rattle.swf_meaning.specs.Strands.{can_go};
-ghost use Rattle.swf_scene.specs.Halts.{Gives};
-ghost use Rattle.swf_scene.specs.Layers.{frames_of, running, top_of};
-ghost use Rattle.swf_scene.specs.Stack.{plug, seen_in, sight_of, stepped_of, top_node};
+ghost use Rattle.swf_scene.specs.Halts.{Makes};
+ghost use Rattle.swf_scene.specs.Layers.{frames_of, running};
+ghost use Rattle.swf_scene.specs.Stack.{line_of, plug, seen_in, site_of, stepped_of, top_node};
 ghost use Rattle.swf_scene.specs.declared.made.Frame.{Frame as TheFrame};
 ghost use Rattle.swf_scene.specs.declared.made.Layer.{Layer as TheLayer};
 ghost use Rattle.swf_tasks.specs.Installed.{AreAround, IsStep};
@@ -19,7 +19,7 @@ use crate::enter::enter;
 use crate::hear::listened;
 use std::alloc::{AllocError, Global};
 use swf_frames::{Forest, StrandId};
-use swf_rules::{failed, moved_on, settled, woken};
+use swf_rules::{Rule, failed, moved_on};
 use swf_scene::{Halt, Layer, Made, Scene, SentEvent, Top};
 use swf_strands::{Standing, child_of, innermost, layers_of, stack_of};
 use swf_value::Json;
@@ -44,7 +44,7 @@ pub fn step_of(
 ) -> Result<Change, AllocError>
     requires held { IsHeld forest.now strand }
     requires can { (b : Branch TheLayer) → find forest.now.strands strand ≡ Some b → can_go scene.now branches.now (node_of b) ≡ true }
-    ensures { IfOk result (λ c. (b : Branch TheLayer) → find forest.now.strands strand ≡ Some b → IsChange (sight_of scene.entry) branches.now (node_of b) c) }
+    ensures { IfOk result (λ c. (b : Branch TheLayer) → find forest.now.strands strand ≡ Some b → IsChange (site_of scene.entry) (line_of scene.entry) branches.now (node_of b) c) }
 {
     let Standing { around, top } = stack_of(forest, strand);
     let Some((number, inner)) = branches.split_first() else {
@@ -70,27 +70,23 @@ fn settle(
 ) -> Result<Change, AllocError>
     requires held { IsHeld forest.now strand }
     requires fork { (b : Branch TheLayer) → find forest.now.strands strand ≡ Some b → IsForkOf b number }
-    ensures { IfOk result (λ c. (b : Branch TheLayer) (s : Sight) (inner : List ℕ) → find forest.now.strands strand ≡ Some b → sight_of scene.entry ≡ seen_in s (frames_of b.frames) → IsChangeOf (sight_of scene.entry) inner b number change → IsChange s (number ∷ inner) (node_of b) c) }
+    ensures { IfOk result (λ c. (b : Branch TheLayer) (l : Line) (inner : List ℕ) → find forest.now.strands strand ≡ Some b → line_of scene.entry ≡ seen_in l (frames_of b.frames) → IsChangeOf (site_of scene.entry) (line_of scene.entry) inner b number change → IsChange (site_of scene.entry) l (number ∷ inner) (node_of b) c) }
 {
     let Some(ended) = ended(&change) else {
         return deeper(change);
     };
     let Standing { around, top } = stack_of(forest, strand);
-    let Top::Forked { task, raw, input } = top else {
+    let Top::Forked(running) = top else {
         unreachable!();
     };
     let outputs = outputs_of(alloc, forest, strand, number, ended)?;
     let scene = scene.with_context(change.context.copy()?);
-    let given = settled(
+    let rule = Rule {
         alloc,
-        &scene,
-        task,
-        raw,
-        input,
-        task.competes(),
-        ended,
-        outputs,
-    );
+        scene: &scene,
+        running,
+    };
+    let given = rule.settled(running.task().competes(), ended, outputs);
     let made = match given {
         Ok(None) => return deeper(change),
         Ok(Some(made)) => made,
@@ -170,7 +166,7 @@ fn outputs_of(
 // What stands innermost on a strand takes its step.
 fn own_step(alloc: Global, scene: Scene, around: &[Layer], top: &Top) -> Result<Change, AllocError>
     requires { (fs : List TheFrame) × ((around.now ≡ running fs) × (can_go scene.now [] (plug fs (top_node top.now)) ≡ true)) }
-    ensures { IfOk result (λ c. (fs : List TheFrame) → around.now ≡ running fs → IsChange (sight_of scene.entry) [] (plug fs (top_node top.now)) c) }
+    ensures { IfOk result (λ c. (fs : List TheFrame) → around.now ≡ running fs → IsChange (site_of scene.entry) (line_of scene.entry) [] (plug fs (top_node top.now)) c) }
 {
     let made = next_of(alloc, scene, around, top)?;
     Ok(Change {
@@ -194,26 +190,32 @@ fn outer_of<'a>(around: &'a [Layer], top: &Top) -> &'a [Layer]
 // What the step makes of what stands innermost.
 fn next_of(alloc: Global, scene: Scene, around: &[Layer], top: &Top) -> Result<Made, AllocError>
     requires { (fs : List TheFrame) × ((around.now ≡ running fs) × (can_go scene.now [] (plug fs (top_node top.now)) ≡ true)) }
-    ensures { IfOk result (λ m. (fs : List TheFrame) → around.now ≡ running fs → IsStep (sight_of scene.entry) fs top.now (stepped_of m)) }
+    ensures { IfOk result (λ m. (fs : List TheFrame) → around.now ≡ running fs → IsStep (site_of scene.entry) (line_of scene.entry) fs top.now (stepped_of m)) }
 {
     let scene = scene.inside(alloc, outer_of(around, top))?;
     let given = match top {
         Top::Fresh { task, raw } => enter(alloc, &scene, task, raw),
         Top::Waiting {
-            task,
-            raw,
-            input,
+            running,
             retries,
             ..
-        } => woken(alloc, &scene, task, raw, input, *retries),
-        Top::Hearing {
-            task,
-            raw,
-            input,
-            heard,
-            ..
-        } => listened(alloc, &scene, task, raw, input, heard.as_slice()),
-        Top::Forked { .. } => unreachable!(),
+        } => {
+            let rule = Rule {
+                alloc,
+                scene: &scene,
+                running,
+            };
+            rule.woken(*retries)
+        }
+        Top::Hearing { running, heard, .. } => {
+            let rule = Rule {
+                alloc,
+                scene: &scene,
+                running,
+            };
+            listened(&rule, heard.as_slice())
+        }
+        Top::Forked(_) => unreachable!(),
         Top::Done { output, flow } => {
             let (frame, _) = innermost(around);
             moved_on(alloc, &scene, frame, output, flow)
@@ -228,7 +230,7 @@ fn next_of(alloc: Global, scene: Scene, around: &[Layer], top: &Top) -> Result<M
 
 // What a rule gives, an error included.
 fn made_of(scene: &Scene, given: Result<Made, Halt>) -> Result<Made, AllocError>
-    ensures { IfOk result (λ m. (s : Sight) (x : Stepped) → s.context ≡ (sight_of scene.entry.now).context → Gives s x given → stepped_of m ≡ x) }
+    ensures { IfOk result (λ m. (g : Result Stepped TheProblem) → Makes g given → stepped_of m ≡ step_of (line_of scene.entry.now) g) }
 {
     match given {
         Ok(made) => Ok(made),

@@ -1,2 +1,2 @@
+pub mod AlarmLemmas
 pub mod TurnLemmas
-pub mod TimerLemmas

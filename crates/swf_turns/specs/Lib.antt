@@ -1,2 +1,2 @@
+pub mod Alarms
 pub mod Line
-pub mod Waits

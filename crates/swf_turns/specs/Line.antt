@@ -1,7 +1,7 @@
 -- The queue of turns: the numbers in it, for how many instances it is, and how many more fit.
-use Rattle.std.specs.Prelude.{◌≡◌, ◌<◌, ◌==◌, ℕ, List, Bool, true, false, refl, length, slice_index_or}
+use Rattle.std.specs.Prelude.{◌≡◌, ◌≤◌, ◌==◌, ◌++◌, ◌∷◌, if◌then◌else◌, [], ℕ, List, Bool, false, refl, length, nat_eq, slice_index_or}
 use Rattle.std.specs.Coded.{Coded, code_by, coded×, coded_ℕ, coded_list}
-use Rattle.std.specs.List.{list_any}
+use Rattle.std.specs.List.{list_any, IsDistinct}
 
 pub record Line : Type 0 where
   pub numbers : List ℕ
@@ -14,7 +14,12 @@ line_code = code_by (List ℕ × (ℕ × ℕ)) (coded× (coded_list coded_ℕ) (
 abbrev pub is_among : ℕ → List ℕ → Bool
 is_among n ns = list_any (λ m. n == m) ns
 
--- a number whose flag is set is in the queue, and each that is there has a flag
-pub record AreFlagged (queue : List ℕ) (flags : List Bool) : Type 0 where
-  pub there : (n : ℕ) → slice_index_or flags n false ≡ true → is_among n queue ≡ true
-  pub known : (n : ℕ) → is_among n queue ≡ true → n < length flags
+-- with the number behind all others, where it does not stand there
+abbrev pub put : ℕ → List ℕ → List ℕ
+put n ns = if is_among n ns then ns else ns ++ n ∷ []
+
+-- no number stands there twice, a number stands there where its flag is set, and the queue has a place for each number
+pub record AreFlagged (queue : List ℕ) (flags : List Bool) (places : ℕ) : Type 0 where
+  pub distinct : IsDistinct nat_eq queue
+  pub there : (n : ℕ) → is_among n queue ≡ slice_index_or flags n false
+  pub enough : length flags ≤ places

@@ -1,8 +1,8 @@
 //! The order of turns, and until when instances wait, by their numbers.
 #![tactic(auto)]
 
-mod timers;
+mod alarms;
 mod turns;
 
-pub use timers::Timers;
+pub use alarms::Alarms;
 pub use turns::Turns;

@@ -1,6 +1,7 @@
 // The order of turns.
-ghost use Rattle.std.specs.Prelude.{◌≡◌, ◌<◌, ◌≤◌, ◌+◌, ◌++◌, ◌∷◌, ◌||◌, ◌==◌, ℕ, [], length, drop, take, slice_get, OnOk, OnErr};
-ghost use Rattle.swf_turns.specs.Line.{is_among};
+ghost use Rattle.std.specs.Prelude.{◌≡◌, ◌<◌, ◌≤◌, ◌+◌, ◌++◌, ◌∷◌, ◌||◌, ◌==◌, ℕ, [], length, drop, take, nat_eq, slice_get, true, OnOk};
+ghost use Rattle.std.specs.List.{IsDistinct};
+ghost use Rattle.swf_turns.specs.Line.{is_among, put};
 
 use std::alloc::{AllocError, Global};
 use std::collections::VecDeque;
@@ -10,6 +11,7 @@ use std::marker::Model;
 /// numbers, how many instances there are, and how many more fit.
 #[derive(Drop)]
 pub struct Turns {
+    /// With a place for each instance.
     queue: VecDeque<usize>,
     /// Whether the instance of a number stands in the queue.
     queued: Vec<bool>,
@@ -17,7 +19,7 @@ pub struct Turns {
 
 impl Model for Turns {
     ghost use Rattle.std.specs.Prelude.{◌-◌, min, length};
-    ghost use Rattle.std.specs.VecDeque.{deque_len, deque_capacity};
+    ghost use Rattle.std.specs.VecDeque.{deque_capacity};
     ghost use Rattle.std.specs.Vec.{vec_len, vec_capacity};
     ghost use Rattle.swf_turns.specs.Line.{Line, line_code};
 
@@ -27,9 +29,9 @@ impl Model for Turns {
 
     ghost use Rattle.swf_turns.specs.Line.{AreFlagged};
 
-    ghost view = { λ t. record { numbers = t.queue.items; count = length t.queued.items; room = min (deque_capacity t.queue - deque_len t.queue) (vec_capacity t.queued - vec_len t.queued) } };
+    ghost view = { λ t. record { numbers = t.queue.items; count = length t.queued.items; room = min (deque_capacity t.queue - length t.queued.items) (vec_capacity t.queued - length t.queued.items) } };
 
-    ghost invariant = { λ t. AreFlagged t.queue.items t.queued.items };
+    ghost invariant = { λ t. AreFlagged t.queue.items t.queued.items (deque_capacity t.queue) };
 }
 
 impl Turns {
@@ -44,33 +46,35 @@ impl Turns {
         }
     }
 
-    /// Makes room for so many numbers more.
+    /// Makes room for so many new instances.
     pub fn reserve(&mut self, additional: usize) -> Result<(), AllocError>
         ensures numbers { self.new.numbers ≡ self.old.numbers }
         ensures count { self.new.count ≡ self.old.count }
         ensures room { OnOk result (additional ≤ self.new.room) }
     {
-        self.queue.reserve(additional)?;
-        self.queued.reserve(additional)
+        self.queued.reserve(additional)?;
+        self.queue
+            .reserve(self.queued.capacity() - self.queue.len())
     }
 
-    /// Puts the number of a new instance behind all others.
+    /// Puts the number of a new instance behind all others. It takes no memory.
     pub fn add(&mut self)
         requires { 0 < self.old.room }
         ensures numbers { self.new.numbers ≡ self.old.numbers ++ self.old.count ∷ [] }
         ensures count { self.new.count ≡ self.old.count + 1 }
+        ensures room { self.old.room ≤ self.new.room + 1 }
     {
         self.queue.push_back(self.queued.len()).unwrap();
         self.queued.push(true).unwrap();
     }
 
-    /// Puts a number behind all others, where it does not stand there.
+    /// Puts a number behind all others, where it does not stand there. It takes no memory.
     pub fn put(&mut self, number: usize)
-        requires known { number < self.old.count }
-        requires room { 0 < self.old.room }
+        requires { number < self.old.count }
+        ensures numbers { self.new.numbers ≡ put number self.old.numbers }
         ensures among { (n : ℕ) → is_among n self.new.numbers ≡ (is_among n self.old.numbers || (n == number)) }
         ensures count { self.new.count ≡ self.old.count }
-        ensures room { self.old.room ≤ self.new.room + 1 }
+        ensures room { self.new.room ≡ self.old.room }
     {
         if !self.queued[number] {
             self.queue.push_back(number).unwrap();
@@ -80,7 +84,9 @@ impl Turns {
 
     /// The number whose turn it is.
     pub fn first(&self) -> Option<usize>
-        ensures { result ≡ slice_get self.now.numbers 0 }
+        ensures first { result ≡ slice_get self.now.numbers 0 }
+        ensures distinct { IsDistinct nat_eq self.now.numbers }
+        ensures known { (n : ℕ) → is_among n self.now.numbers ≡ true → n < self.now.count }
     {
         self.queue.front().copied()
     }
@@ -89,6 +95,7 @@ impl Turns {
     pub fn leave(&mut self)
         ensures numbers { self.new.numbers ≡ drop 1 self.old.numbers }
         ensures count { self.new.count ≡ self.old.count }
+        ensures room { self.new.room ≡ self.old.room }
     {
         if let Some(number) = self.queue.pop_front() {
             self.queued[number] = false;
@@ -100,6 +107,7 @@ impl Turns {
         requires { 0 < length self.old.numbers }
         ensures numbers { self.new.numbers ≡ drop 1 self.old.numbers ++ take 1 self.old.numbers }
         ensures count { self.new.count ≡ self.old.count }
+        ensures room { self.new.room ≡ self.old.room }
     {
         self.queue.rotate_left(1);
     }

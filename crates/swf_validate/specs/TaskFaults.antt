@@ -71,6 +71,11 @@ abbrev pub count_list : Tasks → ℕ
 count_list no_tasks = 0
 count_list (named n t ts) = count_list ts + 1
 
+-- a `fork` of too many branches, told of the task
+abbrev pub size_faults : Spot → Kind → List Fault
+size_faults p (fork c ts) = fault_unless (nat_le (count_list ts) most_branches) p TooMany
+size_faults p k = []
+
 -- `listen`, behind `input`
 abbrev pub before_output : Scope → Spot → Kind → List Fault
 before_output s p (listen l) = filters_faults (own s.around) l.mode (under (under p (codes "listen")) (codes "to")) 0 l.filters
@@ -121,7 +126,7 @@ abbrev mutual
   named_faults s places i (named n t ts) = fault_unless (is_at (places n) i) (place_of_task t) DuplicateName ++ (task_faults s t ++ named_faults s places (i + 1) ts)
 
   pub task_faults : Scope → Task → List Fault
-  task_faults s (task c k) = before_export s c.place k ++ (export_faults s c ++ (before_if s c.place k ++ (middle s c k ++ behind_then s c.place k)))
+  task_faults s (task c k) = size_faults c.place k ++ (before_export s c.place k ++ (export_faults s c ++ (before_if s c.place k ++ (middle s c k ++ behind_then s c.place k))))
 
   -- `call`, `do`, `emit` and `catch`
   pub before_export : Scope → Spot → Kind → List Fault
@@ -139,7 +144,7 @@ abbrev mutual
   -- `for` and `fork`
   pub before_if : Scope → Spot → Kind → List Fault
   before_if s p (for l ts) = expression_faults (own s.around) (under (under p (codes "for")) (codes "in")) l.items
-  before_if s p (fork c ts) = fault_unless (nat_le (count_list ts) most_branches) (under p (codes "fork")) TooMany ++ named_faults (in_fork s) (first_places ts) 0 ts
+  before_if s p (fork c ts) = named_faults (in_fork s) (first_places ts) 0 ts
   before_if s p k = []
 
   -- `try`, `while` and `with`

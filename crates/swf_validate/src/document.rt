@@ -15,7 +15,7 @@ use crate::calls::calls_of;
 use crate::count::add_tasks;
 use crate::tasks::{list, task};
 use std::alloc::{AllocError, Global};
-use swf_cycles::calls_itself;
+use swf_cycles::calling_themselves;
 use swf_document::{Document, FaultKind, Faults, Named, NamedError, NamedRetry};
 use swf_scope::{
     Known, Names, Scope, Spot, Standard, Variables, error, filled, names_of_errors,
@@ -137,10 +137,10 @@ fn functions(
     ensures { OnOk result (out.new ≡ out.old ++ functions_faults (scope_of scope.now) (calls_of (scope_of scope.now).known.functions (tasks_of given.now)) 0 (tasks_of given.now)) }
 {
     let called = calls_of(alloc, &scope.known.functions, given)?;
+    let cycles = calling_themselves(alloc, &called)?;
     for (function, one) in given.iter().enumerate() {
-        let cycle = calls_itself(alloc, &called, function)?;
         let at = Spot::Task(&one.task.common.place);
-        tell_unless(alloc, !cycle, &at, FaultKind::FunctionCycle, out)?;
+        tell_unless(alloc, !cycles[function], &at, FaultKind::FunctionCycle, out)?;
         task(alloc, scope, &one.task, out)?;
     }
     Ok(())

@@ -8,7 +8,7 @@ ghost use Rattle.swf_scope.specs.Scope.{own, under, fault_unless, filled_faults,
 ghost use Rattle.swf_scope.specs.ScopeView.{scope_of, caught_by};
 ghost use Rattle.swf_scope.specs.Spots.{place_at};
 ghost use Rattle.swf_scope.specs.PartFaults.{filters_faults, raise_faults};
-ghost use Rattle.swf_validate.specs.TaskFaults.{before_output, before_then, case_faults, case_flow_faults, cases_faults, catch_faults, catch_retry_faults, count_list, most_branches};
+ghost use Rattle.swf_validate.specs.TaskFaults.{before_output, before_then, case_faults, case_flow_faults, cases_faults, catch_faults, catch_retry_faults, count_list, most_branches, size_faults};
 
 use std::alloc::{AllocError, Global};
 use swf_document::{
@@ -27,12 +27,32 @@ const MOST_BRANCHES: usize = 64;
 pub fn fork_size(
     alloc: Global,
     at: &Spot<'_>,
-    branches: &Tasks,
+    given: &Kind,
     out: &mut Faults,
 ) -> Result<(), AllocError>
-    ensures { OnOk result (out.new ≡ out.old ++ fault_unless (nat_le (count_list branches.now) most_branches) (place_at at.now) TooMany) }
+    ensures { OnOk result (out.new ≡ out.old ++ size_faults (place_at at.now) (kind_of given.now)) }
 {
-    let fits = branches.as_slice().len() <= MOST_BRANCHES;
+    match given {
+        Kind::Fork(spec) => branches(alloc, at, &spec.branches, out),
+        Kind::Call(_)
+        | Kind::Do(_)
+        | Kind::Emit(_)
+        | Kind::For(_)
+        | Kind::Listen(_)
+        | Kind::Raise(_)
+        | Kind::Run(_)
+        | Kind::Set(_)
+        | Kind::Switch(_)
+        | Kind::Try(_)
+        | Kind::Wait(_) => Ok(()),
+    }
+}
+
+/// The fault of too many branches.
+fn branches(alloc: Global, at: &Spot<'_>, given: &Tasks, out: &mut Faults) -> Result<(), AllocError>
+    ensures { OnOk result (out.new ≡ out.old ++ fault_unless (nat_le (count_list given.now) most_branches) (place_at at.now) TooMany) }
+{
+    let fits = given.as_slice().len() <= MOST_BRANCHES;
     tell_unless(alloc, fits, at, FaultKind::TooMany, out)
 }
 

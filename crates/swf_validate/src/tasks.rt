@@ -1,13 +1,12 @@
 // The faults of tasks.
-ghost use Rattle.std.specs.Prelude.{◌≡◌, ◌++◌, ◌∷◌, OnOk, codes, nat_le};
+ghost use Rattle.std.specs.Prelude.{◌≡◌, ◌++◌, ◌∷◌, OnOk, codes};
 ghost use Rattle.swf_document.specs.TaskNode.{kind_of, task_of, tasks_of, handler_of};
-ghost use Rattle.swf_document.specs.declared.fault.FaultKind.TheVariants.{TooMany};
 ghost use Rattle.swf_scope.specs.NamesView.{places_in};
-ghost use Rattle.swf_scope.specs.Scope.{own, under, fault_unless, expression_faults, condition_faults, template_faults};
+ghost use Rattle.swf_scope.specs.Scope.{own, under, expression_faults, condition_faults, template_faults};
 ghost use Rattle.swf_scope.specs.ScopeView.{scope_of, caught_by};
 ghost use Rattle.swf_scope.specs.Spots.{place_at};
 ghost use Rattle.swf_scope.specs.PartFaults.{with_faults};
-ghost use Rattle.swf_validate.specs.TaskFaults.{list_faults, named_faults, is_at, task_faults, before_export, before_if, behind_then, handler_faults, catch_faults, in_list, in_fork, with_variable, count_list, most_branches};
+ghost use Rattle.swf_validate.specs.TaskFaults.{list_faults, named_faults, is_at, task_faults, before_export, before_if, behind_then, handler_faults, catch_faults, in_list, in_fork, with_variable};
 
 use crate::common::{export, middle};
 use crate::kinds::{caught, fork_size};
@@ -82,6 +81,7 @@ pub fn task(
     ensures { OnOk result (out.new ≡ out.old ++ task_faults (scope_of scope.now) (task_of given.now)) }
 {
     let at = Spot::Task(&given.common.place);
+    fork_size(alloc, &at, &given.kind, out)?;
     before_export(alloc, &*scope, &at, &given.kind, out)?;
     export(alloc, &*scope, &given.common, out)?;
     before_if(alloc, &*scope, &at, &given.kind, out)?;
@@ -203,7 +203,7 @@ fn before_if(
 {
     match given {
         Kind::For(rounds) => items(alloc, &*scope, &*at, rounds, out),
-        Kind::Fork(spec) => fork(alloc, &*scope, &*at, spec, out),
+        Kind::Fork(spec) => fork(alloc, &*scope, spec, out),
         Kind::Call(_)
         | Kind::Do(_)
         | Kind::Emit(_)
@@ -217,19 +217,17 @@ fn before_if(
     }
 }
 
-/// The faults of a fork. Its branches are no targets, and nothing in them exports.
+/// The faults of the branches of a fork. They are no targets, and nothing in them exports.
 #[cycle(tasks)]
 #[inline(never)]
 fn fork(
     alloc: Global,
     scope: &Scope<'_>,
-    at: &Spot<'_>,
     given: &ForkSpec,
     out: &mut Faults,
 ) -> Result<(), AllocError>
-    ensures { OnOk result (out.new ≡ out.old ++ (fault_unless (nat_le (count_list given.now.branches) most_branches) (under (place_at at.now) (codes "fork")) TooMany ++ list_faults (in_fork (scope_of scope.now)) given.now.branches)) }
+    ensures { OnOk result (out.new ≡ out.old ++ list_faults (in_fork (scope_of scope.now)) given.now.branches) }
 {
-    fork_size(alloc, &Spot::Word(&*at, "fork"), &given.branches, out)?;
     let places = names_of_tasks(alloc, given.branches.as_slice())?;
     let targets = Names::new(alloc);
     let inner = Scope {

@@ -18,9 +18,8 @@ use Rattle.swf_meaning.specs.declared.label.Label.{Label}
 use Rattle.swf_meaning.specs.declared.label.Label.TheVariants.{Load, Start, Event as Told, Moment, Step}
 use Rattle.swf_meaning.specs.Complete.{Stepped}
 use Rattle.swf_meaning.specs.Offer.{offered_all}
-use Rattle.swf_meaning.specs.World.{World, Instance, new_instance, sight, with_step}
+use Rattle.swf_meaning.specs.World.{World, Instance, new_instance, step_at, with_step}
 use Rattle.swf_meaning.specs.Answer.{instance_at}
-use Rattle.swf_meaning.specs.Local.{local}
 use Rattle.swf_meaning.specs.Strands.{can_go}
 use Rattle.swf_runs.specs.After.{after, loaded, load_faults, accepted, is_used, counted, document_at, most_documents, most_instances, with_document, with_instance, with_event, with_instances, sent, taken_by}
 use Rattle.swf_tasks.specs.Prepares.{applied}
@@ -152,7 +151,7 @@ moment_prepares w moment within t =
 telling : (w : World) (e : Event) (k : ChangeKind) → is_used (keys.Event e.source e.id) w ≡ false → TellsTo w.instances e k → suits w k × (after w (Told e) ≡ Some (changed_by w k))
 telling w e (kinds.Event used heard) new t =
     let put : offered_all e w.instances ≡ put_all heard.items w.instances = sym (t.1.put ∙ offered_past (length w.instances) e w.instances (omega arith)) in (
-      record { source = e.source; id = e.id; used_is = t.0; new = ap (λ k. is_used k w) t.0 ∙ new; from = t.1.heard; few = t.1.few },
+      record { source = e.source; id = e.id; used_is = t.0; new = ap (λ k. is_used k w) t.0 ∙ new; from = t.1.heard },
       ap (λ b. cond b None (Some (with_event w e))) new ∙ (λ i. Some (record (counted (sym t.0 i) w) { instances = put i })),
     )
 telling w e k new t = absurd t
@@ -170,9 +169,9 @@ offered_by None is = is
 offered_by (Some e) is = offered_all e is
 
 -- those that took it leave the one of the number as it is
-sent_from : (n : ℕ) (o : Option Event) (is : List Instance) (hs : List Hearing) → IsSent n o is hs → (slice_get (put_all hs is) n ≡ slice_get is n) × AllByRecursion (IsHeardFrom is) hs × (length hs ≤ length is)
-sent_from n None is hs s = subst (λ hs. (slice_get (put_all hs is) n ≡ slice_get is n) × AllByRecursion (IsHeardFrom is) hs × (length hs ≤ length is)) (sym s) (refl, tt, omega arith)
-sent_from n (Some e) is hs s = (ap (λ is. slice_get is n) s.put ∙ offered_apart n e is, s.heard, s.few)
+sent_from : (n : ℕ) (o : Option Event) (is : List Instance) (hs : List Hearing) → IsSent n o is hs → (slice_get (put_all hs is) n ≡ slice_get is n) × AllByRecursion (IsHeardFrom is) hs
+sent_from n None is hs s = subst (λ hs. (slice_get (put_all hs is) n ≡ slice_get is n) × AllByRecursion (IsHeardFrom is) hs) (sym s) (refl, tt)
+sent_from n (Some e) is hs s = (ap (λ is. slice_get is n) s.put ∙ offered_apart n e is, s.heard)
 
 -- the instances after a step, where the event that goes out is offered to the others, and to the instance itself
 sent_to : (n : ℕ) (j : Instance) (o : Option Event) (is : List Instance) (hs : List Hearing) → IsSent n o is hs → put_at n (offered_own o j) (put_all hs is) ≡ offered_by o (put_at n j is)
@@ -185,11 +184,11 @@ sent_is w js None = λ i. record w { instances = js; outbox = sym (append-nil w.
 sent_is w js (Some e) = refl
 
 -- the world after a step that was prepared
-world_after : (w : World) (id strand : List ℕ) (n : ℕ) (step : Prepared) (until : Option ℕ) (o : Option Event) (hs : List Hearing) → StepsFirst w id strand n → IsReady w.now n strand w.instances step until o → IsSent n o w.instances hs →
+world_after : (w : World) (id strand : List ℕ) (n : ℕ) (step : Prepared) (o : Option Event) (hs : List Hearing) → StepsFirst w id strand n → IsReady w.now n strand w.instances step o → IsSent n o w.instances hs →
     after w (Step id strand) ≡ Some (with_stepped w n step o hs)
-world_after w id strand n step until o hs first r s = by (local (sight w.now r.instance) strand r.instance.node) refl r.stepped
+world_after w id strand n step o hs first r s = by (step_at w.now strand r.instance) refl r.stepped
   where
-    by : (x : Option Stepped) → local (sight w.now r.instance) strand r.instance.node ≡ x → option_map (after_step r.instance) x ≡ Some (applied step r.instance, o) → after w (Step id strand) ≡ Some (with_stepped w n step o hs)
+    by : (x : Option Stepped) → step_at w.now strand r.instance ≡ x → option_map (after_step r.instance) x ≡ Some (applied step r.instance, o) → after w (Step id strand) ≡ Some (with_stepped w n step o hs)
     by None e q = cc
     by (Some m) e q =
         let p : after_step r.instance m ≡ (applied step r.instance, o) = same_Some (after_step r.instance m) (applied step r.instance, o) q in
@@ -205,11 +204,11 @@ world_after w id strand n step until o hs first r s = by (local (sight w.now r.i
 
 -- the change of a step that is not refused
 stepping : (w : World) (id strand : List ℕ) (n : ℕ) (k : ChangeKind) → StepsFirst w id strand n → Steps w.now n strand w.instances k → suits w k × (after w (Step id strand) ≡ Some (changed_by w k))
-stepping w id strand n (kinds.Step m step until o heard) first s =
+stepping w id strand n (kinds.Step m step o heard) first s =
     let from = sent_from n o w.instances heard.items s.2 in
-    subst (λ m. SuitsStep w m step until o heard.items × (after w (Step id strand) ≡ Some (with_stepped w m step o heard.items))) (sym s.0) (
-      record { strand = strand; ready = s.1; apart = from.0; from = from.1; few = from.2 },
-      world_after w id strand n step until o heard.items first s.1 s.2,
+    subst (λ m. SuitsStep w m step o heard.items × (after w (Step id strand) ≡ Some (with_stepped w m step o heard.items))) (sym s.0) (
+      record { strand = strand; ready = s.1; apart = from.0; from = from.1 },
+      world_after w id strand n step o heard.items first s.1 s.2,
     )
 stepping w id strand n k first s = absurd s
 

@@ -1,9 +1,8 @@
 -- The maps stand for the world that a change makes, and go on to agree with each other.
-use Rattle.std.proofs.Common.{◌≡◌, ◌∙◌, ap, sym, refl, subst, cond, ℕ, zero, suc, ◌+◌, ◌<◌, ◌==◌, ◌&&◌, ◌||◌, ◌⊎◌, inl, inr, List, [], ◌∷◌, ◌++◌, length, slice_get, Bool, true, false, is_some, Option, Some, None, arith, length-append}
-use Rattle.std.proofs.lemmas.Option.{slice_get_within}
+use Rattle.std.proofs.Common.{◌≡◌, ◌∙◌, ap, sym, refl, subst, cond, ℕ, zero, suc, ◌+◌, ◌<◌, ◌==◌, ◌||◌, ◌⊎◌, inl, inr, List, [], ◌∷◌, ◌++◌, length, slice_get, Bool, true, false, is_some, Option, Some, None, arith, length-append}
 use Rattle.std.proofs.lemmas.List.{map-append}
 use Rattle.std.proofs.lemmas.List.Folds.{list_any-append}
-use Rattle.std.proofs.lemmas.Bool.{and_from, or_cases, or_left, or_right, or_parts, or_from, eq-eqb, ne_eqb}
+use Rattle.std.proofs.lemmas.Bool.{or_parts, or_from, ne_eqb}
 use Rattle.std.proofs.lemmas.Bool.Decides.{Decides-eqb}
 use Rattle.std.specs.List.{AllByRecursion, list_any}
 use Rattle.std.specs.Map.{lookup, keys_of}
@@ -17,23 +16,21 @@ use Rattle.swf_meaning.specs.Wake.{waits}
 use Rattle.swf_meaning.specs.World.{Instance}
 use Rattle.swf_runs.specs.After.{is_used, with_document, with_instance}
 use Rattle.swf_world.specs.declared.world.Loaded.{Loaded}
-use Rattle.swf_turns.specs.declared.timers.Timer.{Timer}
 use Rattle.swf_world.specs.Held.{Held}
 use Rattle.swf_world.specs.UsedKey.{docs_alike, doc_eq, key_eq, keys_alike}
 use Rattle.swf_world.specs.Fields.{instances_in, loaded_in, loaded_of, world_of, most_labels}
 use Rattle.swf_world.specs.Early.{IsEarly}
 use Rattle.swf_world.specs.Kept.{Kept, New, IsNamed, IsPlaced}
-use Rattle.swf_world.specs.Offers.{put_at}
+use Rattle.swf_world.specs.Offers.{put_at, mark}
 use Rattle.swf_turns.specs.Line.{is_among}
 use Rattle.swf_world.specs.Queued.{Queued, enabled_at}
+use Rattle.swf_world.specs.Waits.{alarms_of}
 use Rattle.swf_turns.specs.Line.{Line}
-use Rattle.swf_turns.specs.Waits.{is_set}
-use Rattle.swf_tasks.specs.Prepares.{is_at, waits_for}
-use Rattle.swf_world.specs.Waits.{above, waits_at}
+use Rattle.swf_strands.specs.Alarm.{alarm_of}
+use Rattle.std.specs.Prelude.{slice_set, map}
 use Rattle.swf_world.proofs.MachineLemmas.{enabled_put, length_put}
-use Rattle.swf_world.proofs.OfferLemmas.{all_pushed}
-use Rattle.swf_world.proofs.TimerLemmas.{set_within}
-use Rattle.swf_world.proofs.WaitLemmas.{at_above, waits_there, waits_put, waits_pushed}
+use Rattle.swf_world.proofs.OfferLemmas.{all_pushed, marks_length}
+use Rattle.swf_world.proofs.WaitLemmas.{alarms_again, alarms_pushed, alarms_set}
 
 -- a key is found where one of the keys passes
 found_any : {K V : Type 0} (test : K → Bool) (es : List (K × V)) → is_some (lookup test es) ≡ list_any test (keys_of es)
@@ -109,10 +106,10 @@ new_told ds is ks now n used source id new e = record {
   moment = λ m w. still_not (keys.Moment m) ks used n (new.moment m w) (ap (λ x. same_key (keys.Moment m) x) e);
 }
 
-pub kept_loaded : (ds : List (DocKey × Loaded)) (is : List (List ℕ × Instance)) (ks : List (Key × ℕ)) (now n : ℕ) (turns : Line) (timers : List Timer) (key : DocKey) (used : Key) (l : Loaded) →
-    Kept ds is ks now n turns timers → IsNamed (key, l) → used ≡ keys.Document l.document.key → n < most_labels →
-    Kept (ds ++ (key, l) ∷ []) is (ks ++ (used, n) ∷ []) now (n + 1) turns timers
-kept_loaded ds is ks now n turns timers key used l kept named e few = record {
+pub kept_loaded : (ds : List (DocKey × Loaded)) (is : List (List ℕ × Instance)) (ks : List (Key × ℕ)) (now n : ℕ) (turns : Line) (alarms : List (Option ℕ)) (key : DocKey) (used : Key) (l : Loaded) →
+    Kept ds is ks now n turns alarms → IsNamed (key, l) → used ≡ keys.Document l.document.key → n < most_labels →
+    Kept (ds ++ (key, l) ∷ []) is (ks ++ (used, n) ∷ []) now (n + 1) turns alarms
+kept_loaded ds is ks now n turns alarms key used l kept named e few = record {
   named = all_pushed IsNamed ds (key, l) kept.named named;
   placed = kept.placed;
   new = new_loaded ds is ks now n key used l kept.new named e;
@@ -138,54 +135,53 @@ or_second : (a b : Bool) → b ≡ true → (a || b) ≡ true
 or_second true b e = refl
 or_second false b e = e
 
--- a new instance stands behind all others, and does not wait
-queued_pushed : (now : ℕ) (xs : List Instance) (x : Instance) (queue : List ℕ) (timers : List Timer) (n : ℕ) → n ≡ length xs → waits x.node ≡ [] → Queued now xs queue timers → Queued now (xs ++ x ∷ []) (queue ++ n ∷ []) timers
-queued_pushed now xs x queue timers n e awake q = record {
+-- a new instance stands behind all others
+queued_pushed : (now : ℕ) (xs : List Instance) (x : Instance) (queue : List ℕ) (n : ℕ) → n ≡ length xs → Queued now xs queue → Queued now (xs ++ x ∷ []) (queue ++ n ∷ [])
+queued_pushed now xs x queue n e q = record {
   all = λ m h. among_pushed m n queue
       ∙ elim (enabled_pushed now xs x m h) [
         | inl g ↦ or_first (is_among m queue) ((m == n) || false) (q.all m g)
         | inr g ↦ or_second (is_among m queue) ((m == n) || false) (or_first (m == n) false ((Decides-eqb m n).1 (g ∙ sym e)))
       ];
-  waits = λ k m later w. q.waits k m later (sym (waits_pushed xs x k m awake) ∙ w);
-  known = λ k m s. omega (arith, q.known k m s, length-append xs (x ∷ []));
 }
 
-pub kept_started : (ds : List (DocKey × Loaded)) (is : List (List ℕ × Instance)) (ks : List (Key × ℕ)) (now n : ℕ) (turns next : Line) (timers : List Timer) (id : List ℕ) (used : Key) (i : Instance) →
-    Kept ds is ks now n turns timers → IsPlaced (id, i) → used ≡ keys.Instance id → waits i.node ≡ [] → n < most_labels → next.numbers ≡ turns.numbers ++ turns.count ∷ [] → next.count ≡ turns.count + 1 →
-    Kept ds (is ++ (id, i) ∷ []) (ks ++ (used, n) ∷ []) now (n + 1) next timers
-kept_started ds is ks now n turns next timers id used i kept placed e awake few numbers count =
+pub kept_started : (ds : List (DocKey × Loaded)) (is : List (List ℕ × Instance)) (ks : List (Key × ℕ)) (now n : ℕ) (turns next : Line) (alarms more : List (Option ℕ)) (id : List ℕ) (used : Key) (i : Instance) →
+    Kept ds is ks now n turns alarms → IsPlaced (id, i) → used ≡ keys.Instance id → waits i.node ≡ [] → n < most_labels → next.numbers ≡ turns.numbers ++ turns.count ∷ [] → next.count ≡ turns.count + 1 → more ≡ alarms ++ None ∷ [] →
+    Kept ds (is ++ (id, i) ∷ []) (ks ++ (used, n) ∷ []) now (n + 1) next more
+kept_started ds is ks now n turns next alarms more id used i kept placed e awake few numbers count added =
     let all : instances_in (is ++ (id, i) ∷ []) ≡ instances_in is ++ i ∷ [] = map-append (λ e. e.1) is ((id, i) ∷ []) in
     record {
       named = kept.named;
       placed = all_pushed IsPlaced is (id, i) kept.placed placed;
       new = new_started ds is ks now n id used i kept.new e;
       waiting = record {
-        queued = subst (λ xs. Queued now xs next.numbers timers) (sym all) (subst (λ q. Queued now (instances_in is ++ i ∷ []) q timers) (sym numbers)
-            (queued_pushed now (instances_in is) i turns.numbers timers turns.count kept.waiting.count awake kept.waiting.queued));
+        queued = subst (λ xs. Queued now xs next.numbers) (sym all) (subst (λ q. Queued now (instances_in is ++ i ∷ []) q) (sym numbers)
+            (queued_pushed now (instances_in is) i turns.numbers turns.count kept.waiting.count kept.waiting.queued));
         count = count ∙ ap (λ n. n + 1) kept.waiting.count ∙ sym (length-append (instances_in is) (i ∷ [])) ∙ sym (ap length all);
+        own = added ∙ ap (λ xs. xs ++ None ∷ []) kept.waiting.own ∙ alarms_pushed (instances_in is) i awake ∙ sym (ap alarms_of all);
       };
       early = early_pushed ks used n kept.early few;
       few = omega arith;
     }
 
 -- a moment that was reached
-pub kept_reached : (ds : List (DocKey × Loaded)) (is : List (List ℕ × Instance)) (ks : List (Key × ℕ)) (now n moment used : ℕ) (turns next : Line) (timers left : List Timer) →
-    Kept ds is ks now n turns timers → used ≡ moment → now < moment → n < most_labels → Queued moment (instances_in is) next.numbers left → next.count ≡ turns.count →
-    Kept ds is (ks ++ (keys.Moment used, n) ∷ []) moment (n + 1) next left
-kept_reached ds is ks now n moment used turns next timers left kept same later few queued count = record {
+pub kept_reached : (ds : List (DocKey × Loaded)) (is : List (List ℕ × Instance)) (ks : List (Key × ℕ)) (now n moment used : ℕ) (turns next : Line) (alarms : List (Option ℕ)) →
+    Kept ds is ks now n turns alarms → used ≡ moment → now < moment → n < most_labels → Queued moment (instances_in is) next.numbers → next.count ≡ turns.count →
+    Kept ds is (ks ++ (keys.Moment used, n) ∷ []) moment (n + 1) next alarms
+kept_reached ds is ks now n moment used turns next alarms kept same later few queued count = record {
   named = kept.named;
   placed = kept.placed;
   new = subst (λ m. New ds is (ks ++ (keys.Moment m, n) ∷ []) moment) (sym same) (new_reached ds is ks now n moment kept.new later);
-  waiting = record { queued = queued; count = count ∙ kept.waiting.count };
+  waiting = record { queued = queued; count = count ∙ kept.waiting.count; own = kept.waiting.own };
   early = early_pushed ks (keys.Moment used) n kept.early few;
   few = omega arith;
 }
 
 -- those that took an event are in their places, and in the queue
-pub kept_heard : (ds : List (DocKey × Loaded)) (is js : List (List ℕ × Instance)) (ks : List (Key × ℕ)) (now n : ℕ) (turns next : Line) (timers : List Timer) →
-    Kept ds is ks now n turns timers → AllByRecursion IsPlaced js → keys_of js ≡ keys_of is → length (instances_in js) ≡ length (instances_in is) → Queued now (instances_in js) next.numbers timers → next.count ≡ turns.count →
-    Kept ds js ks now n next timers
-kept_heard ds is js ks now n turns next timers kept placed ids long queued count = record {
+pub kept_heard : (ds : List (DocKey × Loaded)) (is js : List (List ℕ × Instance)) (ks : List (Key × ℕ)) (now n : ℕ) (turns next : Line) (alarms : List (Option ℕ)) →
+    Kept ds is ks now n turns alarms → AllByRecursion IsPlaced js → keys_of js ≡ keys_of is → map mark (instances_in js) ≡ map mark (instances_in is) → Queued now (instances_in js) next.numbers → next.count ≡ turns.count →
+    Kept ds js ks now n next alarms
+kept_heard ds is js ks now n turns next alarms kept placed ids marks queued count = record {
   named = kept.named;
   placed = placed;
   new = record {
@@ -193,15 +189,19 @@ kept_heard ds is js ks now n turns next timers kept placed ids long queued count
     instance = λ id h. none_again (same id) is js ids (kept.new.instance id h);
     moment = kept.new.moment;
   };
-  waiting = record { queued = queued; count = count ∙ kept.waiting.count ∙ sym long };
+  waiting = record {
+    queued = queued;
+    count = count ∙ kept.waiting.count ∙ sym (marks_length (instances_in js) (instances_in is) marks);
+    own = kept.waiting.own ∙ sym (alarms_again (instances_in is) (instances_in js) marks);
+  };
   early = kept.early;
   few = kept.few;
 }
 
 -- the key of an event was used
-pub kept_told : (ds : List (DocKey × Loaded)) (is : List (List ℕ × Instance)) (ks : List (Key × ℕ)) (now n : ℕ) (turns : Line) (timers : List Timer) (used : Key) (source id : List ℕ) →
-    Kept ds is ks now n turns timers → used ≡ keys.Event source id → n < most_labels → Kept ds is (ks ++ (used, n) ∷ []) now (n + 1) turns timers
-kept_told ds is ks now n turns timers used source id kept e few = record {
+pub kept_told : (ds : List (DocKey × Loaded)) (is : List (List ℕ × Instance)) (ks : List (Key × ℕ)) (now n : ℕ) (turns : Line) (alarms : List (Option ℕ)) (used : Key) (source id : List ℕ) →
+    Kept ds is ks now n turns alarms → used ≡ keys.Event source id → n < most_labels → Kept ds is (ks ++ (used, n) ∷ []) now (n + 1) turns alarms
+kept_told ds is ks now n turns alarms used source id kept e few = record {
   named = kept.named;
   placed = kept.placed;
   new = new_told ds is ks now n used source id kept.new e;
@@ -221,32 +221,21 @@ started_world ds is ks now es n id used j placed e =
     let own : used ≡ keys.Instance j.id = e ∙ ap keys.Instance placed in
     λ i. record { documents = loaded_in ds; instances = map-append (λ e. e.1) is ((id, j) ∷ []) i; keys = ks ++ (own i, n) ∷ []; now = now; outbox = es; count = n + 1 }
 
--- an instance that was in the queue took a step, and the timer of the moment was set for which it began to wait
-queued_stepped : (now : ℕ) (is : List Instance) (queue : List ℕ) (timers next : List Timer) (n : ℕ) (i j : Instance) (until : Option ℕ) → Queued now is queue timers → slice_get is n ≡ Some i → is_among n queue ≡ true →
-    ((m : ℕ) → waits_for m j.node ≡ true → (is_at m until || waits_for m i.node) ≡ true) →
-    ((k m : ℕ) → is_set k m next ≡ (((k == n) && is_at m (above now until)) || is_set k m timers)) → Queued now (put_at n j is) queue next
-queued_stepped now is queue timers next n i j until q there among waits set = record {
+-- an instance that was in the queue took a step
+queued_stepped : (now : ℕ) (is : List Instance) (queue : List ℕ) (n : ℕ) (j : Instance) → Queued now is queue → is_among n queue ≡ true → Queued now (put_at n j is) queue
+queued_stepped now is queue n j q among = record {
   all = λ m h. elim (enabled_put now is n m j h) [
     | inl e ↦ ap (λ k. is_among k queue) e ∙ among
     | inr e ↦ q.all m e
   ];
-  waits = λ k m later w. set k m ∙ elim (waits_put is n k m j w) [
-    | inl h ↦ elim (or_cases (is_at m until) (waits_for m i.node) (waits m h.1)) [
-      | inl e ↦ or_left ((k == n) && is_at m (above now until)) (is_set k m timers) (and_from (k == n) (is_at m (above now until)) (eq-eqb k n h.0) (at_above now m until later e))
-      | inr e ↦ or_right ((k == n) && is_at m (above now until)) (is_set k m timers) (q.waits k m later (ap (λ k. waits_at is k m) h.0 ∙ waits_there is n m i there ∙ e))
-    ]
-    | inr h ↦ or_right ((k == n) && is_at m (above now until)) (is_set k m timers) (q.waits k m later h)
-  ];
-  known = λ k m s. omega (arith, length_put is n j, set_within k n m (length is) (is_at m (above now until)) next timers (set k m) (slice_get_within is n i there) (q.known k m) s);
 }
 
-pub kept_stepped : (ds : List (DocKey × Loaded)) (is js : List (List ℕ × Instance)) (ks : List (Key × ℕ)) (now n : ℕ) (turns : Line) (timers next : List Timer) (number : ℕ) (i j : Instance) (until : Option ℕ) →
-    Kept ds is ks now n turns timers → slice_get (instances_in is) number ≡ Some i → is_among number turns.numbers ≡ true → n < most_labels →
-    instances_in js ≡ put_at number j (instances_in is) → AllByRecursion IsPlaced js → keys_of js ≡ keys_of is →
-    ((m : ℕ) → waits_for m j.node ≡ true → (is_at m until || waits_for m i.node) ≡ true) →
-    ((k m : ℕ) → is_set k m next ≡ (((k == number) && is_at m (above now until)) || is_set k m timers)) →
+-- and its alarm was set, which is that of the instance that stands there then
+pub kept_stepped : (ds : List (DocKey × Loaded)) (is js : List (List ℕ × Instance)) (ks : List (Key × ℕ)) (now n : ℕ) (turns : Line) (alarms next : List (Option ℕ)) (number : ℕ) (i j k : Instance) →
+    Kept ds is ks now n turns alarms → slice_get (instances_in is) number ≡ Some i → is_among number turns.numbers ≡ true → n < most_labels →
+    instances_in js ≡ put_at number j (instances_in is) → AllByRecursion IsPlaced js → keys_of js ≡ keys_of is → slice_get (instances_in js) number ≡ Some k → next ≡ slice_set alarms number (alarm_of k.node) →
     Kept ds js ks now (n + 1) turns next
-kept_stepped ds is js ks now n turns timers next number i j until kept there among few stepped placed ids waits set = record {
+kept_stepped ds is js ks now n turns alarms next number i j k kept there among few stepped placed ids stands set = record {
   named = kept.named;
   placed = placed;
   new = record {
@@ -255,8 +244,9 @@ kept_stepped ds is js ks now n turns timers next number i j until kept there amo
     moment = kept.new.moment;
   };
   waiting = record {
-    queued = subst (λ xs. Queued now xs turns.numbers next) (sym stepped) (queued_stepped now (instances_in is) turns.numbers timers next number i j until kept.waiting.queued there among waits set);
+    queued = subst (λ xs. Queued now xs turns.numbers) (sym stepped) (queued_stepped now (instances_in is) turns.numbers number j kept.waiting.queued among);
     count = kept.waiting.count ∙ sym (length_put (instances_in is) number j) ∙ sym (ap length stepped);
+    own = set ∙ ap (λ xs. slice_set xs number (alarm_of k.node)) kept.waiting.own ∙ alarms_set (instances_in is) (instances_in js) number i j k there stepped stands;
   };
   early = kept.early;
   few = omega arith;

@@ -4,15 +4,12 @@ use Rattle.std.proofs.lemmas.Bool.{eq-eqb, or_left, or_right}
 use Rattle.std.proofs.lemmas.List.{length-map}
 use Rattle.std.proofs.lemmas.Option.{same_Some, slice_get_within}
 use Rattle.swf_meaning.specs.World.{Instance}
-use Rattle.swf_turns.specs.declared.timers.Timer.{Timer}
 use Rattle.swf_tasks.specs.declared.machine.Step.TheVariants.{Whole}
 use Rattle.swf_world.specs.Changes.{FitsAt, take_at}
 use Rattle.swf_world.specs.Offers.{put_at, mark}
 use Rattle.swf_turns.specs.Line.{is_among}
 use Rattle.swf_world.specs.Queued.{Queued}
-use Rattle.swf_world.proofs.MachineLemmas.{enabled_put, length_put}
-use Rattle.swf_world.proofs.OfferLemmas.{marks_put}
-use Rattle.swf_world.proofs.WaitLemmas.{waits_again}
+use Rattle.swf_world.proofs.MachineLemmas.{enabled_put}
 
 -- it is one of those that there are
 pub heard_within : (is : List Instance) (n : ℕ) (j : Instance) → slice_get (map mark is) n ≡ Some (mark j) → n < length is
@@ -29,13 +26,10 @@ whole_put n j [] = refl
 whole_put zero j (i ∷ is) = refl
 whole_put (suc n) j (i ∷ is) = ap (λ is. i ∷ is) (whole_put n j is)
 
-pub queued_heard : (now : ℕ) (is : List Instance) (queue next : List ℕ) (timers : List Timer) (n : ℕ) (j : Instance) → slice_get (map mark is) n ≡ Some (mark j) → ((m : ℕ) → is_among m next ≡ (is_among m queue || (m == n))) →
-    Queued now is queue timers → Queued now (put_at n j is) next timers
-queued_heard now is queue next timers n j from among q = record {
+pub queued_heard : (now : ℕ) (is : List Instance) (queue next : List ℕ) (n : ℕ) (j : Instance) → ((m : ℕ) → is_among m next ≡ (is_among m queue || (m == n))) → Queued now is queue → Queued now (put_at n j is) next
+queued_heard now is queue next n j among q = record {
   all = λ m h. among m ∙ elim (enabled_put now is n m j h) [
     | inl e ↦ or_right (is_among m queue) (m == n) (eq-eqb m n e)
     | inr e ↦ or_left (is_among m queue) (m == n) (q.all m e)
   ];
-  waits = λ k m later w. q.waits k m later (waits_again is (put_at n j is) k m (sym (marks_put is n j from)) ∙ w);
-  known = λ k m s. omega (arith, q.known k m s, length_put is n j);
 }

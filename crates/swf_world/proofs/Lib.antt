@@ -2,7 +2,6 @@ pub mod MachineLemmas
 pub mod OfferLemmas
 pub mod WaitLemmas
 pub mod HeardLemmas
-pub mod TimerLemmas
 pub mod BuiltLemmas
 pub mod ReportLemmas
 pub mod Lookups

@@ -7,10 +7,9 @@ use Rattle.swf_text.specs.Same.{same}
 use Rattle.swf_cloudevents.specs.declared.event.Event.{Event}
 use Rattle.swf_document.specs.declared.document.DocKey.{DocKey}
 use Rattle.swf_meaning.specs.Complete.{Stepped}
-use Rattle.swf_meaning.specs.Local.{local}
 use Rattle.swf_meaning.specs.declared.key.Key.{Key}
 use Rattle.swf_runs.specs.Keys.{same_doc, same_key}
-use Rattle.swf_meaning.specs.World.{Instance, sight, with_step}
+use Rattle.swf_meaning.specs.World.{Instance, step_at, with_step}
 use Rattle.swf_meaning.specs.Answer.{instance_at}
 use Rattle.swf_runs.specs.After.{document_at, stepped}
 use Rattle.swf_world.specs.declared.key.Sought.{Sought}
@@ -66,16 +65,16 @@ other_steps i p = (i ∷ p.0, p.1)
 
 -- the first instance of an id takes the step
 pub stepped_there : (now : ℕ) (id strand : List ℕ) (is : List (List ℕ × Instance)) (n : ℕ) (i : Instance) (m : Stepped) → AllByRecursion IsPlaced is → position_or_len (same id) (keys_of is) ≡ n → n < length is →
-    slice_get (instances_in is) n ≡ Some i → local (sight now i) strand i.node ≡ Some m → stepped now id strand (instances_in is) ≡ Some (put_at n (with_step i m) (instances_in is), m.emitted)
+    slice_get (instances_in is) n ≡ Some i → step_at now strand i ≡ Some m → stepped now id strand (instances_in is) ≡ Some (put_at n (with_step i m) (instances_in is), m.emitted)
 stepped_there now id strand [] n i m placed p w at e = absurd (omega arith)
 stepped_there now id strand (x ∷ xs) n i m placed p w at e =
-    ap (λ b. cond b (option_map (first_steps x.1 (instances_in xs)) (local (sight now x.1) strand x.1.node)) (option_map (other_steps x.1) (stepped now id strand (instances_in xs)))) (ap (same id) (sym placed.0))
+    ap (λ b. cond b (option_map (first_steps x.1 (instances_in xs)) (step_at now strand x.1)) (option_map (other_steps x.1) (stepped now id strand (instances_in xs)))) (ap (same id) (sym placed.0))
     ∙ by (same id x.0) n p w at (λ k q v there. stepped_there now id strand xs k i m placed.1 q v there e)
   where
     by : (b : Bool) (n : ℕ) → cond (not b) (1 + position_or_len (same id) (keys_of xs)) 0 ≡ n → n < length (x ∷ xs) → slice_get (instances_in (x ∷ xs)) n ≡ Some i →
         ((k : ℕ) → position_or_len (same id) (keys_of xs) ≡ k → k < length xs → slice_get (instances_in xs) k ≡ Some i → stepped now id strand (instances_in xs) ≡ Some (put_at k (with_step i m) (instances_in xs), m.emitted)) →
-        cond b (option_map (first_steps x.1 (instances_in xs)) (local (sight now x.1) strand x.1.node)) (option_map (other_steps x.1) (stepped now id strand (instances_in xs))) ≡ Some (put_at n (with_step i m) (instances_in (x ∷ xs)), m.emitted)
-    by true zero p w at rest = ap (λ y. option_map (first_steps y (instances_in xs)) (local (sight now y) strand y.node)) (same_Some x.1 i at) ∙ ap (option_map (first_steps i (instances_in xs))) e
+        cond b (option_map (first_steps x.1 (instances_in xs)) (step_at now strand x.1)) (option_map (other_steps x.1) (stepped now id strand (instances_in xs))) ≡ Some (put_at n (with_step i m) (instances_in (x ∷ xs)), m.emitted)
+    by true zero p w at rest = ap (λ y. option_map (first_steps y (instances_in xs)) (step_at now strand y)) (same_Some x.1 i at) ∙ ap (option_map (first_steps i (instances_in xs))) e
     by true (suc n) p w at rest = absurd (omega arith)
     by false zero p w at rest = absurd (omega arith)
     by false (suc n) p w at rest = ap (option_map (other_steps x.1)) (rest n (omega arith) (omega arith) at)

@@ -1,72 +1,18 @@
 -- What an offer leaves as it is, and how the places of those that take an event are written one after another.
-use Rattle.std.proofs.Common.{◌≡◌, ◌≢◌, ◌∙◌, refl, ap, sym, subst, cond, ℕ, zero, suc, ◌+◌, ◌≤◌, List, [], ◌∷◌, ◌++◌, length, map, take, nat_lt, Bool, true, false, Option, Some, None, option_map, slice_get, arith, add-one, length-append, append-nil}
+use Rattle.std.proofs.Common.{◌≡◌, ◌≢◌, ◌∙◌, refl, ap, sym, subst, cond, ℕ, zero, suc, ◌+◌, ◌≤◌, List, [], ◌∷◌, ◌++◌, length, map, take, nat_lt, Bool, true, false, Some, option_map, slice_get, arith, add-one, append-nil}
 use Rattle.std.proofs.lemmas.Option.{same_Some, slice_get-map}
 use Rattle.std.proofs.lemmas.Bool.{ltb-false}
 use Rattle.std.proofs.lemmas.List.{length-map}
 use Rattle.std.specs.List.{AllByRecursion, fold}
-use Rattle.swf_value.specs.Value.{Members}
 use Rattle.swf_cloudevents.specs.declared.event.Event.{Event}
-use Rattle.swf_document.specs.Task.{Task}
-use Rattle.swf_meaning.specs.Node.{Node, Fresh, Live, Done, Fault, Inside, At, Later, Sleep, Hear, Forked, Nodes, no_nodes, branch}
-use Rattle.swf_meaning.specs.Offer.{or_same, takes_in, offered, offered_inside, offered_among, offered_one, takers_in, offered_all, takers}
-use Rattle.swf_meaning.specs.Parts.{kind_of}
-use Rattle.swf_meaning.specs.Wake.{waits, waits_inside, waits_among}
+use Rattle.swf_meaning.specs.Offer.{offered_one, takers_in, offered_all, takers}
 use Rattle.swf_meaning.specs.World.{Instance}
-use Rattle.swf_meaning.specs.declared.heard.Heard.{Heard}
+use Rattle.swf_runs.proofs.OfferLemmas.{one_untaken, waits_offered}
 use Rattle.swf_world.specs.declared.offer.Hearing.{Hearing}
 use Rattle.swf_world.specs.Offers.{put_at, put_all, offered_but, mark, IsHeardFrom, IsOffer}
 
--- an offer does not change the moments that strands wait for
-or_same_waits : (bound : Members) (hs : List Heard) (o : Option (Members × List Heard)) → waits_inside (or_same bound hs o).0 ≡ []
-or_same_waits bound hs None = refl
-or_same_waits bound hs (Some p) = refl
-
-mutual
-  pub waits_offered : (e : Event) (n : Node) → waits (offered e n).0 ≡ waits n
-  waits_offered e (Fresh t v) = refl
-  waits_offered e (Live t v u k) = waits_inside_offered e t k
-  waits_offered e (Done w f) = refl
-  waits_offered e (Fault p) = refl
-
-  waits_inside_offered : (e : Event) (t : Task) (k : Inside) → waits_inside (offered_inside e t k).0 ≡ waits_inside k
-  waits_inside_offered e t (At r i n) = waits_offered e n
-  waits_inside_offered e t (Later n m) = refl
-  waits_inside_offered e t (Sleep m) = refl
-  waits_inside_offered e t (Hear bound hs) = or_same_waits bound hs (takes_in (kind_of t) bound hs e)
-  waits_inside_offered e t (Forked ns) = waits_among_offered e ns
-
-  waits_among_offered : (e : Event) (ns : Nodes) → waits_among (offered_among e ns).0 ≡ waits_among ns
-  waits_among_offered e no_nodes = refl
-  waits_among_offered e (branch n ns) = λ i. waits_offered e n i ++ waits_among_offered e ns i
-
 pub mark_offered : (e : Event) (i : Instance) → mark (offered_one e i) ≡ mark i
 mark_offered e i = ap (λ o. (i.id, o)) (waits_offered e i.node)
-
--- a strand that takes no event stays
-or_same_none : (bound : Members) (hs : List Heard) (o : Option (Members × List Heard)) → (or_same bound hs o).1 ≡ 0 → (or_same bound hs o).0 ≡ Hear bound hs
-or_same_none bound hs None e = refl
-or_same_none bound hs (Some p) e = absurd (omega (arith, e))
-
-mutual
-  same_untaken : (e : Event) (n : Node) → (offered e n).1 ≡ 0 → (offered e n).0 ≡ n
-  same_untaken e (Fresh t v) h = refl
-  same_untaken e (Live t v u k) h = ap (Live t v u) (same_inside_untaken e t k h)
-  same_untaken e (Done w f) h = refl
-  same_untaken e (Fault p) h = refl
-
-  same_inside_untaken : (e : Event) (t : Task) (k : Inside) → (offered_inside e t k).1 ≡ 0 → (offered_inside e t k).0 ≡ k
-  same_inside_untaken e t (At r i n) h = ap (At r i) (same_untaken e n h)
-  same_inside_untaken e t (Later n m) h = refl
-  same_inside_untaken e t (Sleep m) h = refl
-  same_inside_untaken e t (Hear bound hs) h = or_same_none bound hs (takes_in (kind_of t) bound hs e) h
-  same_inside_untaken e t (Forked ns) h = ap Forked (same_among_untaken e ns h)
-
-  same_among_untaken : (e : Event) (ns : Nodes) → (offered_among e ns).1 ≡ 0 → (offered_among e ns).0 ≡ ns
-  same_among_untaken e no_nodes h = refl
-  same_among_untaken e (branch n ns) h = λ i. branch (same_untaken e n (omega (arith, h)) i) (same_among_untaken e ns (omega (arith, h)) i)
-
-one_untaken : (e : Event) (i : Instance) → takers_in e i ≡ 0 → offered_one e i ≡ i
-one_untaken e i h = ap (λ n. record i { node = n }) (same_untaken e i.node h)
 
 -- an instance is put in its own place
 put_same : (is : List Instance) (n : ℕ) (i : Instance) → slice_get is n ≡ Some i → put_at n i is ≡ is
@@ -162,10 +108,9 @@ takers_more e is k i h = ap (λ m. takers e (take m is)) (add-one k) ∙ takers_
 pub record Offered (k n : ℕ) (e : Event) (is : List Instance) (hs : List Hearing) : Type 0 where
   pub put : put_all hs is ≡ offered_first k n e is
   pub heard : AllByRecursion (IsHeardFrom is) hs
-  pub few : length hs ≤ k
 
 pub offered_none : (n : ℕ) (e : Event) (is : List Instance) → Offered 0 n e is []
-offered_none n e is = record { put = refl; heard = tt; few = omega arith }
+offered_none n e is = record { put = refl; heard = tt }
 
 -- what is heard of one more
 abbrev pub heard_by : ℕ → Event → Instance → ℕ → List Hearing
@@ -187,12 +132,10 @@ offered_next k n e is hs i m other at taken o = by (nat_lt 0 m) refl
     by true t = record {
       put = put_all-append hs ((record { number = k; instance = offered_one e i }) ∷ []) is ∙ more;
       heard = all_pushed (IsHeardFrom is) hs (record { number = k; instance = offered_one e i }) o.heard from;
-      few = omega (arith, o.few, length-append hs ((record { number = k; instance = offered_one e i }) ∷ []));
     }
     by false t = subst (Offered (k + 1) n e is) (sym (append-nil hs)) (record {
       put = sym (put_same (put_all hs is) k i still) ∙ ap (λ j. put_at k j (put_all hs is)) (sym (one_untaken e i (omega (arith, taken, ltb-false 0 m t)))) ∙ more;
       heard = o.heard;
-      few = omega (arith, o.few);
     })
 
 -- that of the number is passed over
@@ -200,14 +143,12 @@ pub offered_skipped : (k n : ℕ) (e : Event) (is : List Instance) (hs : List He
 offered_skipped k n e is hs same o = record {
   put = o.put ∙ ap (λ m. offered_first k m e is) (sym same) ∙ first_skipped k e is ∙ ap (λ m. offered_first (suc k) m e is) same ∙ ap (λ j. offered_first j n e is) (sym (add-one k));
   heard = o.heard;
-  few = omega (arith, o.few);
 }
 
 pub offered_done : (k n : ℕ) (e : Event) (is : List Instance) (hs : List Hearing) → k ≡ length is → Offered k n e is hs → IsOffer n e is hs
 offered_done k n e is hs all o = record {
   put = o.put ∙ first_done k n e is (omega (arith, all));
   heard = o.heard;
-  few = omega (arith, o.few, all);
 }
 
 -- those that took an event keep their marks

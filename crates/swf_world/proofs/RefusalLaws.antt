@@ -7,10 +7,9 @@ use Rattle.swf_document.specs.declared.document.Document.{Document}
 use Rattle.swf_document.specs.declared.fault.Fault.{Fault}
 use Rattle.swf_meaning.specs.declared.label.Label.{Label}
 use Rattle.swf_meaning.specs.declared.label.Label.TheVariants.{Load, Start, Event as Told, Reply, Moment, Step}
-use Rattle.swf_meaning.specs.Local.{local}
 use Rattle.swf_meaning.specs.Strands.{can_go}
 use Rattle.swf_meaning.specs.declared.key.Key.TheVariants as keys
-use Rattle.swf_meaning.specs.World.{World, Instance, sight, new_instance}
+use Rattle.swf_meaning.specs.World.{line_of, site_of, World, Instance, step_at, new_instance}
 use Rattle.swf_meaning.specs.Answer.{instance_at}
 use Rattle.swf_runs.specs.After.{after, loaded, load_faults, accepted, document_at, most_documents, most_instances, with_document, with_instance, with_event, stepped, with_instances}
 use Rattle.swf_world.specs.declared.refusal.Refusal.{Refusal}
@@ -19,7 +18,7 @@ use Rattle.swf_world.specs.Changes.{with_moment}
 use Rattle.swf_world.specs.UsedKey.{used_at}
 use Rattle.swf_world.specs.Refusals.{refusal, refusal_of_load, refusal_of_start, refusal_of_step, duplicate, cause}
 use Rattle.swf_world.proofs.Lookups.{used_some, first_steps, other_steps}
-use Rattle.swf_world.proofs.MachineLemmas.{some_mapped, local_can}
+use Rattle.swf_runs.proofs.StrandLemmas.{some_mapped, local_can}
 
 -- a label that has no refusal has a world after it, and the other way round
 abbrev Agree : {A : Type 0} → Option A → Option Refusal → Type 0
@@ -54,8 +53,8 @@ stepped_some now id strand [] = refl
 stepped_some now id strand (i ∷ is) = by (same id i.id) (stepped_some now id strand is)
   where
     by : (b : Bool) → is_some (stepped now id strand is) ≡ can_step now strand (instance_at id is) →
-        is_some (cond b (option_map (first_steps i is) (local (sight now i) strand i.node)) (option_map (other_steps i) (stepped now id strand is))) ≡ can_step now strand (cond b (Some i) (instance_at id is))
-    by true h = some_mapped (first_steps i is) (local (sight now i) strand i.node) ∙ local_can (sight now i) strand i.node
+        is_some (cond b (option_map (first_steps i is) (step_at now strand i)) (option_map (other_steps i) (stepped now id strand is))) ≡ can_step now strand (cond b (Some i) (instance_at id is))
+    by true h = some_mapped (first_steps i is) (step_at now strand i) ∙ local_can (site_of now i) (line_of i) strand i.node
     by false h = some_mapped (other_steps i) (stepped now id strand is) ∙ h
 
 step_agrees : {A : Type 0} (now : ℕ) (strand : List ℕ) (s : Option A) (o : Option Instance) → is_some s ≡ can_step now strand o → Agree s (refusal_of_step now strand o)

@@ -1,14 +1,12 @@
 -- A step that is written into the map is the step of the definitions.
-use Rattle.std.proofs.Common.{◌≡◌, ◌∙◌, ap, sym, refl, ℕ, zero, suc, ◌<◌, ◌==◌, List, [], ◌∷◌, length, true, Option, Some, None, option_map, slice_get, arith}
-use Rattle.std.specs.List.{AllByRecursion, list_any}
+use Rattle.std.proofs.Common.{◌≡◌, ◌∙◌, ap, sym, refl, ℕ, zero, suc, ◌<◌, List, [], ◌∷◌, length, true, Option, Some, None, option_map, slice_get, arith}
+use Rattle.std.specs.List.{AllByRecursion}
 use Rattle.std.proofs.lemmas.List.{length-map}
 use Rattle.std.proofs.lemmas.Option.{same_Some}
 use Rattle.indexmap.specs.IndexMap.{set_value_at}
 use Rattle.swf_cloudevents.specs.declared.event.Event.{Event}
 use Rattle.swf_meaning.specs.Complete.{Stepped}
-use Rattle.swf_meaning.specs.Local.{local}
-use Rattle.swf_meaning.specs.Wake.{waits}
-use Rattle.swf_meaning.specs.World.{Instance, sight}
+use Rattle.swf_meaning.specs.World.{Instance, step_at}
 use Rattle.swf_tasks.specs.Prepares.{applied, Fits, IsPrepared}
 use Rattle.swf_tasks.specs.Taken.{taken}
 use Rattle.swf_tasks.specs.declared.machine.Prepared.{Prepared}
@@ -18,7 +16,6 @@ use Rattle.swf_world.specs.Fields.{instances_in}
 use Rattle.swf_world.specs.Kept.{IsPlaced}
 use Rattle.swf_world.specs.Queued.{enabled_at}
 use Rattle.swf_world.proofs.MachineLemmas.{enabled_within}
-use Rattle.swf_world.proofs.OfferLemmas.{waits_offered}
 
 -- an instance that can take a step is in the map
 pub entry_within : (now : ℕ) (is : List (List ℕ × Instance)) (n : ℕ) → enabled_at now (instances_in is) n ≡ true → n < length is
@@ -43,18 +40,12 @@ own_step : (i : Instance) (o : Option Stepped) → option_map (after_step i) o �
 own_step i None = refl
 own_step i (Some m) = refl
 
--- and waits for the same moments
-own_waits : (o : Option Event) (i : Instance) → waits (offered_own o i).node ≡ waits i.node
-own_waits None i = refl
-own_waits (Some e) i = waits_offered e i.node
-
 -- an instance is ready to take a step that was prepared, once the event was offered to it which goes out
 pub prepared_ready : (now n : ℕ) (strand : List ℕ) (is : List Instance) (i : Instance) (p : Prepared) (step : Step) → slice_get is n ≡ Some i → IsPrepared now strand i p → Fits step i → applied step i ≡ offered_own p.emitted (applied p.step i) →
-    IsReady now n strand is step p.until p.emitted
+    IsReady now n strand is step p.emitted
 prepared_ready now n strand is i p step there prepared fits same = record {
   instance = i;
   there = there;
   fits = fits;
-  stepped = own_step i (local (sight now i) strand i.node) ∙ ap (option_map with_own) prepared.step ∙ ap (λ j. Some (j, p.emitted)) (sym same);
-  waits = λ m w. prepared.waits m (ap (λ ms. list_any (λ k. m == k) ms) (sym (ap (λ j. waits j.node) same ∙ own_waits p.emitted (applied p.step i))) ∙ w);
+  stepped = own_step i (step_at now strand i) ∙ ap (option_map with_own) prepared.step ∙ ap (λ j. Some (j, p.emitted)) (sym same);
 }

@@ -4,32 +4,11 @@ use Rattle.std.proofs.lemmas.List.Elements.{filter_map-append}
 use Rattle.std.proofs.lemmas.Option.{same_Some}
 use Rattle.std.specs.List.{filter_map, cons_option, flat_map}
 use Rattle.std.specs.Option.{option_to_list}
-use Rattle.swf_document.specs.Task.{Task}
-use Rattle.swf_value.specs.Value.{Value}
 use Rattle.swf_meaning.specs.Listen.{is_heard}
-use Rattle.swf_meaning.specs.Node.{Node, Fresh, Live, Done, Fault, Inside, At, Later, Sleep, Hear, Forked, Nodes, no_nodes, branch}
+use Rattle.swf_meaning.specs.Node.{Node, Fresh, Live, Done, Fault, Inside, At, Later, Sleep, Hear, Forked, Nodes, no_nodes, branch, Round, Running}
 use Rattle.swf_meaning.specs.Pending.{if_listening, listening, listening_inside, listening_among, waiting, waiting_inside, waiting_among}
-use Rattle.swf_meaning.specs.Strands.{strands}
+use Rattle.swf_meaning.specs.Strands.{strands, strands_inside, strands_from}
 use Rattle.swf_strands.specs.Ways.{at, at_among, listens_at, listens_here, own_until, until_at}
-
--- the parts that `strands` is made of
-abbrev mutual
-  strands_below : Node → List (List ℕ)
-  strands_below (Fresh t v) = []
-  strands_below (Live t v u k) = strands_inside k
-  strands_below (Done w f) = []
-  strands_below (Fault p) = []
-
-  strands_inside : Inside → List (List ℕ)
-  strands_inside (At r i n) = strands_below n
-  strands_inside (Later n m) = []
-  strands_inside (Sleep m) = []
-  strands_inside (Hear bound hs) = []
-  strands_inside (Forked ns) = strands_from zero ns
-
-  strands_from : ℕ → Nodes → List (List ℕ)
-  strands_from b no_nodes = []
-  strands_from b (branch n ns) = map (λ bs. b ∷ bs) ([] ∷ strands_below n) ++ strands_from (b + 1) ns
 
 filter_map-map : {A B Y : Type 0} (h : B → Option Y) (f : A → B) (xs : List A) → filter_map h (map f xs) ≡ filter_map (λ x. h (f x)) xs
 filter_map-map h f [] = refl
@@ -71,9 +50,9 @@ told_listen bs s o = cond (listens_here o) (Some (bs ++ s)) None
 longer_listen : (bs : List ℕ) (b : ℕ) (s : List ℕ) (o : Option Node) → told_listen bs (b ∷ s) o ≡ told_listen (bs ++ b ∷ []) s o
 longer_listen bs b s o = ap (λ xs. cond (listens_here o) (Some xs) None) (sym (append_assoc bs (b ∷ []) s))
 
-listens_in : (s : List ℕ) (t : Task) (v u : Value) (r : _) (i : ℕ) (n : Node) → listens_at s (Live t v u (At r i n)) ≡ listens_at s n
-listens_in [] t v u r i n = refl
-listens_in (b ∷ bs) t v u r i n = refl
+listens_in : (s : List ℕ) (r : Running) (round : Round) (i : ℕ) (n : Node) → listens_at s (Live r (At round i n)) ≡ listens_at s n
+listens_in [] r round i n = refl
+listens_in (b ∷ bs) r round i n = refl
 
 listens_once : (bs : List ℕ) (b : Bool) → cons_option (cond (not b) (Some (bs ++ [])) None) [] ≡ if_listening bs b
 listens_once bs true = refl
@@ -83,17 +62,17 @@ mutual
   -- those that listen among all strands
   pub listening_is : (bs : List ℕ) (n : Node) → filter_map (λ s. told_listen bs s (at s n)) (strands n) ≡ listening bs n
   listening_is bs (Fresh t v) = refl
-  listening_is bs (Live t v u k) = listening_inside_is bs t v u k
+  listening_is bs (Live r k) = listening_inside_is bs r k
   listening_is bs (Done w f) = refl
   listening_is bs (Fault p) = refl
 
-  listening_inside_is : (bs : List ℕ) (t : Task) (v u : Value) (k : Inside) → filter_map (λ s. told_listen bs s (at s (Live t v u k))) ([] ∷ strands_inside k) ≡ listening_inside bs t k
-  listening_inside_is bs t v u (At r i n) = (λ j. filter_map (λ s. cond (listens_in s t v u r i n j) (Some (bs ++ s)) None) (strands n)) ∙ listening_is bs n
-  listening_inside_is bs t v u (Later n m) = refl
-  listening_inside_is bs t v u (Sleep m) = refl
-  listening_inside_is bs t v u (Hear bound hs) = listens_once bs (is_heard t hs)
-  listening_inside_is bs t v u (Forked ns) =
-      let h = λ (s : List ℕ). told_listen bs s (at s (Live t v u (Forked ns))) in
+  listening_inside_is : (bs : List ℕ) (r : Running) (k : Inside) → filter_map (λ s. told_listen bs s (at s (Live r k))) ([] ∷ strands_inside k) ≡ listening_inside bs r.task k
+  listening_inside_is bs r (At round i n) = (λ j. filter_map (λ s. cond (listens_in s r round i n j) (Some (bs ++ s)) None) (strands n)) ∙ listening_is bs n
+  listening_inside_is bs r (Later n m) = refl
+  listening_inside_is bs r (Sleep m) = refl
+  listening_inside_is bs r (Hear bound hs) = listens_once bs (is_heard r.task hs)
+  listening_inside_is bs r (Forked ns) =
+      let h = λ (s : List ℕ). told_listen bs s (at s (Live r (Forked ns))) in
       listening_among_is h bs zero ns (tells_all (List ℕ) told_listen longer_listen h bs ns (λ b s. refl))
 
   listening_among_is : (h : List ℕ → Option (List ℕ)) (bs : List ℕ) (b : ℕ) (ns : Nodes) → Tells (List ℕ) told_listen longer_listen h bs b ns → filter_map h (strands_from b ns) ≡ listening_among bs b ns
@@ -108,25 +87,25 @@ told_timer bs s o = option_map (λ m. (bs ++ s, m)) (option_and_then own_until o
 longer_timer : (bs : List ℕ) (b : ℕ) (s : List ℕ) (o : Option Node) → told_timer bs (b ∷ s) o ≡ told_timer (bs ++ b ∷ []) s o
 longer_timer bs b s o = ap (λ xs. option_map (λ m. (xs, m)) (option_and_then own_until o)) (sym (append_assoc bs (b ∷ []) s))
 
-until_in : (s : List ℕ) (t : Task) (v u : Value) (r : _) (i : ℕ) (n : Node) → until_at s (Live t v u (At r i n)) ≡ until_at s n
-until_in [] t v u r i n = refl
-until_in (b ∷ bs) t v u r i n = refl
+until_in : (s : List ℕ) (r : Running) (round : Round) (i : ℕ) (n : Node) → until_at s (Live r (At round i n)) ≡ until_at s n
+until_in [] r round i n = refl
+until_in (b ∷ bs) r round i n = refl
 
 mutual
   -- those that wait among all strands, each with its moment
   pub waiting_is : (bs : List ℕ) (n : Node) → filter_map (λ s. told_timer bs s (at s n)) (strands n) ≡ waiting bs n
   waiting_is bs (Fresh t v) = refl
-  waiting_is bs (Live t v u k) = waiting_inside_is bs t v u k
+  waiting_is bs (Live r k) = waiting_inside_is bs r k
   waiting_is bs (Done w f) = refl
   waiting_is bs (Fault p) = refl
 
-  waiting_inside_is : (bs : List ℕ) (t : Task) (v u : Value) (k : Inside) → filter_map (λ s. told_timer bs s (at s (Live t v u k))) ([] ∷ strands_inside k) ≡ waiting_inside bs k
-  waiting_inside_is bs t v u (At r i n) = (λ j. filter_map (λ s. option_map (λ m. (bs ++ s, m)) (until_in s t v u r i n j)) (strands n)) ∙ waiting_is bs n
-  waiting_inside_is bs t v u (Later n m) = ap (λ xs. (xs, m) ∷ []) (append-nil bs)
-  waiting_inside_is bs t v u (Sleep m) = ap (λ xs. (xs, m) ∷ []) (append-nil bs)
-  waiting_inside_is bs t v u (Hear bound hs) = refl
-  waiting_inside_is bs t v u (Forked ns) =
-      let h = λ (s : List ℕ). told_timer bs s (at s (Live t v u (Forked ns))) in
+  waiting_inside_is : (bs : List ℕ) (r : Running) (k : Inside) → filter_map (λ s. told_timer bs s (at s (Live r k))) ([] ∷ strands_inside k) ≡ waiting_inside bs k
+  waiting_inside_is bs r (At round i n) = (λ j. filter_map (λ s. option_map (λ m. (bs ++ s, m)) (until_in s r round i n j)) (strands n)) ∙ waiting_is bs n
+  waiting_inside_is bs r (Later n m) = ap (λ xs. (xs, m) ∷ []) (append-nil bs)
+  waiting_inside_is bs r (Sleep m) = ap (λ xs. (xs, m) ∷ []) (append-nil bs)
+  waiting_inside_is bs r (Hear bound hs) = refl
+  waiting_inside_is bs r (Forked ns) =
+      let h = λ (s : List ℕ). told_timer bs s (at s (Live r (Forked ns))) in
       waiting_among_is h bs zero ns (tells_all (List ℕ × ℕ) told_timer longer_timer h bs ns (λ b s. refl))
 
   waiting_among_is : (h : List ℕ → Option (List ℕ × ℕ)) (bs : List ℕ) (b : ℕ) (ns : Nodes) → Tells (List ℕ × ℕ) told_timer longer_timer h bs b ns → filter_map h (strands_from b ns) ≡ waiting_among bs b ns

@@ -19,7 +19,6 @@ use Rattle.swf_world.specs.Kept.{Kept, IsPlaced}
 use Rattle.swf_document.specs.declared.document.DocKey.{DocKey}
 use Rattle.swf_meaning.specs.declared.key.Key.{Key}
 use Rattle.swf_world.specs.declared.world.Loaded.{Loaded}
-use Rattle.swf_turns.specs.declared.timers.Timer.{Timer}
 use Rattle.swf_turns.specs.Line.{is_among}
 use Rattle.swf_world.specs.Queued.{Queued, enabled_at}
 use Rattle.swf_turns.specs.Line.{Line}
@@ -58,8 +57,8 @@ abbrev pub is_loud : ℕ → List Instance → Bool
 is_loud now is = list_any (λ i. is_enabled now i.node) is
 
 -- nothing is enabled where the queue is empty
-pub quiet_without : (now : ℕ) (is : List Instance) (timers : List Timer) → Queued now is [] timers → is_loud now is ≡ false
-quiet_without now is timers q = none is (λ n e. let h = q.all n e in cc)
+pub quiet_without : (now : ℕ) (is : List Instance) → Queued now is [] → is_loud now is ≡ false
+quiet_without now is q = none is (λ n e. let h = q.all n e in cc)
   where
     none : (is : List Instance) → ((n : ℕ) → enabled_at now is n ≡ true → ⊥) → is_loud now is ≡ false
     none [] h = refl
@@ -71,29 +70,25 @@ loud_with now (i ∷ is) zero e = or_left (is_enabled now i.node) (is_loud now i
 loud_with now (i ∷ is) (suc n) e = or_right (is_enabled now i.node) (is_loud now is) (loud_with now is n e)
 
 -- an instance that cannot take a step leaves the queue
-queued_popped : (now : ℕ) (is : List Instance) (timers : List Timer) (n : ℕ) (queue : List ℕ) → enabled_at now is n ≡ false → Queued now is (n ∷ queue) timers → Queued now is queue timers
-queued_popped now is timers n queue gone q = record {
+queued_popped : (now : ℕ) (is : List Instance) (n : ℕ) (queue : List ℕ) → enabled_at now is n ≡ false → Queued now is (n ∷ queue) → Queued now is queue
+queued_popped now is n queue gone q = record {
   all = λ m e. elim (or_cases (m == n) (is_among m queue) (q.all m e)) [
     | inl h ↦ let f : true ≡ false = sym e ∙ ap (enabled_at now is) (eqb-true m n h) ∙ gone in cc
     | inr h ↦ h
   ];
-  waits = q.waits;
-  known = q.known;
 }
 
 -- the same of the first of the queue
-pub queued_left : (now : ℕ) (is : List Instance) (timers : List Timer) (queue rest : List ℕ) (n : ℕ) → slice_get queue 0 ≡ Some n → rest ≡ drop 1 queue → enabled_at now is n ≡ false → Queued now is queue timers → Queued now is rest timers
-queued_left now is timers [] rest n e r gone q = cc
-queued_left now is timers (m ∷ ms) rest n e r gone q =
-    subst (λ queue. Queued now is queue timers) (sym r) (queued_popped now is timers m ms (ap (enabled_at now is) (same_Some m n e) ∙ gone) q)
+pub queued_left : (now : ℕ) (is : List Instance) (queue rest : List ℕ) (n : ℕ) → slice_get queue 0 ≡ Some n → rest ≡ drop 1 queue → enabled_at now is n ≡ false → Queued now is queue → Queued now is rest
+queued_left now is [] rest n e r gone q = cc
+queued_left now is (m ∷ ms) rest n e r gone q =
+    subst (λ queue. Queued now is queue) (sym r) (queued_popped now is m ms (ap (enabled_at now is) (same_Some m n e) ∙ gone) q)
 
 -- the first in the queue goes behind all others
-pub queued_turned : (now : ℕ) (is : List Instance) (timers : List Timer) (queue : List ℕ) → 0 < length queue → Queued now is queue timers → Queued now is (drop 1 queue ++ take 1 queue) timers
-queued_turned now is timers [] w q = absurd (omega arith)
-queued_turned now is timers (n ∷ queue) w q = record {
+pub queued_turned : (now : ℕ) (is : List Instance) (queue : List ℕ) → 0 < length queue → Queued now is queue → Queued now is (drop 1 queue ++ take 1 queue)
+queued_turned now is [] w q = absurd (omega arith)
+queued_turned now is (n ∷ queue) w q = record {
   all = λ m e. turned m ∙ q.all m e;
-  waits = q.waits;
-  known = q.known;
 }
   where
     or_swap : (a b : Bool) → (b || (a || false)) ≡ (a || b)
@@ -106,19 +101,19 @@ queued_turned now is timers (n ∷ queue) w q = record {
     turned m = list_any-append (λ k. m == k) queue (n ∷ []) ∙ or_swap (m == n) (is_among m queue)
 
 -- the answer of a look through the queue is whether all is quiet
-pub quiet_is : (now : ℕ) (is : List Instance) (timers : List Timer) (queue : List ℕ) (o : Option ℕ) (b : Bool) → Queued now is queue timers → IfNone o (queue ≡ []) → IfSome o (λ n. (enabled_at now is n ≡ true) × (0 < length queue)) → is_some o ≡ not b → b ≡ not (is_loud now is)
-quiet_is now is timers queue None false q none some e = cc
-quiet_is now is timers queue None true q none some e = sym (ap not (quiet_without now is timers (subst (λ queue. Queued now is queue timers) none q)))
-quiet_is now is timers queue (Some n) true q none some e = cc
-quiet_is now is timers queue (Some n) false q none some e = sym (ap not (loud_with now is n some.0))
+pub quiet_is : (now : ℕ) (is : List Instance) (queue : List ℕ) (o : Option ℕ) (b : Bool) → Queued now is queue → IfNone o (queue ≡ []) → IfSome o (λ n. (enabled_at now is n ≡ true) × (0 < length queue)) → is_some o ≡ not b → b ≡ not (is_loud now is)
+quiet_is now is queue None false q none some e = cc
+quiet_is now is queue None true q none some e = sym (ap not (quiet_without now is (subst (λ queue. Queued now is queue) none q)))
+quiet_is now is queue (Some n) true q none some e = cc
+quiet_is now is queue (Some n) false q none some e = sym (ap not (loud_with now is n some.0))
 
 -- the maps agree with another order of the queue too
-pub kept_turned : (ds : List (DocKey × Loaded)) (is : List (List ℕ × Instance)) (ks : List (Key × ℕ)) (now n : ℕ) (turns next : Line) (timers : List Timer) → Kept ds is ks now n turns timers → next.count ≡ turns.count → Queued now (instances_in is) next.numbers timers → Kept ds is ks now n next timers
-kept_turned ds is ks now n turns next timers kept count queued = record {
+pub kept_turned : (ds : List (DocKey × Loaded)) (is : List (List ℕ × Instance)) (ks : List (Key × ℕ)) (now n : ℕ) (turns next : Line) (alarms : List (Option ℕ)) → Kept ds is ks now n turns alarms → next.count ≡ turns.count → Queued now (instances_in is) next.numbers → Kept ds is ks now n next alarms
+kept_turned ds is ks now n turns next alarms kept count queued = record {
   named = kept.named;
   placed = kept.placed;
   new = kept.new;
-  waiting = record { queued = queued; count = count ∙ kept.waiting.count };
+  waiting = record { queued = queued; count = count ∙ kept.waiting.count; own = kept.waiting.own };
   early = kept.early;
   few = kept.few;
 }

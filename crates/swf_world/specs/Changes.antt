@@ -1,17 +1,16 @@
 -- What a prepared change asks of the world that it is made for, and the world that it makes.
-use Rattle.std.specs.Prelude.{◌≡◌, ◌+◌, ◌<◌, ◌≤◌, ◌||◌, ℕ, zero, suc, List, [], ◌∷◌, ◌++◌, true, false, length, Option, Some, None, option_map, option_to_list, slice_get}
+use Rattle.std.specs.Prelude.{◌≡◌, ◌+◌, ◌<◌, ◌≤◌, ℕ, zero, suc, List, [], ◌∷◌, ◌++◌, false, Option, Some, None, option_map, option_to_list, slice_get}
 use Rattle.std.specs.List.{AllByRecursion}
 use Rattle.swf_cloudevents.specs.declared.event.Event.{Event}
 use Rattle.swf_document.specs.declared.document.DocKey.{DocKey}
 use Rattle.swf_meaning.specs.declared.key.Key.{Key}
 use Rattle.swf_meaning.specs.declared.key.Key.TheVariants as keys
 use Rattle.swf_meaning.specs.Complete.{Stepped}
-use Rattle.swf_meaning.specs.Local.{local}
 use Rattle.swf_meaning.specs.Offer.{offered_one}
 use Rattle.swf_meaning.specs.Wake.{waits}
-use Rattle.swf_meaning.specs.World.{World, Instance, sight, with_step}
+use Rattle.swf_meaning.specs.World.{World, Instance, step_at, with_step}
 use Rattle.swf_runs.specs.After.{is_used, counted, with_document, with_instance}
-use Rattle.swf_tasks.specs.Prepares.{applied, Fits, is_at, waits_for}
+use Rattle.swf_tasks.specs.Prepares.{applied, Fits}
 use Rattle.swf_tasks.specs.declared.machine.Step.{Step}
 use Rattle.swf_world.specs.declared.change.Change.{Change}
 use Rattle.swf_world.specs.declared.change.ChangeKind.{ChangeKind}
@@ -34,14 +33,13 @@ pub record SuitsStart (w : World) (id : List ℕ) (used : Key) (instance : Insta
   pub new : is_used (keys.Instance id) w ≡ false
   pub awake : waits instance.node ≡ []
 
--- an event's key, which was not used, and instances that took the event, no more than there are
+-- an event's key, which was not used, and instances that took the event
 pub record SuitsEvent (w : World) (used : Key) (heard : List Hearing) : Type 0 where
   pub source : List ℕ
   pub id : List ℕ
   pub used_is : used ≡ keys.Event source id
   pub new : is_used used w ≡ false
   pub from : AllByRecursion (IsHeardFrom w.instances) heard
-  pub few : length heard ≤ length w.instances
 
 -- a moment above the one that was reached, and no later than the last
 pub record SuitsMoment (w : World) (moment : ℕ) : Type 0 where
@@ -59,25 +57,21 @@ after_step i m = (offered_own m.emitted (with_step i m), m.emitted)
 
 -- the same after a strand's step at a moment; none where it can take none
 abbrev pub stepped_one : ℕ → List ℕ → Instance → Option (Instance × Option Event)
-stepped_one now strand i = option_map (after_step i) (local (sight now i) strand i.node)
+stepped_one now strand i = option_map (after_step i) (step_at now strand i)
 
--- what was prepared for the instance of that number is a strand's step, this event goes out, and no other moment is waited for than before
--- and the new one
-pub record IsReady (now n : ℕ) (strand : List ℕ) (is : List Instance) (step : Step) (until : Option ℕ) (emitted : Option Event) : Type 0 where
+-- what was prepared for the instance of that number is a strand's step, and this event goes out
+pub record IsReady (now n : ℕ) (strand : List ℕ) (is : List Instance) (step : Step) (emitted : Option Event) : Type 0 where
   pub instance : Instance
   pub there : slice_get is n ≡ Some instance
   pub fits : Fits step instance
   pub stepped : stepped_one now strand instance ≡ Some (applied step instance, emitted)
-  pub waits : (m : ℕ) → waits_for m (applied step instance).node ≡ true → (is_at m until || waits_for m instance.node) ≡ true
 
--- a strand of the instance of that number can take this step, and these, no more than there are, took the event that goes out; it is not one
--- of them
-pub record SuitsStep (w : World) (n : ℕ) (step : Step) (until : Option ℕ) (emitted : Option Event) (heard : List Hearing) : Type 0 where
+-- a strand of the instance of that number can take this step, and these took the event that goes out; it is not one of them
+pub record SuitsStep (w : World) (n : ℕ) (step : Step) (emitted : Option Event) (heard : List Hearing) : Type 0 where
   pub strand : List ℕ
-  pub ready : IsReady w.now n strand w.instances step until emitted
+  pub ready : IsReady w.now n strand w.instances step emitted
   pub apart : slice_get (put_all heard w.instances) n ≡ slice_get w.instances n
   pub from : AllByRecursion (IsHeardFrom w.instances) heard
-  pub few : length heard ≤ length w.instances
 
 -- an event was told
 abbrev pub with_heard : World → Key → List Hearing → World
@@ -106,14 +100,14 @@ suits w (kinds.Load key used loaded) = SuitsLoad w key used loaded
 suits w (kinds.Start id used instance) = SuitsStart w id used instance
 suits w (kinds.Event used heard) = SuitsEvent w used heard.items
 suits w (kinds.Moment moment) = SuitsMoment w moment
-suits w (kinds.Step n step until emitted heard) = SuitsStep w n step until emitted heard.items
+suits w (kinds.Step n step emitted heard) = SuitsStep w n step emitted heard.items
 
 abbrev pub changed_by : World → ChangeKind → World
 changed_by w (kinds.Load key used loaded) = with_document w loaded.value loaded.document
 changed_by w (kinds.Start id used instance) = with_instance w instance
 changed_by w (kinds.Event used heard) = with_heard w used heard.items
 changed_by w (kinds.Moment moment) = with_moment w moment
-changed_by w (kinds.Step n step until emitted heard) = with_stepped w n step emitted heard.items
+changed_by w (kinds.Step n step emitted heard) = with_stepped w n step emitted heard.items
 
 -- the change was made for a world in this state
 abbrev pub Suits : World → Change → Type 0

@@ -23,6 +23,6 @@ world_of ds is ks now es n = record { documents = loaded_in ds; instances = inst
 abbrev pub most_labels : ℕ
 most_labels = 2 ^ 40
 
--- how many changes fit where that much fits in each map, the queue beside all that wait and all instances, the timers, and the outbox
+-- how many changes fit where that much fits in each map, the queue, the alarms and the outbox
 abbrev pub room_of : ℕ → ℕ → ℕ → ℕ → ℕ → ℕ → ℕ → ℕ
-room_of ds is ks turns timers es n = min (min ds is) (min (min (min ks es) (min turns timers)) (most_labels - n))
+room_of ds is ks turns alarms es n = min (min ds is) (min (min (min ks es) (min turns alarms)) (most_labels - n))

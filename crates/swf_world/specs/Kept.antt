@@ -1,5 +1,5 @@
 -- What holds of the maps of every world in memory.
-use Rattle.std.specs.Prelude.{◌≡◌, ◌≤◌, ◌<◌, ℕ, List, false, None, length}
+use Rattle.std.specs.Prelude.{◌≡◌, ◌≤◌, ◌<◌, ℕ, List, false, Option, None, length}
 use Rattle.std.specs.List.{AllByRecursion, list_any}
 use Rattle.std.specs.Map.{lookup}
 use Rattle.swf_text.specs.Same.{same}
@@ -8,10 +8,10 @@ use Rattle.swf_meaning.specs.declared.key.Key.{Key}
 use Rattle.swf_meaning.specs.declared.key.Key.TheVariants as keys
 use Rattle.swf_runs.specs.Keys.{same_key}
 use Rattle.swf_meaning.specs.World.{Instance}
-use Rattle.swf_turns.specs.declared.timers.Timer.{Timer}
 use Rattle.swf_world.specs.declared.world.Loaded.{Loaded}
 use Rattle.swf_world.specs.UsedKey.{doc_eq}
 use Rattle.swf_world.specs.Queued.{Queued}
+use Rattle.swf_world.specs.Waits.{alarms_of}
 use Rattle.swf_turns.specs.Line.{Line}
 use Rattle.swf_world.specs.Early.{IsEarly}
 use Rattle.swf_world.specs.Fields.{instances_in, most_labels}
@@ -30,16 +30,17 @@ pub record New (ds : List (DocKey × Loaded)) (is : List (List ℕ × Instance))
   pub instance : (id : List ℕ) → list_any (λ p. same_key (keys.Instance id) p.0) ks ≡ false → lookup (same id) is ≡ None
   pub moment : (m : ℕ) → now < m → list_any (λ p. same_key (keys.Moment m) p.0) ks ≡ false
 
--- the queue and the timers agree with the instances
-pub record Waiting (is : List Instance) (now : ℕ) (turns : Line) (timers : List Timer) : Type 0 where
-  pub queued : Queued now is turns.numbers timers
+-- the queue agrees with the instances, and the alarms are theirs
+pub record Waiting (is : List Instance) (now : ℕ) (turns : Line) (alarms : List (Option ℕ)) : Type 0 where
+  pub queued : Queued now is turns.numbers
   pub count : turns.count ≡ length is
+  pub own : alarms ≡ alarms_of is
 
--- the maps agree with each other, with the queue and with the timers
-pub record Kept (ds : List (DocKey × Loaded)) (is : List (List ℕ × Instance)) (ks : List (Key × ℕ)) (now n : ℕ) (turns : Line) (timers : List Timer) : Type 0 where
+-- the maps agree with each other, with the queue and with the alarms
+pub record Kept (ds : List (DocKey × Loaded)) (is : List (List ℕ × Instance)) (ks : List (Key × ℕ)) (now n : ℕ) (turns : Line) (alarms : List (Option ℕ)) : Type 0 where
   pub named : AllByRecursion IsNamed ds
   pub placed : AllByRecursion IsPlaced is
   pub new : New ds is ks now
-  pub waiting : Waiting (instances_in is) now turns timers
+  pub waiting : Waiting (instances_in is) now turns alarms
   pub early : AllByRecursion IsEarly ks
   pub few : n ≤ most_labels

@@ -1,5 +1,5 @@
 -- An event is offered to all instances but one, and those that took it are put in their places.
-use Rattle.std.specs.Prelude.{◌≡◌, ◌≤◌, ℕ, zero, suc, List, [], ◌∷◌, length, map, Option, Some, None, slice_get}
+use Rattle.std.specs.Prelude.{◌≡◌, ℕ, zero, suc, List, [], ◌∷◌, map, Option, Some, None, slice_get}
 use Rattle.std.specs.List.{AllByRecursion}
 use Rattle.swf_cloudevents.specs.declared.event.Event.{Event}
 use Rattle.swf_meaning.specs.Offer.{offered_all, offered_one}
@@ -36,7 +36,6 @@ IsHeardFrom is h = slice_get (map mark is) h.number ≡ Some (mark h.instance)
 pub record IsOffer (n : ℕ) (e : Event) (is : List Instance) (hs : List Hearing) : Type 0 where
   pub put : put_all hs is ≡ offered_but n e is
   pub heard : AllByRecursion (IsHeardFrom is) hs
-  pub few : length hs ≤ length is
 
 -- those that took the event that goes out, where one does
 abbrev pub IsSent : ℕ → Option Event → List Instance → List Hearing → Type 0

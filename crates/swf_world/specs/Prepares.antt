@@ -6,9 +6,8 @@ use Rattle.swf_document.specs.declared.document.Document.{Document}
 use Rattle.swf_meaning.specs.declared.key.Key.TheVariants as keys
 use Rattle.swf_meaning.specs.declared.label.Label.{Label}
 use Rattle.swf_meaning.specs.Complete.{Stepped}
-use Rattle.swf_meaning.specs.Local.{local}
 use Rattle.swf_meaning.specs.Offer.{takers}
-use Rattle.swf_meaning.specs.World.{World, Instance, new_instance, sight, with_step}
+use Rattle.swf_meaning.specs.World.{World, Instance, new_instance, step_at, with_step}
 use Rattle.swf_runs.specs.After.{after, stepped, taken_by}
 use Rattle.swf_world.specs.declared.change.Change.{Change}
 use Rattle.swf_world.specs.declared.change.ChangeKind.{ChangeKind}
@@ -43,7 +42,7 @@ pub record IsTelling (is : List Instance) (e : Event) (c : Change) : Type 0 wher
 
 -- a strand of the instance of that number takes its step at a moment, and the others are told the event that goes out
 abbrev pub Steps : ℕ → ℕ → List ℕ → List Instance → ChangeKind → Type 0
-Steps now n strand is (kinds.Step m step until emitted heard) = (m ≡ n) × IsReady now n strand is step until emitted × IsSent n emitted is heard.items
+Steps now n strand is (kinds.Step m step emitted heard) = (m ≡ n) × IsReady now n strand is step emitted × IsSent n emitted is heard.items
 Steps now n strand is k = ⊥
 
 -- the change of a step
@@ -54,7 +53,7 @@ pub record IsStepping (now n : ℕ) (strand : List ℕ) (is : List Instance) (c 
 -- the instance of that number is the first of its id: a strand's step is the one of the definitions
 abbrev pub StepsFirst : World → List ℕ → List ℕ → ℕ → Type 0
 StepsFirst w id strand n =
-    (i : Instance) (m : Stepped) → slice_get w.instances n ≡ Some i → local (sight w.now i) strand i.node ≡ Some m → stepped w.now id strand w.instances ≡ Some (put_at n (with_step i m) w.instances, m.emitted)
+    (i : Instance) (m : Stepped) → slice_get w.instances n ≡ Some i → step_at w.now strand i ≡ Some m → stepped w.now id strand w.instances ≡ Some (put_at n (with_step i m) w.instances, m.emitted)
 
 -- what was made, or want of memory
 abbrev pub or_memory : {E : Type 0} → Result Change E → Result Change PrepareFault

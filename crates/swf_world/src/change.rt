@@ -1,5 +1,5 @@
 // Changes of the world, and how they are made.
-ghost use Rattle.std.specs.Prelude.{◌≡◌, ◌≤◌, ◌<◌, ◌^◌, ◌++◌, ◌∷◌, ◌==◌, ◌&&◌, ◌||◌, [], ℕ, List, None, length, option_to_list, true};
+ghost use Rattle.std.specs.Prelude.{◌≡◌, ◌≤◌, ◌<◌, ◌^◌, ◌++◌, ◌∷◌, [], ℕ, None, length, option_to_list, true};
 ghost use Rattle.std.specs.List.{AllByRecursion};
 ghost use Rattle.std.specs.Vec.{vec_len, vec_capacity};
 ghost use Rattle.indexmap.specs.IndexMap.{get, keys, spare};
@@ -9,11 +9,7 @@ ghost use Rattle.swf_world.specs.Kept.{IsPlaced};
 ghost use Rattle.swf_world.specs.Changes.{Suits, SuitsLoad, SuitsStart, SuitsEvent, SuitsMoment, SuitsStep, FitsAt, take_at, with_heard, with_moment, with_stepped, changed};
 ghost use Rattle.swf_world.specs.Offers.{put_all, IsHeardFrom};
 ghost use Rattle.swf_turns.specs.Line.{is_among};
-ghost use Rattle.swf_turns.specs.Waits.{is_set};
-ghost use Rattle.swf_turns.specs.declared.timers.Timer.{Timer};
 ghost use Rattle.swf_world.specs.Queued.{Queued};
-ghost use Rattle.swf_tasks.specs.Prepares.{is_at};
-ghost use Rattle.swf_world.specs.Waits.{above};
 
 use crate::offer::Hearing;
 use crate::world::{Loaded, World};
@@ -25,7 +21,7 @@ use swf_duration::Moment;
 use swf_meaning::Key;
 use swf_tasks::{BoxedMachine, Machine, SentEvent, Step};
 use swf_text::Text;
-use swf_turns::{Timers, Turns};
+use swf_turns::Turns;
 
 /// What was installed.
 #[derive(Clone, Copy)]
@@ -56,12 +52,10 @@ pub enum ChangeKind {
     },
     /// The moment that is reached, in milliseconds.
     Moment(u64),
-    /// The step of the instance of that number, the moment that its strand begins to wait for, the event that goes out, and the
-    /// others that took it.
+    /// The step of the instance of that number, the event that goes out, and the others that took it.
     Step {
         number: usize,
         step: Step,
-        until: Option<u64>,
         emitted: Option<SentEvent>,
         heard: Vec<Hearing>,
     },
@@ -95,10 +89,9 @@ impl World {
             ChangeKind::Step {
                 number,
                 step,
-                until,
                 emitted,
                 heard,
-            } => self.install_step(number, step, until, emitted, heard),
+            } => self.install_step(number, step, emitted, heard),
         }
         Installed { place, taken }
     }
@@ -121,6 +114,7 @@ impl World {
         add(&mut self.instances, id, instance.into_machine());
         add(&mut self.keys, used, self.count);
         self.turns.add();
+        self.alarms.add();
         self.count += 1;
     }
 
@@ -141,7 +135,7 @@ impl World {
         ensures { self.new.world ≡ with_moment self.old.world milliseconds }
     {
         let moment = Moment::new(milliseconds);
-        self.timers.wake(&mut self.turns, milliseconds);
+        self.alarms.wake(&mut self.turns, milliseconds);
         add(&mut self.keys, Key::Moment(milliseconds), self.count);
         self.moment = moment;
         self.count += 1;
@@ -152,17 +146,16 @@ impl World {
         &mut self,
         number: usize,
         step: Step,
-        until: Option<u64>,
         emitted: Option<SentEvent>,
         heard: Vec<Hearing>,
     )
-        requires suits { SuitsStep self.old.world number step until emitted heard.items }
+        requires suits { SuitsStep self.old.world number step emitted heard.items }
         requires room { 0 < self.old.room }
         ensures { self.new.world ≡ with_stepped self.old.world number step emitted heard.items }
     {
         install_heard(&mut self.instances, &mut self.turns, heard);
-        set_timer(&mut self.timers, number, until, self.moment);
         take_at(&mut self.instances, number, step);
+        self.alarms.set(number, self.instances[number].alarm());
         put_out(&mut self.outbox, emitted);
         self.count += 1;
     }
@@ -173,13 +166,12 @@ fn install_heard(instances: &mut IndexMap<Text, Machine>, turns: &mut Turns, hea
     requires placed { AllByRecursion IsPlaced instances.old.entries }
     requires from { AllByRecursion (IsHeardFrom (instances_in instances.old.entries)) heard.items }
     requires count { turns.old.count ≡ length (instances_in instances.old.entries) }
-    requires room { length heard.items ≤ turns.old.room }
     ensures heard { instances_in instances.new.entries ≡ put_all heard.items (instances_in instances.old.entries) }
     ensures placed { AllByRecursion IsPlaced instances.new.entries }
     ensures ids { keys instances.new ≡ keys instances.old }
     ensures count { turns.new.count ≡ turns.old.count }
     ensures still { (n : ℕ) → is_among n turns.old.numbers ≡ true → is_among n turns.new.numbers ≡ true }
-    ensures queued { (now : ℕ) (timers : List Timer) → Queued now (instances_in instances.old.entries) turns.old.numbers timers → Queued now (instances_in instances.new.entries) turns.new.numbers timers }
+    ensures queued { (now : ℕ) → Queued now (instances_in instances.old.entries) turns.old.numbers → Queued now (instances_in instances.new.entries) turns.new.numbers }
 {
     for Hearing { number, instance } in heard {
         turns.put(number);
@@ -196,18 +188,6 @@ fn take_at(instances: &mut IndexMap<Text, Machine>, number: usize, step: Step)
     ensures ids { keys instances.new ≡ keys instances.old }
 {
     instances[number].take(step);
-}
-
-// Adds the timer of an instance that begins to wait, unless the moment has come.
-fn set_timer(timers: &mut Timers, number: usize, until: Option<u64>, now: Moment)
-    requires { 0 < timers.old.room }
-    ensures { (n m : ℕ) → is_set n m timers.new.set ≡ (((n == number) && is_at m (above now until)) || is_set n m timers.old.set) }
-{
-    if let Some(until) = until {
-        if until > now.milliseconds() {
-            timers.set(number, until);
-        }
-    }
 }
 
 // The event that goes out is kept, where one does.

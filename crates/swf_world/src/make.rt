@@ -102,7 +102,6 @@ pub fn step_change(
     Ok(untold(ChangeKind::Step {
         number,
         step,
-        until: prepared.until,
         emitted: prepared.emitted,
         heard,
     }))

@@ -81,7 +81,7 @@ impl World {
         }
     }
 
-    // Makes room for one change more. A moment may give each that waits a turn, and an event each that listens.
+    // Makes room for one change more.
     fn make_room(&mut self) -> Result<(), AllocError>
         ensures same { self.new.world ≡ self.old.world }
         ensures room { OnOk result (0 < self.new.room) }
@@ -92,10 +92,9 @@ impl World {
         }
         make_words(self.alloc, &mut self.words)?;
         reserve_maps(&mut self.documents, &mut self.instances, &mut self.keys)?;
-        self.timers.reserve(1)?;
         self.outbox.reserve(1)?;
-        self.turns
-            .reserve(self.timers.len() + self.instances.len() + 1)
+        self.turns.reserve(1)?;
+        self.alarms.reserve(1)
     }
 
     fn prepare_load(&self, value: &Json) -> Result<Change, PrepareFault>

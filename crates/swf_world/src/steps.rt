@@ -1,5 +1,5 @@
 // Whose turn it is: the enabled instances take steps in turn.
-ghost use Rattle.std.specs.Prelude.{◌≡◌, ◌<◌, List, Ok, None, true, IfOk, IfSome, IfNone, [], length};
+ghost use Rattle.std.specs.Prelude.{◌≡◌, ◌<◌, Ok, None, true, IfOk, IfSome, IfNone, [], length};
 ghost use Rattle.std.specs.List.{AllByRecursion};
 ghost use Rattle.swf_runs.specs.Runs.{is_quiet};
 ghost use Rattle.swf_meaning.specs.World.{World as TheWorld};
@@ -7,7 +7,6 @@ ghost use Rattle.swf_world.specs.Enabled.{CanGo};
 ghost use Rattle.swf_world.specs.Fields.{instances_in};
 ghost use Rattle.swf_world.specs.Kept.{IsPlaced};
 ghost use Rattle.swf_world.specs.Queued.{enabled_at, Queued};
-ghost use Rattle.swf_turns.specs.declared.timers.Timer.{Timer};
 
 use crate::world::World;
 use indexmap::IndexMap;
@@ -48,7 +47,7 @@ fn first_enabled(
     instances: &IndexMap<Text, Machine>,
     now: Moment,
 ) -> Option<usize>
-    ensures turns { (timers : List Timer) → Queued now (instances_in instances.now.entries) turns.old.numbers timers → Queued now (instances_in instances.now.entries) turns.new.numbers timers }
+    ensures turns { Queued now (instances_in instances.now.entries) turns.old.numbers → Queued now (instances_in instances.now.entries) turns.new.numbers }
     ensures count { turns.new.count ≡ turns.old.count }
     ensures none { IfNone result (turns.new.numbers ≡ []) }
     ensures some { IfSome result (λ n. (enabled_at now (instances_in instances.now.entries) n ≡ true) × (0 < length turns.new.numbers)) }

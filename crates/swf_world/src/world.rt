@@ -12,7 +12,7 @@ use swf_duration::Moment;
 use swf_meaning::Key;
 use swf_tasks::{Machine, Words};
 use swf_text::Text;
-use swf_turns::{Timers, Turns};
+use swf_turns::{Alarms, Turns};
 use swf_validate::Accepted;
 use swf_value::Json;
 
@@ -33,8 +33,8 @@ pub struct World {
     /// Every used key with its place.
     pub(crate) keys: IndexMap<Key, u64>,
     pub(crate) turns: Turns,
-    /// Of every strand that waits until a moment above now, and of some that wait no more.
-    pub(crate) timers: Timers,
+    /// Of each instance, the least moment that a strand of it waits for.
+    pub(crate) alarms: Alarms,
     /// The one that was reached last.
     pub(crate) moment: Moment,
     /// The events that went out.
@@ -46,7 +46,7 @@ pub struct World {
 }
 
 impl Model for World {
-    ghost use Rattle.std.specs.Prelude.{◌-◌, ◌+◌, length};
+    ghost use Rattle.std.specs.Prelude.{◌-◌};
     ghost use Rattle.std.specs.Vec.{vec_len, vec_capacity};
     ghost use Rattle.indexmap.specs.IndexMap.{spare};
     ghost use Rattle.swf_world.specs.Held.{Held, held_code};
@@ -58,9 +58,9 @@ impl Model for World {
     ghost use Rattle.swf_world.specs.Fields.{world_of, room_of};
     ghost use Rattle.swf_world.specs.Kept.{Kept};
 
-    ghost view = { λ w. record { world = world_of w.documents.entries w.instances.entries w.keys.entries w.moment w.outbox.items w.count; room = room_of (spare w.documents) (spare w.instances) (spare w.keys) (w.turns.room - (w.timers.count + length w.instances.entries)) w.timers.room (vec_capacity w.outbox - vec_len w.outbox) w.count } };
+    ghost view = { λ w. record { world = world_of w.documents.entries w.instances.entries w.keys.entries w.moment w.outbox.items w.count; room = room_of (spare w.documents) (spare w.instances) (spare w.keys) w.turns.room w.alarms.room (vec_capacity w.outbox - vec_len w.outbox) w.count } };
 
-    ghost invariant = { λ w. Kept w.documents.entries w.instances.entries w.keys.entries w.moment w.count w.turns w.timers.set };
+    ghost invariant = { λ w. Kept w.documents.entries w.instances.entries w.keys.entries w.moment w.count w.turns w.alarms.moments };
 }
 
 impl World {
@@ -74,7 +74,7 @@ impl World {
             instances: IndexMap::new(alloc),
             keys: IndexMap::new(alloc),
             turns: Turns::new(alloc),
-            timers: Timers::new(alloc),
+            alarms: Alarms::new(alloc),
             moment: Moment::new(0),
             outbox: Vec::new(alloc),
             count: 0,
@@ -93,13 +93,7 @@ impl World {
     pub fn due(&self, moment: u64) -> bool
         ensures { result ≡ is_due self.now.world moment }
     {
-        if moment <= self.moment.milliseconds() {
-            return false;
-        }
-        if !self.timers.is_over(moment) && self.turns.first().is_none() {
-            return false;
-        }
-        self.instances.values().any(|instance| instance.due(moment))
+        moment > self.moment.milliseconds() && self.alarms.is_over(moment)
     }
 
     /// The id of the instance of that number, from 0, in start order. It takes no memory.

@@ -1,4 +1,4 @@
-use Rattle.std.proofs.Common.{sym, subst, ◌∙◌, Ok, Err, Result, ap, is_some}
+use Rattle.std.proofs.Common.{sym, subst, ◌∙◌, Ok, Result, ap, is_some}
 use Rattle.std.specs.Result.{IfOk}
 use Rattle.swf_meaning.specs.declared.label.Answer.{Answer}
 use Rattle.swf_world.specs.declared.query.QueryFault.{QueryFault}

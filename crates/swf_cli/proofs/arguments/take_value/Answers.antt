@@ -1,17 +1,19 @@
-use Rattle.std.proofs.Common.{◌≡◌, ◌∙◌, sym, refl, Some, None}
-use Rattle.swf_protocol.specs.Number.{budget_of}
-use Rattle.swf_cli.proofs.WordLemmas.{value_twice_in, value_taken_in, value_refused_in}
+use Rattle.std.proofs.Common.{sym, ap, subst}
+use Rattle.swf_cli.specs.declared.arguments.Setting.{Setting}
+use Rattle.swf_cli.specs.Arguments.{TakesValue}
+use Rattle.swf_cli.specs.Words.{set_steps, with_setting}
+use Rattle.swf_cli.proofs.WordLemmas.{value_refused}
 use Rattle.swf_cli.proofs.arguments.take_value.Goals as goal
 
-pub returns-then-is_some : goal.returns-then-is_some
-returns-then-is_some c = λ a. value_twice_in c.args.progress.now.steps c.args.progress.now.mode c.args.word.now a (sym c.is_some.ensures ∙ c.if-is_some.true)
+pub returns-in-Steps : goal.returns-in-Steps
+returns-in-Steps c = subst (λ (o : Setting). TakesValue c.take_steps.result c.args.progress.now (o, c.args.word.now) c.take_steps.new.progress) (sym c.in-Steps.is) c.take_steps.ensures
 
-pub returns-in-Some : goal.returns-in-Some
-returns-in-Some c =
-    let is : budget_of c.args.word.now ≡ Some c.in-Some.steps = cc in
-    (refl, (λ a. value_taken_in c.args.progress.now.steps c.args.progress.now.mode c.args.word.now c.in-Some.steps a (sym c.is_some.ensures ∙ c.if-is_some.false) is))
+pub returns-in-Calls : goal.returns-in-Calls
+returns-in-Calls c = λ a.
+    let old = c.args.progress.now in
+    value_refused (set_steps old.steps) old.mode (c.args.setting, c.args.word.now) a (ap (λ (o : Setting). with_setting (set_steps old.steps) (o, c.args.word.now)) c.in-Calls.is)
 
-pub returns-in-None : goal.returns-in-None
-returns-in-None c = λ a.
-    let is : budget_of c.args.word.now ≡ None = cc in
-    value_refused_in c.args.progress.now.steps c.args.progress.now.mode c.args.word.now a (sym c.is_some.ensures ∙ c.if-is_some.false) is
+pub returns-in-Workers : goal.returns-in-Workers
+returns-in-Workers c = λ a.
+    let old = c.args.progress.now in
+    value_refused (set_steps old.steps) old.mode (c.args.setting, c.args.word.now) a (ap (λ (o : Setting). with_setting (set_steps old.steps) (o, c.args.word.now)) c.in-Workers.is)

@@ -11,6 +11,7 @@ returns-in-Ok-clause-runs g c =
     session_opened H.moment H.left_since H.said H.may_leave H.seen g.H.Host.taken g.met.H.Store.only_now c.args.words.now old opened c.take_turns.new.host c.in-Ok.engine c.take_turns.result
     (g.met.H.Host.beside_taken opened old c.open_on.ensures.beside) c.open_on.ensures.said
     (λ image is. c.in-Ok.ensures.opened image is) (λ image is history h. c.open_on.ensures.any_moment image is history h) c.take_turns.ensures.ran c.take_turns.ensures.sound
+    (λ first took pieces is. c.take_turns.ensures.tells first took pieces is)
 
 pub returns-in-Ok-clause-blamed : goal.returns-in-Ok-clause-blamed
 returns-in-Ok-clause-blamed g c =
@@ -31,4 +32,4 @@ returns-in-Err-clause-runs g c =
     (g.H.Host.host_faults opened) (g.H.Host.host_faults new) (H.store_faults opened) (H.store_faults new)
     (g.met.H.Host.beside_taken opened old c.open_on.ensures.beside) c.open_on.ensures.said c.not_opened.ensures.taken
     (λ image is at e. c.open_on.ensures.damaged image is at (c.in-Err.is ∙ ap Err e)) (λ image is history h. c.open_on.ensures.any_moment image is history h)
-    c.not_opened.ensures.tells c.not_opened.ensures.closes
+    (λ image is long. c.open_on.ensures.untouched image is long) c.not_opened.ensures.tells c.not_opened.ensures.closes

@@ -4,12 +4,13 @@ use Rattle.swf_store.specs.Stops.{Leaves}
 use Rattle.swf_meaning.specs.declared.label.Label.{Label}
 use Rattle.swf_host.specs.declared.host.Input.{Input}
 use Rattle.swf_engine.specs.Core.{IsEngineOf}
+use Rattle.swf_cli.specs.Heard.{Exchange, IsHeard}
 use Rattle.swf_cli.specs.Moments.{IsMoment}
 use Rattle.swf_cli.specs.Steps.{IsSound, Stand}
 use Rattle.swf_cli.proofs.SessionLemmas.{SoFar}
 use Rattle.swf_cli.proofs.session.take_turns.Given as goal
 
--- the engine's place, the turns so far since whatever state, and the counts
+-- the engine's place, the turns so far since whatever state, what was replied to, and the counts
 abbrev pub invariant-loop : goal.invariant-loop
 invariant-loop g l = record {
   place : IsEngineOf (g.H.Store.seen l.host) l.engine;
@@ -17,6 +18,8 @@ invariant-loop g l = record {
       → Stand g.H.Store.moment g.H.Store.left_since g.H.Store.said g.H.Store.may_leave g.H.Store.seen l.fn.host l.fn.engine before
       → Leaves g.H.Store.moment g.H.Store.left_since start l.fn.host (IsMoment l.words before first told first)
       → SoFar l.words g.H.Store.moment g.H.Store.left_since g.H.Store.said g.H.Store.may_leave g.H.Store.seen g.H.Host.taken start l.host l.engine before first told l.counter;
+  heard : (first : List Input) (told : List Piece) → g.H.Host.taken l.fn.host ≡ Some first → g.H.Store.said l.fn.host ≡ Some told
+      → (es : List Exchange) × IsHeard g.H.Store.moment g.H.Store.left_since g.H.Store.said g.H.Store.may_leave g.H.Store.seen g.H.Host.taken l.host first told es;
   sound : IsSound g.H.Store.moment g.H.Store.left_since g.H.Store.said g.H.Store.may_leave g.H.Store.seen l.fn.host l.fn.engine → IsSound g.H.Store.moment g.H.Store.left_since g.H.Store.said g.H.Store.may_leave g.H.Store.seen l.host l.engine;
   host_faults : g.H.Host.host_faults l.host ≡ g.H.Host.host_faults l.fn.host;
   store_faults : g.H.Store.store_faults l.host ≡ g.H.Store.store_faults l.fn.host;

@@ -37,4 +37,4 @@ returns-in-Err-clause-runs g c =
     (g.H.Host.host_faults opened) (g.H.Host.host_faults new) (H.store_faults opened) (H.store_faults new)
     (g.met.H.Host.beside_taken opened old c.open_on.ensures.beside) c.open_on.ensures.said c.not_opened.ensures.taken
     (λ image is at e. c.open_on.ensures.damaged image is at (c.in-Err.is ∙ ap Err e)) (λ image is history h. c.open_on.ensures.any_moment image is history h)
-    c.not_opened.ensures.tells c.not_opened.ensures.closes
+    (λ image is long. c.open_on.ensures.untouched image is long) c.not_opened.ensures.tells c.not_opened.ensures.closes

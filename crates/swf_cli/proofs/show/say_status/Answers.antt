@@ -1,4 +1,4 @@
-use Rattle.std.proofs.Common.{◌≡◌, ⊎_elim, sym, subst, ℕ, List}
+use Rattle.std.proofs.Common.{⊎_elim, sym, subst, ℕ, List}
 use Rattle.swf_cli.specs.Steps.{Says}
 use Rattle.swf_cli.specs.declared.turn.After.TheVariants.{GoesOn}
 use Rattle.swf_cli.proofs.ShowLemmas.{says_nothing}

@@ -1,4 +1,4 @@
-use Rattle.std.proofs.Common.{◌≡◌, ◌⊎◌, ◌∙◌, inl, inr, ⊎_elim, ap, sym, subst, Result, Ok, Err}
+use Rattle.std.proofs.Common.{subst, Result}
 use Rattle.swf_meaning.specs.declared.label.Answer.{Answer}
 use Rattle.swf_meaning.specs.declared.label.Query.TheVariants.{Status}
 use Rattle.swf_world.specs.Answers.{answer}
@@ -6,8 +6,7 @@ use Rattle.swf_world.specs.declared.query.QueryFault.{QueryFault}
 use Rattle.swf_engine.specs.declared.fault.EngineFault.{EngineFault}
 use Rattle.swf_engine.specs.Retelling.{AnswersQuery}
 use Rattle.swf_protocol.specs.Spoken.{spoken}
-use Rattle.swf_protocol.specs.declared.reply.Reply.{Reply}
-use Rattle.swf_cli.specs.Steps.{Says, queried}
+use Rattle.swf_cli.specs.Steps.{Says}
 use Rattle.swf_cli.specs.Turns.{query_reply}
 use Rattle.swf_cli.specs.declared.turn.After.TheVariants.{GoesOn}
 use Rattle.swf_cli.proofs.ShowLemmas.{status_said}

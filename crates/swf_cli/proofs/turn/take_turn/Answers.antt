@@ -1,4 +1,4 @@
-use Rattle.std.proofs.Common.{◌≡◌, ◌∙◌, ap, sym, false, Ok, Err, Option, option_map, List, [], ◌∷◌, ◌++◌}
+use Rattle.std.proofs.Common.{◌≡◌, ◌∙◌, ap, sym, inl, false, Ok, Err, Option, Some, option_map, List, [], ◌∷◌, ◌++◌, arith}
 use Rattle.swf_host.specs.declared.host.Input.{Input}
 use Rattle.swf_host.specs.declared.host.Input.TheVariants.{Ask as Asks, TooLong as TooLongInput, Closed}
 use Rattle.swf_cli.proofs.TurnLemmas.{Comes, asked_reply, asked_full, asked_broken, too_long_done, closed_done, none_done}
@@ -7,6 +7,7 @@ use Rattle.swf_protocol.specs.Spoken.{spoken, full_bytes}
 use Rattle.swf_protocol.specs.declared.reply.Reply.TheVariants.{TooLong}
 use Rattle.swf_cli.specs.Steps.{IsSound, follows_end}
 use Rattle.swf_cli.specs.declared.turn.After.TheVariants.{Stops}
+use Rattle.swf_cli.proofs.HeardLemmas.{reply_tells, full_tells, damage_tells}
 use Rattle.swf_cli.proofs.SoundLemmas.{end_is_none, seven_is_none, sound_stays, sound_asked_as, sound_said}
 use Rattle.swf_cli.proofs.turn.take_turn.Goals as goal
 
@@ -123,3 +124,58 @@ returns-in-Ok-TooLong-clause-sound g c = λ s.
     let first = sound_stays c.args.words.now H.moment H.left_since H.said H.may_leave H.seen c.args.host.now one c.args.engine.now c.next.ensures.seen c.next.ensures.stop s in
     sound_said c.args.words.now H.moment H.left_since H.said H.may_leave H.seen g.H.Host.taken one c.say-in-Ok-TooLong.new.host c.args.engine.now c.in-Ok-TooLong.conn (spoken TooLong) (follows_end false) c.say-in-Ok-TooLong.result
     (end_is_none false) c.say-in-Ok-TooLong.ensures.says first
+
+pub returns-in-Ok-clause-tells : goal.returns-in-Ok-clause-tells
+returns-in-Ok-clause-tells g c = λ inputs taken pieces said.
+    let H = g.H.Store in
+    let old = c.args.host.now in
+    let two = c.answer_ask.new.host in
+    let line = c.as_slice.result.now in
+    let conn = c.in-Ok-Ask.conn in
+    let input : c.in-Ok-Ask.field-0 ≡ Asks conn line = c.in-Ok-Ask.field-0-is ∙ ap (Asks conn) (sym c.as_slice.ensures) in
+    let took : g.H.Host.taken two ≡ Some (inputs ++ Asks conn line ∷ []) =
+    c.answer_ask.ensures.taken ∙ c.in-Ok-Ask.ensures.taken ∙ ap (with_input (g.H.Host.taken old)) input ∙ ap (λ (t : Option (List Input)). with_input t (Asks conn line)) taken in
+    let silent : H.said two ≡ Some pieces = c.answer_ask.ensures.said ∙ c.next.ensures.said ∙ said in
+    reply_tells H.moment H.left_since H.said H.may_leave H.seen g.H.Host.taken two c.say.new.host inputs pieces (Asks conn line) c.in-Ok.answered.reply c.in-Ok.answered.ends c.say.result took silent c.say.ensures.says
+
+pub returns-in-Err-Full-clause-tells : goal.returns-in-Err-Full-clause-tells
+returns-in-Err-Full-clause-tells g c = λ inputs taken pieces said.
+    let H = g.H.Store in
+    full_tells H.moment H.left_since H.said H.may_leave H.seen g.H.Host.taken c.answer_ask.new.host c.say_full.new.host inputs pieces c.in-Ok-Ask.conn c.in-Err-Full.size c.say_full.result c.say_full.ensures.says
+
+pub returns-in-Err-Damaged-clause-tells : goal.returns-in-Err-Damaged-clause-tells
+returns-in-Err-Damaged-clause-tells g c = λ inputs taken pieces said.
+    let H = g.H.Store in
+    let old = c.args.host.now in
+    let two = c.answer_ask.new.host in
+    let line = c.as_slice.result.now in
+    let conn = c.in-Ok-Ask.conn in
+    let input : c.in-Ok-Ask.field-0 ≡ Asks conn line = c.in-Ok-Ask.field-0-is ∙ ap (Asks conn) (sym c.as_slice.ensures) in
+    let took : g.H.Host.taken two ≡ Some (inputs ++ Asks conn line ∷ []) =
+    c.answer_ask.ensures.taken ∙ c.in-Ok-Ask.ensures.taken ∙ ap (with_input (g.H.Host.taken old)) input ∙ ap (λ (t : Option (List Input)). with_input t (Asks conn line)) taken in
+    let silent : H.said two ≡ Some pieces = c.answer_ask.ensures.said ∙ c.next.ensures.said ∙ said in
+    damage_tells H.moment H.left_since H.said H.may_leave H.seen g.H.Host.taken two c.say_damage.new.host inputs pieces conn line c.in-Err-Damaged.at c.say_damage.result took silent c.say_damage.ensures.says
+
+pub returns-in-Ok-TooLong-clause-tells : goal.returns-in-Ok-TooLong-clause-tells
+returns-in-Ok-TooLong-clause-tells g c = λ inputs taken pieces said.
+    let H = g.H.Store in
+    let old = c.args.host.now in
+    let conn = c.in-Ok-TooLong.conn in
+    let took : g.H.Host.taken c.next.new.self ≡ Some (inputs ++ TooLongInput conn ∷ []) =
+    c.in-Ok-TooLong.ensures.taken ∙ ap (with_input (g.H.Host.taken old)) c.in-Ok-TooLong.field-0-is ∙ ap (λ (t : Option (List Input)). with_input t (TooLongInput conn)) taken in
+    reply_tells H.moment H.left_since H.said H.may_leave H.seen g.H.Host.taken c.next.new.self c.say-in-Ok-TooLong.new.host inputs pieces (TooLongInput conn) TooLong false c.say-in-Ok-TooLong.result took (c.next.ensures.said ∙ said)
+    c.say-in-Ok-TooLong.ensures.says
+
+pub returns-in-Ok-Closed-clause-tells : goal.returns-in-Ok-Closed-clause-tells
+returns-in-Ok-Closed-clause-tells g c = λ inputs taken pieces said.
+    let old = c.args.host.now in
+    inl (
+      c.in-Ok-Closed.ensures.taken ∙ ap (with_input (g.H.Host.taken old)) c.in-Ok-Closed.field-0-is ∙ ap (λ (t : Option (List Input)). with_input t Closed) taken,
+      c.next.ensures.said ∙ said,
+    )
+
+pub returns-in-Err-Store-clause-tells : goal.returns-in-Err-Store-clause-tells
+returns-in-Err-Store-clause-tells g c = λ inputs taken pieces said. λ five. absurd (omega (arith, five))
+
+pub returns-clause-tells : goal.returns-clause-tells
+returns-clause-tells g c = λ inputs taken pieces said. λ five. absurd (omega (arith, five))

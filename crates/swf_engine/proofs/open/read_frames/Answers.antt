@@ -1,4 +1,4 @@
-use Rattle.std.proofs.Common.{◌≡◌, ◌∙◌, refl, subst, Ok, Err}
+use Rattle.std.proofs.Common.{◌∙◌, refl, subst, Ok}
 use Rattle.swf_store.specs.Said.{IsSaid}
 use Rattle.swf_store.proofs.Moments.{started, goes_on_only}
 use Rattle.swf_engine.specs.Reading.{Reads}

@@ -1,12 +1,9 @@
-use Rattle.std.proofs.Common.{◌≡◌, ◌∙◌, ap, sym, subst, ℕ, ◌+◌, List, [], ◌∷◌, ◌++◌, Option, Some, None, Vec, Global, Err, is_none, drop}
+use Rattle.std.proofs.Common.{◌≡◌, ◌∙◌, ap, sym, subst, ◌+◌, Some, None, Err, is_none, drop}
 use Rattle.swf_store.specs.Files.{bytes_of}
-use Rattle.swf_store.specs.declared.image.Image.{Image}
 use Rattle.swf_store.specs.declared.image.File.{File}
-use Rattle.swf_store.specs.declared.image.File.TheVariants.{Journal}
 use Rattle.swf_journal.specs.Frames.{header}
 use Rattle.swf_journal.specs.Opening.{IsDamage}
-use Rattle.swf_journal.specs.Place.{Place, HasRead}
-use Rattle.swf_journal.specs.Stands.{IsShutAfter}
+use Rattle.swf_journal.specs.Place.{Place}
 use Rattle.swf_engine.specs.declared.fault.EngineFault.{EngineFault}
 use Rattle.swf_engine.specs.Reading.{Reads}
 use Rattle.swf_engine.proofs.OpenLemmas.{of_journal, in_file, read_more, read_bad, read_ended, read_failed}

@@ -1,4 +1,4 @@
-use Rattle.std.proofs.Common.{◌≡◌, ap, sym, subst, Err, List, [], ◌++◌, take, append-nil, arith}
+use Rattle.std.proofs.Common.{ap, sym, subst, Err, List, ◌++◌, take, append-nil, arith}
 use Rattle.std.proofs.lemmas.List.{take_all}
 use Rattle.swf_meaning.specs.declared.label.Label.{Label}
 use Rattle.swf_record.specs.Encodes.{Encodes}

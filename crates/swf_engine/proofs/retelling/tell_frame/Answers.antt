@@ -1,4 +1,4 @@
-use Rattle.std.proofs.Common.{◌≡◌, ◌∙◌, sym, subst, ◌+◌, Some, None, Err, drop}
+use Rattle.std.proofs.Common.{◌≡◌, sym, subst, ◌+◌, Some, None, Err, drop}
 use Rattle.swf_store.specs.Files.{bytes_of}
 use Rattle.swf_store.specs.declared.image.File.{File}
 use Rattle.swf_journal.specs.Frames.{header}

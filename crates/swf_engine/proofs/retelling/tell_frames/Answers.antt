@@ -1,4 +1,4 @@
-use Rattle.std.proofs.Common.{◌≡◌, ◌∙◌, ◌<◌, ◌≤◌, subst, Bool, length, Ok, Err, arith}
+use Rattle.std.proofs.Common.{◌∙◌, ◌<◌, subst, Bool, length, Ok, arith}
 use Rattle.swf_store.proofs.Moments.{goes_on_only}
 use Rattle.swf_engine.specs.Retelling.{TellsFrame}
 use Rattle.swf_engine.proofs.RetellLemmas.{retold_full_as, retold_end_as, retold_failed}

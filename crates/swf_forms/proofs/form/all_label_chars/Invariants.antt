@@ -1,6 +1,6 @@
 use Rattle.std.proofs.Common.{◌≡◌, drop}
 use Rattle.std.specs.List.{list_all}
-use Rattle.swf_document.specs.Forms.{is_label_char}
+use Rattle.swf_forms.specs.Forms.{is_label_char}
 use Rattle.swf_forms.proofs.form.all_label_chars.Given as goal
 
 abbrev pub invariant-loop-byte : goal.invariant-loop-byte

@@ -1,6 +1,6 @@
 use Rattle.std.proofs.Common.{◌≡◌, ◌+◌, drop}
 use Rattle.std.specs.List.{position_or_len}
-use Rattle.swf_document.specs.Forms.{is_mark}
+use Rattle.swf_forms.specs.Forms.{is_mark}
 use Rattle.swf_forms.proofs.form.first_mark.Given as goal
 
 abbrev pub invariant-loop-place : goal.invariant-loop-place

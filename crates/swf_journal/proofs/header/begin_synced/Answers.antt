@@ -11,7 +11,7 @@ use Rattle.swf_journal.specs.JournalCalls.{header_calls}
 use Rattle.swf_journal.specs.Opening.{KeepsFrames}
 use Rattle.swf_journal.specs.Place.{Place}
 use Rattle.swf_journal.proofs.JournalCallLemmas.{header_failed}
-use Rattle.swf_journal.proofs.OpenLemmas.{only_keeps, looks_keep, header_keeps, put_header, begun_reading, length-begun, read_new, read_old}
+use Rattle.swf_journal.proofs.OpenLemmas.{only_keeps, looks_keep, looks_untouched, header_keeps, put_header, begun_reading, length-begun, read_new, read_old}
 use Rattle.swf_journal.proofs.header.begin_synced.Goals as goal
 
 pub returns-in_err-size-clause-any_moment : goal.returns-in_err-size-clause-any_moment
@@ -99,3 +99,33 @@ returns-clause-reading g c = λ image seen.
     let found = c.if-not-branch.false in
     let right : take 16 image.journal ≡ header = either.0 (search rules) in
     read_old image.journal c.at-2.result long right (ap (λ (p : Place). p.gate) c.at-2.ensures) (ap (λ (p : Place). p.ended) c.at-2.ensures)
+
+pub returns-in_err-size-clause-untouched : goal.returns-in_err-size-clause-untouched
+returns-in_err-size-clause-untouched g c = λ image seen long. record { same = c.journal_size.ensures.seen; stop = c.journal_size.ensures.stop; any_moment = c.journal_size.ensures.any_moment }
+
+pub returns-in_err-write_header-clause-untouched : goal.returns-in_err-write_header-clause-untouched
+returns-in_err-write_header-clause-untouched g c = λ image seen long. absurd (omega (arith, long, c.in_ok-size.ensures.size image seen))
+
+pub returns-then-size-lt-LEAST_SIZE-clause-untouched : goal.returns-then-size-lt-LEAST_SIZE-clause-untouched
+returns-then-size-lt-LEAST_SIZE-clause-untouched g c = λ image seen long. absurd (omega (arith, long, c.in_ok-size.ensures.size image seen))
+
+pub returns-in_err-has_header-clause-untouched : goal.returns-in_err-has_header-clause-untouched
+returns-in_err-has_header-clause-untouched g c = λ image seen long.
+    let S = g.S.Store in
+    let one = c.journal_size.ensures in
+    let two = c.has_header.ensures in
+    looks_untouched S.moment S.left_since S.said S.may_leave S.seen c.args.store.now c.journal_size.new.store c.has_header.new.store one.said one.seen one.stop one.any_moment two.seen two.stop two.any_moment
+
+pub returns-then-not-branch-clause-untouched : goal.returns-then-not-branch-clause-untouched
+returns-then-not-branch-clause-untouched g c = λ image seen long.
+    let S = g.S.Store in
+    let one = c.journal_size.ensures in
+    let two = c.has_header.ensures in
+    looks_untouched S.moment S.left_since S.said S.may_leave S.seen c.args.store.now c.journal_size.new.store c.has_header.new.store one.said one.seen one.stop one.any_moment two.seen two.stop two.any_moment
+
+pub returns-clause-untouched : goal.returns-clause-untouched
+returns-clause-untouched g c = λ image seen long.
+    let S = g.S.Store in
+    let one = c.journal_size.ensures in
+    let two = c.has_header.ensures in
+    looks_untouched S.moment S.left_since S.said S.may_leave S.seen c.args.store.now c.journal_size.new.store c.has_header.new.store one.said one.seen one.stop one.any_moment two.seen two.stop two.any_moment

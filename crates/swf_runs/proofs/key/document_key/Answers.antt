@@ -1,4 +1,4 @@
-use Rattle.std.proofs.Common.{◌≡◌, refl, codes, Option}
+use Rattle.std.proofs.Common.{refl, codes, Option}
 use Rattle.std.specs.Prelude.{option_map}
 use denote.Bor.{Bor}
 use Rattle.swf_value.specs.Value.{Value}

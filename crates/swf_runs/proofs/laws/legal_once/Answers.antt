@@ -3,4 +3,4 @@ use Rattle.swf_runs.proofs.OnceLemmas.{once_of_legal}
 use Rattle.swf_runs.proofs.laws.legal_once.Goals as goal
 
 pub returns : goal.returns
-returns c = once_of_legal
+returns c = record { no_key_twice = once_of_legal }

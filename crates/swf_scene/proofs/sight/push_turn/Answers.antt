@@ -1,5 +1,5 @@
 use Rattle.std.proofs.Common.{◌∙◌, ◌++◌, ◌≤◌, ap, sym, subst, length, append-nil}
-use Rattle.swf_meaning.specs.Sight.{variable}
+use Rattle.swf_meaning.specs.Line.{variable}
 use Rattle.swf_scene.proofs.RoundLemmas.{turn_past, pushed_turn}
 use Rattle.swf_scene.proofs.sight.push_turn.Goals as goal
 

@@ -16,11 +16,11 @@ returns-in-Fault c = λ fs ns e.
 
 pub returns-in-Waiting : goal.returns-in-Waiting
 returns-in-Waiting c = λ fs ns e.
-    ap (nat_le c.in-Waiting.until) c.milliseconds.ensures.value ∙ goes-waiting c.args.now fs c.args.top.now ns _ _ _ _ c.in-Waiting.until c.in-Waiting.is
+    ap (nat_le c.in-Waiting.until) c.milliseconds.ensures.value ∙ goes-waiting c.args.now fs c.args.top.now ns _ _ c.in-Waiting.until c.in-Waiting.is
 
 pub returns-in-Hearing : goal.returns-in-Hearing
 returns-in-Hearing c = λ fs ns e.
-    c.is_heard.ensures ∙ ap (is_heard c.in-Hearing.task) c.as_slice.ensures ∙ goes-hearing c.args.now fs c.args.top.now ns c.in-Hearing.task _ _ _ c.in-Hearing.heard c.in-Hearing.is
+    c.is_heard.ensures ∙ (λ i. is_heard (c.task.ensures i) (c.as_slice.ensures i)) ∙ goes-hearing c.args.now fs c.args.top.now ns c.in-Hearing.running _ c.in-Hearing.heard c.in-Hearing.is
 
 pub returns-in-Forked : goal.returns-in-Forked
-returns-in-Forked c = λ fs ns e. goes-forked c.args.now fs c.args.top.now ns _ _ _ c.in-Forked.is
+returns-in-Forked c = λ fs ns e. goes-forked c.args.now fs c.args.top.now ns _ c.in-Forked.is

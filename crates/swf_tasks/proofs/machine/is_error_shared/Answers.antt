@@ -12,7 +12,7 @@ use Rattle.swf_tasks.proofs.machine.is_error_shared.Goals as goal
 pub returns-in-Some-Running-default : goal.returns-in-Some-Running-default
 returns-in-Some-Running-default c = λ fs p e.
     let w = c.in-Some-Running-default in
-    c.may_try_again.ensures ∙ ap (λ (x : Frame). is_shared_error (round_of x.round) (kind_of x.task)) c.frame.ensures ∙ error-last fs (frames_of w.field-0-1.now) w.frame p (last-of fs c.args.around.now w.field-0-1.now w.frame e (w.ensures.cases.0 ∙ ap (λ (l : Layer). w.field-0-1.now ++ l ∷ []) w.field-0-0-is))
+    c.may_try_again.ensures ∙ ap (λ (x : Frame). is_shared_error (round_of x.round) (kind_of x.running.task)) c.frame.ensures ∙ error-last fs (frames_of w.field-0-1.now) w.frame p (last-of fs c.args.around.now w.field-0-1.now w.frame e (w.ensures.cases.0 ∙ ap (λ (l : Layer). w.field-0-1.now ++ l ∷ []) w.field-0-0-is))
 
 pub returns-in-Some-Top-default : goal.returns-in-Some-Top-default
 returns-in-Some-Top-default c = λ fs p e.

@@ -1,11 +1,9 @@
 use Rattle.std.proofs.Common.{◌≡◌, ◌∙◌, ap, sym, subst, arith, length}
 use Rattle.std.proofs.Common.{true}
-use Rattle.swf_meaning.specs.Sight.{Sight}
+use Rattle.swf_meaning.specs.Line.{Site}
 use Rattle.swf_meaning.specs.Strands.{can_go}
-use Rattle.swf_scene.specs.Layers.{frames_of}
-use Rattle.swf_scene.specs.Stack.{sight_of}
+use Rattle.swf_scene.specs.Stack.{line_of, site_of}
 use Rattle.swf_strands.specs.Strands.{node_of}
-use Rattle.swf_tasks.proofs.StepLemmas.{seen_in-now}
 use Rattle.swf_tasks.proofs.ChangeLemmas.{no-numbers, own-goes, own-told, child-goes, fork-there, branch-told, nowhere-goes, Goes}
 use Rattle.swf_strands.proofs.TreeLemmas.{child-held}
 use Rattle.swf_tasks.proofs.step.+step_of.Goals as goal
@@ -16,7 +14,7 @@ own_step-requires t c =
 
 pub returns-in_default : goal.returns-in_default
 returns-in_default t c =
-    own-told (sight_of c.args.scene) c.args.forest.now c.args.strand c.args.branches.now c.stack_of.result.around.now c.stack_of.result.top.now c.own_step.result (no-numbers c.args.branches.now c.in_default.ensures.cases) c.requires.can c.stack_of.ensures.around c.stack_of.ensures.top c.own_step.ensures
+    own-told (site_of c.args.scene) (line_of c.args.scene) c.args.forest.now c.args.strand c.args.branches.now c.stack_of.result.around.now c.stack_of.result.top.now c.own_step.result (no-numbers c.args.branches.now c.in_default.ensures.cases) c.requires.can c.stack_of.ensures.around c.stack_of.ensures.top c.own_step.ensures
 
 pub unreachable-requires : goal.unreachable-requires
 unreachable-requires t c =
@@ -26,7 +24,7 @@ unreachable-requires t c =
 
 pub step_of-requires : goal.step_of-requires
 step_of-requires t c =
-    let now : c.args.scene.now ≡ c.in_ok-copy.field-0.now = sym (ap (λ (s : Sight). s.now) (c.in_ok-copy.ensures ∙ c.in_ok-scene.ensures) ∙ seen_in-now (sight_of c.args.scene) (frames_of c.stack_of.result.around.now)) in
+    let now : c.args.scene.now ≡ c.in_ok-copy.field-0.now = sym (ap (λ (s : Site). s.now) (c.in_ok-copy.ensures.site ∙ c.in_ok-scene.ensures.site)) in
     let size = ap length c.in-Some.ensures.cases.0 in (
       omega (arith, size, c.decreases),
       (
@@ -41,5 +39,5 @@ settle-requires-clause-fork t c =
 
 pub returns : goal.returns
 returns t c =
-    branch-told (sight_of c.args.scene) (sight_of c.in_ok-scene.scene) (sight_of c.in_ok-copy.field-0) c.args.forest.now c.args.strand c.in-Some.number.now c.in-Some-child_of.child c.args.branches.now c.in-Some.inner.now c.stack_of.result.around.now c.in_ok-change.change c.settle.result
-    c.requires.held c.in-Some-child_of.ensures.child c.in-Some.ensures.cases.0 c.stack_of.ensures.around c.in_ok-scene.ensures c.in_ok-copy.ensures c.in_ok-change.ensures c.settle.ensures
+    branch-told (site_of c.args.scene) (site_of c.in_ok-scene.scene) (site_of c.in_ok-copy.field-0) (line_of c.args.scene) (line_of c.in_ok-scene.scene) (line_of c.in_ok-copy.field-0) c.args.forest.now c.args.strand c.in-Some.number.now c.in-Some-child_of.child c.args.branches.now c.in-Some.inner.now c.stack_of.result.around.now c.in_ok-change.change c.settle.result
+    c.requires.held c.in-Some-child_of.ensures.child c.in-Some.ensures.cases.0 c.stack_of.ensures.around c.in_ok-scene.ensures.site c.in_ok-copy.ensures.site c.in_ok-scene.ensures.line c.in_ok-copy.ensures.line c.in_ok-change.ensures c.settle.ensures

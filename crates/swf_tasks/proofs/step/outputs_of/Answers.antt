@@ -7,9 +7,10 @@ use Rattle.swf_meaning.specs.Node.{Node}
 use Rattle.swf_scene.specs.Layers.{top_of}
 use Rattle.swf_scene.specs.Stack.{top_node}
 use Rattle.swf_scene.specs.declared.made.Layer.{Layer}
+use Rattle.swf_tasks.specs.Installed.{output_in}
 use Rattle.swf_tasks.specs.Stepped.{output_on}
 use Rattle.swf_strands.specs.Strands.{nodes_of}
-use Rattle.swf_tasks.proofs.OutputLemmas.{AreUpTo, node_output, output-of-branch, one-more, not-all, all-done, none-left, below-beside, few-below}
+use Rattle.swf_tasks.proofs.OutputLemmas.{AreUpTo, output-of-branch, one-more, not-all, all-done, none-left, below-beside, few-below}
 use Rattle.swf_strands.proofs.TreeLemmas.{nth_node, yes-no}
 use Rattle.swf_tasks.proofs.step.outputs_of.Goals as goal
 use Rattle.swf_tasks.proofs.step.outputs_of.Goals.{then-next-number, else-next-number}
@@ -21,7 +22,7 @@ returns-in_default-output c = λ b f.
     let ms = put (nodes_of b.below) number (top_node c.args.ended.now) in
     let h = c.in-Some.ensures.child b f in
     let child : Found Layer = record { number = c.in-Some.branch; held = h.0 } in
-    let told : (n : Node) × ((nth_node ms next ≡ Some n) × (node_output n ≡ option_map (λ w. w.now) c.if-next-number.output)) =
+    let told : (n : Node) × ((nth_node ms next ≡ Some n) × (output_in n ≡ option_map (λ w. w.now) c.if-next-number.output)) =
     elim c.if-next-number.branch [
       | then-next-number w ↦ let o = output-of-branch b number next child c.args.ended.now h.1.0 true (λ _. w.if-next-number.true) (λ e. absurd (yes-no e)) in (o.0, (o.1.0, o.1.1 ∙ sym (ap (option_map (λ w. w.now)) w.output-is ∙ w.output_of-output.ensures)))
       | else-next-number w ↦ let o = output-of-branch b number next child c.args.ended.now h.1.0 false (λ e. absurd (yes-no (sym e))) (λ _ e. w.if-next-number.false (sym e)) in (
@@ -55,7 +56,7 @@ loop-branch-preserved c = λ b f.
     let ms = put (nodes_of b.below) number (top_node c.args.ended.now) in
     let h = c.in-Some.ensures.child b f in
     let child : Found Layer = record { number = c.in-Some.branch; held = h.0 } in
-    let told : (n : Node) × ((nth_node ms next ≡ Some n) × (node_output n ≡ option_map (λ w. w.now) c.if-next-number.output)) =
+    let told : (n : Node) × ((nth_node ms next ≡ Some n) × (output_in n ≡ option_map (λ w. w.now) c.if-next-number.output)) =
     elim c.if-next-number.branch [
       | then-next-number w ↦ let o = output-of-branch b number next child c.args.ended.now h.1.0 true (λ _. w.if-next-number.true) (λ e. absurd (yes-no e)) in (o.0, (o.1.0, o.1.1 ∙ sym (ap (option_map (λ w. w.now)) w.output-is ∙ w.output_of-output.ensures)))
       | else-next-number w ↦ let o = output-of-branch b number next child c.args.ended.now h.1.0 false (λ e. absurd (yes-no (sym e))) (λ _ e. w.if-next-number.false (sym e)) in (

@@ -1,9 +1,12 @@
-use Rattle.std.proofs.Common.{◌≡◌, ◌∙◌, ap, sym, subst, refl, Option, Some, None, Ok}
-use Rattle.swf_meaning.specs.Complete.{Stepped}
-use Rattle.swf_meaning.specs.Sight.{Sight}
-use Rattle.swf_rules.specs.Settles.{ending, Settles}
+use Rattle.std.proofs.Common.{◌≡◌, ◌∙◌, ap, sym, subst, refl, Option, Some, None, Ok, Result}
+use Rattle.std.specs.Prelude.{option_map}
+use Rattle.swf_document.specs.declared.error.Problem.{Problem}
+use Rattle.swf_meaning.specs.Complete.{Stepped, step_of}
+use Rattle.swf_meaning.specs.Fork.{competes}
+use Rattle.swf_meaning.specs.Line.{Line}
+use Rattle.swf_rules.specs.Settles.{ending, MakesSome}
 use Rattle.swf_scene.specs.Layers.{frames_of, top_of}
-use Rattle.swf_scene.specs.Stack.{seen_in, sight_of, stepped_of}
+use Rattle.swf_scene.specs.Stack.{line_of, seen_in, site_of, stepped_of}
 use Rattle.swf_scene.specs.declared.made.Top.TheVariants as tops
 use Rattle.swf_tasks.specs.Stepped.{IsChange, ended_of}
 use Rattle.swf_strands.specs.Strands.{node_of}
@@ -13,36 +16,42 @@ use Rattle.swf_tasks.proofs.step.settle.Goals as goal
 use Rattle.swf_tasks.proofs.step.settle.Goals.{in-Ok-Some, in-Err+in_ok-made-in-Err}
 
 pub returns-in_default : goal.returns-in_default
-returns-in_default c = ok-then _ _ c.deeper.result c.deeper.ensures (λ r is b s inner f seen change.
-    goes-deeper s b c.args.number change.0 inner c.args.change r (held-is c.args.forest.now c.args.strand b c.requires.held f) change.1.0
-    (subst (λ z. IsChange z inner (node_of change.0.held) c.args.change) seen change.1.1) (none-of (λ t. t.now) c.ended.result (ended_of c.args.change.depth c.args.change.layers.items) c.ended.ensures c.in_default.not-Some) is)
+returns-in_default c =
+    let at = site_of c.args.scene in
+    ok-then _ _ c.deeper.result c.deeper.ensures (λ r is b l inner f seen change.
+    goes-deeper at l b c.args.number change.0 inner c.args.change r (held-is c.args.forest.now c.args.strand b c.requires.held f) change.1.0
+    (subst (λ z. IsChange at z inner (node_of change.0.held) c.args.change) seen change.1.1) (none-of (λ t. t.now) c.ended.result (ended_of c.args.change.depth c.args.change.layers.items) c.ended.ensures c.in_default.not-Some) is)
 
 pub returns-in-Ok-None : goal.returns-in-Ok-None
 returns-in-Ok-None c =
+    let at = site_of c.args.scene in
     let x = c.in-Some.ended.now in
-    let z = sight_of c.with_context-scene.result in
+    let z = line_of c.with_context-scene.result in
     let w = c.in-Forked in
-    let gives : ending z w.task w.raw w.input c.competes.result c.in_ok-outputs.outputs x ≡ None =
-    subst (λ r. Settles z w.task w.raw w.input c.competes.result x c.in_ok-outputs.outputs r) (c.in-Ok-None.is ∙ ap Ok c.in-Ok-None.field-0-is) c.settled-given.ensures in
-    ok-then _ _ c.deeper-in-Ok-None.result c.deeper-in-Ok-None.ensures (λ r is b s inner f seen change.
-    settle-on s b c.args.number change.0 inner c.args.change r x (held-is c.args.forest.now c.args.strand b c.requires.held f) change.1.0
-    (subst (λ y. IsChange y inner (node_of change.0.held) c.args.change) seen change.1.1) (some-of (λ t. t.now) c.ended.result (ended_of c.args.change.depth c.args.change.layers.items) c.in-Some.ended c.ended.ensures c.in-Some.is)
-    (settles-to z (seen_in s (frames_of b.frames)) b c.args.number c.args.change x w.task w.raw w.input c.in_ok-copy.field-0 c.competes.result c.in_ok-outputs.outputs None (c.with_context-scene.ensures ∙ ap (λ (y : Sight). record y { context = c.in_ok-copy.field-0 }) seen) c.in_ok-copy.ensures c.competes.ensures (c.in_ok-outputs.ensures b f) gives (sym (c.stack_of.ensures.top b f) ∙ w.is))
+    let e = ending z w.running c.competes.result c.in_ok-outputs.outputs x in
+    let none : e ≡ None = subst (λ r. MakesSome e r) (c.in-Ok-None.is ∙ ap Ok c.in-Ok-None.field-0-is) c.settled-given.ensures in
+    ok-then _ _ c.deeper-in-Ok-None.result c.deeper-in-Ok-None.ensures (λ r is b l inner f seen change.
+    settle-on at l b c.args.number change.0 inner c.args.change r x (held-is c.args.forest.now c.args.strand b c.requires.held f) change.1.0
+    (subst (λ y. IsChange at y inner (node_of change.0.held) c.args.change) seen change.1.1) (some-of (λ t. t.now) c.ended.result (ended_of c.args.change.depth c.args.change.layers.items) c.in-Some.ended c.ended.ensures c.in-Some.is)
+    (settles-to z (seen_in l (frames_of b.frames)) b c.args.number c.args.change x w.running c.in_ok-copy.field-0 c.competes.result c.in_ok-outputs.outputs None (c.with_context-scene.ensures.line ∙ ap (λ (y : Line). record y { context = c.in_ok-copy.field-0 }) seen) c.in_ok-copy.ensures
+    (c.competes.ensures ∙ ap competes c.task.ensures) (c.in_ok-outputs.ensures b f) (ap (option_map (step_of z)) none) (sym (c.stack_of.ensures.top b f) ∙ w.is))
     is)
 
 pub returns : goal.returns
-returns c = λ b s inner f seen change.
+returns c = λ b l inner f seen change.
+    let at = site_of c.args.scene in
     let x = c.in-Some.ended.now in
-    let z = sight_of c.with_context-scene.result in
+    let z = line_of c.with_context-scene.result in
     let w = c.in-Forked in
     let made = c.match-given.made in
-    let top : top_of b.frames ≡ tops.Forked w.task w.raw w.input = sym (c.stack_of.ensures.top b f) ∙ w.is in
-    let e : Option Stepped = ending z w.task w.raw w.input c.competes.result c.in_ok-outputs.outputs x in
-    let gives : e ≡ Some (stepped_of made) = elim c.match-given.branch [
-      | in-Ok-Some v ↦ subst (λ r. Settles z w.task w.raw w.input c.competes.result x c.in_ok-outputs.outputs r) (v.in-Ok-Some.is ∙ ap Ok v.in-Ok-Some.field-0-is) c.settled-given.ensures ∙ ap (λ m. Some (stepped_of m)) (sym v.made-is)
-      | in-Err+in_ok-made-in-Err v ↦ halted z w.task w.raw e v.in-Err.halt v.in_ok-made-in-Err.made (subst (λ r. Settles z w.task w.raw w.input c.competes.result x c.in_ok-outputs.outputs r) v.in-Err.is c.settled-given.ensures) v.in_ok-made-in-Err.ensures ∙ ap (λ m. Some (stepped_of m)) (sym v.made-is)
+    let top : top_of b.frames ≡ tops.Forked w.running = sym (c.stack_of.ensures.top b f) ∙ w.is in
+    let e : Option (Result Stepped Problem) = ending z w.running c.competes.result c.in_ok-outputs.outputs x in
+    let gives : option_map (step_of z) e ≡ Some (stepped_of made) = elim c.match-given.branch [
+      | in-Ok-Some v ↦ ap (option_map (step_of z)) (subst (λ r. MakesSome e r) (v.in-Ok-Some.is ∙ ap Ok v.in-Ok-Some.field-0-is) c.settled-given.ensures) ∙ ap (λ m. Some (stepped_of m)) (sym v.made-is)
+      | in-Err+in_ok-made-in-Err v ↦ halted z w.running e v.in-Err.halt v.in_ok-made-in-Err.made (subst (λ r. MakesSome e r) v.in-Err.is c.settled-given.ensures) v.in_ok-made-in-Err.ensures ∙ ap (λ m. Some (stepped_of m)) (sym v.made-is)
     ] in
-    settle-off s b c.args.number change.0 inner c.args.change _ x made (held-is c.args.forest.now c.args.strand b c.requires.held f) change.1.0
-    (subst (λ y. IsChange y inner (node_of change.0.held) c.args.change) seen change.1.1) (some-of (λ t. t.now) c.ended.result (ended_of c.args.change.depth c.args.change.layers.items) c.in-Some.ended c.ended.ensures c.in-Some.is)
-    (settles-to z (seen_in s (frames_of b.frames)) b c.args.number c.args.change x w.task w.raw w.input c.in_ok-copy.field-0 c.competes.result c.in_ok-outputs.outputs (Some (stepped_of made)) (c.with_context-scene.ensures ∙ ap (λ (y : Sight). record y { context = c.in_ok-copy.field-0 }) seen) c.in_ok-copy.ensures c.competes.ensures (c.in_ok-outputs.ensures b f) gives top)
+    settle-off at l b c.args.number change.0 inner c.args.change _ x made (held-is c.args.forest.now c.args.strand b c.requires.held f) change.1.0
+    (subst (λ y. IsChange at y inner (node_of change.0.held) c.args.change) seen change.1.1) (some-of (λ t. t.now) c.ended.result (ended_of c.args.change.depth c.args.change.layers.items) c.in-Some.ended c.ended.ensures c.in-Some.is)
+    (settles-to z (seen_in l (frames_of b.frames)) b c.args.number c.args.change x w.running c.in_ok-copy.field-0 c.competes.result c.in_ok-outputs.outputs (Some (stepped_of made)) (c.with_context-scene.ensures.line ∙ ap (λ (y : Line). record y { context = c.in_ok-copy.field-0 }) seen) c.in_ok-copy.ensures
+    (c.competes.ensures ∙ ap competes c.task.ensures) (c.in_ok-outputs.ensures b f) gives top)
     refl (c.in_ok-layers_of.ensures (frames_of b.frames) (c.stack_of.ensures.around b f)) refl refl

@@ -1,8 +1,7 @@
-use Rattle.std.proofs.Common.{◌≡◌, ◌∙◌, ap, sym, subst, refl, List, length, map, arith}
+use Rattle.std.proofs.Common.{◌≡◌, ◌∙◌, ap, sym, subst, refl, length, map, arith}
 use Rattle.std.specs.List.{AllByRecursion}
 use Rattle.std.proofs.lemmas.Bool.{or_left}
 use Rattle.std.proofs.lemmas.List.{nil_from_length}
-use Rattle.swf_world.specs.declared.offer.Hearing.{Hearing}
 use Rattle.swf_world.specs.Fields.{instances_in}
 use Rattle.swf_world.specs.Offers.{put_at, put_all, IsHeardFrom, mark}
 use Rattle.swf_turns.specs.Line.{is_among}
@@ -23,19 +22,15 @@ loop-number-init c =
       from = subst (AllByRecursion (IsHeardFrom is)) (sym same) c.requires.from;
       count = refl;
       long = refl;
-      room = omega (arith, c.requires.room, ap (λ (hs : List Hearing). length hs) same);
       still = λ n e. e;
-      queued = λ now timers q. q;
+      queued = λ now q. q;
     }
 
-pub put-requires-clause-known : goal.put-requires-clause-known
-put-requires-clause-known c =
+pub put-requires : goal.put-requires
+put-requires c =
     let is = instances_in c.loop-number.instances.entries in
     let from = subst (AllByRecursion (IsHeardFrom is)) c.in-Some.ensures.steps.0 c.loop-number.invariant.from in
     omega (arith, heard_within is c.in-Some.field-0.number c.in-Some.field-0.instance from.0, c.loop-number.invariant.count, c.loop-number.invariant.long, c.requires.count)
-
-pub put-requires-clause-room : goal.put-requires-clause-room
-put-requires-clause-room c = omega (arith, c.loop-number.invariant.room, ap (λ (hs : List Hearing). length hs) c.in-Some.ensures.steps.0)
 
 pub take_at-requires-clause-fits : goal.take_at-requires-clause-fits
 take_at-requires-clause-fits c =
@@ -59,11 +54,10 @@ loop-number-preserved c =
       from = from_again is (instances_in c.take_at.new.instances.entries) hs marks from.1;
       count = c.put.ensures.count ∙ c.loop-number.invariant.count;
       long = ap length put ∙ length_put is n j ∙ c.loop-number.invariant.long;
-      room = omega (arith, c.loop-number.invariant.room, c.put.ensures.room, ap (λ (hs : List Hearing). length hs) c.in-Some.ensures.steps.0);
       still = λ m e. c.put.ensures.among m ∙ or_left (is_among m c.loop-number.turns.numbers) _ (c.loop-number.invariant.still m e);
-      queued = λ now timers q.
-          subst (λ xs. Queued now xs c.put.new.self.numbers timers) (sym put)
-          (queued_heard now is c.loop-number.turns.numbers c.put.new.self.numbers timers n j from.0 c.put.ensures.among (c.loop-number.invariant.queued now timers q));
+      queued = λ now q.
+          subst (λ xs. Queued now xs c.put.new.self.numbers) (sym put)
+          (queued_heard now is c.loop-number.turns.numbers c.put.new.self.numbers n j c.put.ensures.among (c.loop-number.invariant.queued now q));
     }
 
 pub returns-clause-heard : goal.returns-clause-heard

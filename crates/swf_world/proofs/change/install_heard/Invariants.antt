@@ -1,7 +1,6 @@
-use Rattle.std.proofs.Common.{◌≡◌, ◌≤◌, ℕ, List, length, true}
+use Rattle.std.proofs.Common.{◌≡◌, ℕ, length, true}
 use Rattle.std.specs.List.{AllByRecursion}
 use Rattle.indexmap.specs.IndexMap.{keys}
-use Rattle.swf_turns.specs.declared.timers.Timer.{Timer}
 use Rattle.swf_world.specs.Fields.{instances_in}
 use Rattle.swf_world.specs.Kept.{IsPlaced}
 use Rattle.swf_world.specs.Offers.{put_all, IsHeardFrom}
@@ -22,7 +21,6 @@ invariant-loop-number l =
       from : AllByRecursion (IsHeardFrom is) hs;
       count : l.turns.count ≡ l.fn.turns.count;
       long : length is ≡ length was;
-      room : length hs ≤ l.turns.room;
       still : (n : ℕ) → is_among n l.fn.turns.numbers ≡ true → is_among n l.turns.numbers ≡ true;
-      queued : (now : ℕ) (timers : List Timer) → Queued now was l.fn.turns.numbers timers → Queued now is l.turns.numbers timers;
+      queued : (now : ℕ) → Queued now was l.fn.turns.numbers → Queued now is l.turns.numbers;
     }

@@ -16,5 +16,5 @@ returns c =
     let p = c.in-Ok.prepared in
     let step = c.in_ok-step.step in
     let there : slice_get is n ≡ Some i = instance_there c.args.instances.now.entries n i c.index-instance.ensures in
-    let ready : IsReady now n strand is step p.until p.emitted = prepared_ready now n strand is i p step there c.in-Ok.ensures.ok c.in_ok-step.ensures.0 c.in_ok-step.ensures.1 in
+    let ready : IsReady now n strand is step p.emitted = prepared_ready now n strand is i p step there c.in-Ok.ensures.ok c.in_ok-step.ensures.0 c.in_ok-step.ensures.1 in
     subst (IsStepping now n strand is) (sym c.untold.ensures) (record { steps = (refl, ready, c.in_ok-heard.ensures); taken = refl })

@@ -5,7 +5,7 @@ use Rattle.swf_world.proofs.steps.first_enabled.Goals as goal
 
 pub loop-number-preserved : goal.loop-number-preserved
 loop-number-preserved c = record {
-  turns = λ timers h. queued_left c.args.now (instances_in c.args.instances.now.entries) timers c.loop-number.turns.numbers c.leave.new.self.numbers c.in-Some.number
-      (sym c.in-Some.ensures) c.leave.ensures.numbers (sym c.is_enabled.ensures ∙ c.if-is_enabled.false) (c.loop-number.invariant.turns timers h);
+  turns = λ h. queued_left c.args.now (instances_in c.args.instances.now.entries) c.loop-number.turns.numbers c.leave.new.self.numbers c.in-Some.number
+      (sym c.in-Some.ensures.first) c.leave.ensures.numbers (sym c.is_enabled.ensures ∙ c.if-is_enabled.false) (c.loop-number.invariant.turns h);
   count = c.leave.ensures.count ∙ c.loop-number.invariant.count;
 }

@@ -1,5 +1,4 @@
-use Rattle.std.proofs.Common.{◌≡◌, List, length}
-use Rattle.swf_turns.specs.declared.timers.Timer.{Timer}
+use Rattle.std.proofs.Common.{◌≡◌, length}
 use Rattle.swf_world.specs.Fields.{instances_in}
 use Rattle.swf_world.specs.Queued.{Queued}
 use Rattle.swf_world.proofs.steps.first_enabled.Given as goal
@@ -8,7 +7,7 @@ abbrev pub invariant-loop-number : goal.invariant-loop-number
 invariant-loop-number l =
     let is = instances_in l.instances.entries in
     record {
-      turns : (timers : List Timer) → Queued l.now is l.fn.turns.numbers timers → Queued l.now is l.turns.numbers timers;
+      turns : Queued l.now is l.fn.turns.numbers → Queued l.now is l.turns.numbers;
       count : l.turns.count ≡ l.fn.turns.count;
     }
 

@@ -1,6 +1,7 @@
 use Rattle.std.proofs.Common.{◌∙◌}
 use Rattle.swf_store.specs.Disk.{Only}
 use Rattle.swf_journal.specs.Opening.{opened, begun}
+use Rattle.swf_journal.proofs.OpenLemmas.{looks_untouched}
 use Rattle.swf_engine.proofs.OpenLemmas.{replayed_none, all_damaged, all_opened, opens_on, opens_short, failed_damage}
 use Rattle.swf_engine.proofs.engine.Engine.open_on.Goals as goal
 
@@ -30,3 +31,10 @@ returns-in-Err-clause-any_moment g c = λ image seen history h.
 
 pub returns-in-Err-clause-damaged : goal.returns-in-Err-clause-damaged
 returns-in-Err-clause-damaged g c = λ image seen at is. failed_damage image c.in-Err.fault c.from.result at c.from.ensures is (c.in-Err.ensures.damaged image seen)
+
+pub returns-in-Ok-clause-untouched : goal.returns-in-Ok-clause-untouched
+returns-in-Ok-clause-untouched g c = λ image seen long.
+    let S = g.S.Store in
+    let one = c.begin.ensures.untouched image seen long in
+    let two = c.read_all.ensures in
+    looks_untouched S.moment S.left_since S.said S.may_leave S.seen c.args.store.now c.begin.new.store c.read_all.new.store c.begin.ensures.said one.same one.stop one.any_moment two.seen two.stop two.any_moment

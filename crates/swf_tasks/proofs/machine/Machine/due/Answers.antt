@@ -5,7 +5,7 @@ use Rattle.swf_tasks.proofs.WayLemmas.{of-root}
 use Rattle.swf_tasks.proofs.machine.Machine.due.Goals as goal
 
 pub holds_in-requires : goal.holds_in-requires
-holds_in-requires c = root-held c.self.inside.forest c.root.result c.root.ensures.root c.root.ensures.distinct c.self.invariant
+holds_in-requires c = root-held c.self.inside.forest c.root.result c.root.ensures.root c.root.ensures.distinct c.self.invariant.0
 
 pub returns : goal.returns
-returns c = of-root (λ n. c.holds_in.result ≡ is_due c.args.moment n) c.self.inside.setting c.self.inside.forest c.root.result c.args.self.now c.self.view_is c.root.ensures.root c.self.invariant c.holds_in.ensures
+returns c = of-root (λ n. c.holds_in.result ≡ is_due c.args.moment n) c.self.inside.setting c.self.inside.forest c.root.result c.args.self.now c.self.view_is c.root.ensures.root c.self.invariant.0 c.holds_in.ensures

@@ -4,17 +4,17 @@ use Rattle.swf_tasks.proofs.WayLemmas.{on-strand, no-strand, way-held, can_go_th
 use Rattle.swf_tasks.proofs.machine.Machine.enabled.Goals as goal
 
 pub strand_at-requires : goal.strand_at-requires
-strand_at-requires c = root-held c.self.inside.forest c.root.result c.root.ensures.root c.root.ensures.distinct c.self.invariant
+strand_at-requires c = root-held c.self.inside.forest c.root.result c.root.ensures.root c.root.ensures.distinct c.self.invariant.0
 
 pub holds_here-requires : goal.holds_here-requires
-holds_here-requires c = way-held c.self.inside.forest c.root.result c.in-Some.strand c.as_slice.result.now (root-held c.self.inside.forest c.root.result c.root.ensures.root c.root.ensures.distinct c.self.invariant) c.in-Some.ensures.found
+holds_here-requires c = way-held c.self.inside.forest c.root.result c.in-Some.strand c.as_slice.result.now (root-held c.self.inside.forest c.root.result c.root.ensures.root c.root.ensures.distinct c.self.invariant.0) c.in-Some.ensures.found
 
 pub returns-in-Some : goal.returns-in-Some
 returns-in-Some c =
-    on-strand (λ o. c.holds_here.result ≡ can_go_there c.args.now o) c.self.inside.setting c.self.inside.forest c.root.result c.in-Some.strand c.as_slice.result.now c.args.strand.now c.args.self.now c.self.view_is c.root.ensures.root c.self.invariant c.as_slice.ensures c.in-Some.ensures.found c.holds_here.ensures
+    on-strand (λ o. c.holds_here.result ≡ can_go_there c.args.now o) c.self.inside.setting c.self.inside.forest c.root.result c.in-Some.strand c.as_slice.result.now c.args.strand.now c.args.self.now c.self.view_is c.root.ensures.root c.self.invariant.0 c.as_slice.ensures c.in-Some.ensures.found c.holds_here.ensures
     ∙ sym (can_go-at c.args.now c.args.strand.now c.args.self.now.node)
 
 pub returns-in-None : goal.returns-in-None
 returns-in-None c =
-    no-strand (λ o. false ≡ can_go_there c.args.now o) c.self.inside.setting c.self.inside.forest c.root.result c.as_slice.result.now c.args.strand.now c.args.self.now c.self.view_is c.root.ensures.root c.self.invariant c.as_slice.ensures c.in-None.ensures.none refl
+    no-strand (λ o. false ≡ can_go_there c.args.now o) c.self.inside.setting c.self.inside.forest c.root.result c.as_slice.result.now c.args.strand.now c.args.self.now c.self.view_is c.root.ensures.root c.self.invariant.0 c.as_slice.ensures c.in-None.ensures.none refl
     ∙ sym (can_go-at c.args.now c.args.strand.now c.args.self.now.node)

@@ -1,9 +1,9 @@
 use Rattle.std.proofs.Common.{◌≡◌, ◌∙◌, ◌≤◌, List, ℕ, ap, length, refl, subst, sym, take, true}
-use Rattle.swf_meaning.specs.Sight.{Sight}
-use Rattle.swf_meaning.specs.World.{sight}
-use Rattle.swf_scene.specs.Stack.{sight_of}
+use Rattle.swf_meaning.specs.Line.{Site}
+use Rattle.swf_meaning.specs.World.{line_of as line_at, site_of as site_at}
+use Rattle.swf_scene.specs.Stack.{line_of, site_of}
 use Rattle.swf_scene.specs.declared.made.Layer.{Layer}
-use Rattle.swf_tasks.specs.Prepares.{until_in}
+use Rattle.swf_strands.specs.Alarm.{until_in}
 use Rattle.swf_tasks.specs.Stepped.{IsChange}
 use Rattle.swf_strands.specs.Strands.{IsStack, root_node}
 use Rattle.swf_strands.specs.Ways.{has_strand}
@@ -15,24 +15,24 @@ pub step_of-requires : goal.step_of-requires
 step_of-requires c =
     let t = c.self.inside.forest in
     let r = c.root-root.ensures in record {
-      held = root-held t c.root-root.result r.root r.distinct c.self.invariant;
-      can = root-can t c.root-root.result c.args.site.now.now c.in_ok-scene.scene.now c.self.inside.setting c.args.self.now c.args.strand.now c.as_slice.result.now c.self.view_is r.root c.self.invariant
-          (ap (λ (x : Sight). x.now) c.in_ok-scene.ensures) c.as_slice.ensures c.requires;
+      held = root-held t c.root-root.result r.root r.distinct c.self.invariant.0;
+      can = root-can t c.root-root.result c.args.site.now.now c.in_ok-scene.scene.now c.self.inside.setting c.args.self.now c.args.strand.now c.as_slice.result.now c.self.view_is r.root c.self.invariant.0
+          (ap (λ (x : Site). x.now) c.in_ok-scene.ensures.site) c.as_slice.ensures c.requires;
     }
 
 pub until_of-until-requires : goal.until_of-until-requires
 until_of-until-requires c =
     let change =
-    root-change c.self.inside.forest c.root-root.result c.count.result c.args.site.now.now c.self.inside.setting c.args.self.now (sight_of c.in_ok-scene.scene) c.as_slice.result.now c.in_ok-change.change c.self.view_is c.root-root.ensures.root c.self.invariant
-    c.count.ensures c.in_ok-scene.ensures c.in_ok-change.ensures in
+    root-change c.self.inside.forest c.root-root.result c.count.result c.args.site.now.now c.self.inside.setting c.args.self.now (site_of c.in_ok-scene.scene) (line_of c.in_ok-scene.scene) c.as_slice.result.now c.in_ok-change.change c.self.view_is c.root-root.ensures.root c.self.invariant.0
+    c.count.ensures c.in_ok-scene.ensures.site c.in_ok-scene.ensures.line c.in_ok-change.ensures in
     subst (λ (ls : List Layer). IsStack ls) (sym c.deref.ensures.value) change.stack
 
 pub step_with-requires : goal.step_with-requires
 step_with-requires c =
     let now = c.in_ok-change.change in
     let change =
-    root-change c.self.inside.forest c.root-root.result c.count.result c.args.site.now.now c.self.inside.setting c.args.self.now (sight_of c.in_ok-scene.scene) c.as_slice.result.now now c.self.view_is c.root-root.ensures.root c.self.invariant
-    c.count.ensures c.in_ok-scene.ensures c.in_ok-change.ensures in
+    root-change c.self.inside.forest c.root-root.result c.count.result c.args.site.now.now c.self.inside.setting c.args.self.now (site_of c.in_ok-scene.scene) (line_of c.in_ok-scene.scene) c.as_slice.result.now now c.self.view_is c.root-root.ensures.root c.self.invariant.0
+    c.count.ensures c.in_ok-scene.ensures.site c.in_ok-scene.ensures.line c.in_ok-change.ensures in
     subst (λ (w : List ℕ). (now.depth ≤ length w) × IsStack now.layers.items × (has_strand (take now.depth w) c.args.self.now.node ≡ true)) (c.as_slice.ensures ∙ sym (c.in_ok-named.ensures ∙ c.as_slice-2.ensures)) (change.deep, change.stack, change.there)
 
 pub returns : goal.returns
@@ -42,9 +42,10 @@ returns c =
     let t = c.self.inside.forest in
     let i = c.args.self.now in
     let bs = c.args.strand.now in
+    let at = c.args.site.now.now in
     let change =
-    root-change t c.root-root.result c.count.result c.args.site.now.now s i (sight_of c.in_ok-scene.scene) c.as_slice.result.now now c.self.view_is c.root-root.ensures.root c.self.invariant
-    c.count.ensures c.in_ok-scene.ensures c.in_ok-change.ensures in
-    prepared-by c.args.site.now.now bs i now _ (subst (λ (w : List ℕ). IsChange (sight c.args.site.now.now i) w i.node now) c.as_slice.ensures change) c.in_ok-step_with.ensures.fits
+    root-change t c.root-root.result c.count.result at s i (site_of c.in_ok-scene.scene) (line_of c.in_ok-scene.scene) c.as_slice.result.now now c.self.view_is c.root-root.ensures.root c.self.invariant.0
+    c.count.ensures c.in_ok-scene.ensures.site c.in_ok-scene.ensures.line c.in_ok-change.ensures in
+    prepared-by at bs i now _ (subst (λ (w : List ℕ). IsChange (site_at at i) (line_at i) w i.node now) c.as_slice.ensures change) c.in_ok-step_with.ensures.fits
     (becomes-after s (root_node t.strands) i _ bs c.in_ok-named.field-0 now c.in_ok-number.number c.self.view_is (c.in_ok-named.ensures ∙ c.as_slice-2.ensures) c.in_ok-number.ensures c.in_ok-step_with.ensures.becomes) refl
     (c.until_of-until.ensures ∙ ap until_in c.deref.ensures.value)

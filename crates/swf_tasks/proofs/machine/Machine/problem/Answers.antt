@@ -8,16 +8,16 @@ use Rattle.swf_tasks.proofs.machine.Machine.problem.Goals as goal
 use Rattle.swf_tasks.proofs.machine.Machine.problem.Goals.{in_default-via-in-Fault+else-is_empty, in_default-via-in_default}
 
 pub stack_of-requires : goal.stack_of-requires
-stack_of-requires c = root-held c.self.inside.forest c.root.result c.root.ensures.root c.root.ensures.distinct c.self.invariant
+stack_of-requires c = root-held c.self.inside.forest c.root.result c.root.ensures.root c.root.ensures.distinct c.self.invariant.0
 
 pub returns-in-Fault : goal.returns-in-Fault
 returns-in-Fault c =
-    of-root (λ n. Some c.in-Fault.problem ≡ problem_in n) c.self.inside.setting c.self.inside.forest c.root.result c.args.self.now c.self.view_is c.root.ensures.root c.self.invariant (λ b f.
+    of-root (λ n. Some c.in-Fault.problem ≡ problem_in n) c.self.inside.setting c.self.inside.forest c.root.result c.args.self.now c.self.view_is c.root.ensures.root c.self.invariant.0 (λ b f.
     problem-some b c.stack_of.result.top.now c.in-Fault.problem _ c.is_empty.result (c.stack_of.ensures.top b f) c.in-Fault.is (length_running (frames_of b.frames) c.stack_of.result.around.now (c.stack_of.ensures.around b f)) c.is_empty.ensures c.if-is_empty.true)
 
 pub returns-in_default : goal.returns-in_default
 returns-in_default c =
-    of-root (λ n. None ≡ problem_in n) c.self.inside.setting c.self.inside.forest c.root.result c.args.self.now c.self.view_is c.root.ensures.root c.self.invariant (λ b f. elim c.in_default.branch [
+    of-root (λ n. None ≡ problem_in n) c.self.inside.setting c.self.inside.forest c.root.result c.args.self.now c.self.view_is c.root.ensures.root c.self.invariant.0 (λ b f. elim c.in_default.branch [
       | in_default-via-in-Fault+else-is_empty w ↦ problem-around b _ w.is_empty.result (length_running (frames_of b.frames) c.stack_of.result.around.now (c.stack_of.ensures.around b f)) w.is_empty.ensures w.if-is_empty.false
       | in_default-via-in_default w ↦ problem-none b c.stack_of.result.top.now (c.stack_of.ensures.top b f) w.in_default.not-Fault
     ])

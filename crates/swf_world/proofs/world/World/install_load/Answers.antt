@@ -16,7 +16,7 @@ add-requires-2-clause-new c =
 
 pub invariant_of-self : goal.invariant_of-self
 invariant_of-self c = rw (c.add.ensures, c.add-2.ensures)
-    (kept_loaded c.self.inside.documents.entries c.self.inside.instances.entries c.self.inside.keys.entries c.self.inside.moment c.self.inside.count c.self.inside.turns c.self.inside.timers.set c.args.key c.args.used c.args.loaded
+    (kept_loaded c.self.inside.documents.entries c.self.inside.instances.entries c.self.inside.keys.entries c.self.inside.moment c.self.inside.count c.self.inside.turns c.self.inside.alarms.moments c.args.key c.args.used c.args.loaded
     c.self.invariant c.requires.suits.named c.requires.suits.used_is (omega (arith, ap (λ h. h.room) c.self.view_is)))
 
 pub returns : goal.returns

@@ -1,13 +1,16 @@
-use Rattle.std.proofs.Common.{◌∙◌, ◌<◌, ap, sym, subst, arith}
+use Rattle.std.proofs.Common.{◌≡◌, ◌∙◌, ◌<◌, ◌||◌, ℕ, ap, sym, subst, length, arith}
+use Rattle.std.proofs.lemmas.List.{length-map}
 use Rattle.swf_meaning.specs.declared.key.Key.TheVariants.{Moment}
-use Rattle.swf_turns.specs.Waits.{is_over, Woken}
+use Rattle.swf_strands.specs.Alarm.{alarm_of}
+use Rattle.swf_turns.specs.Alarms.{is_due}
+use Rattle.swf_turns.specs.Line.{is_among}
 use Rattle.swf_world.specs.Fields.{instances_in}
 use Rattle.swf_world.proofs.Grows.{kept_reached, new_key}
-use Rattle.swf_world.proofs.TimerLemmas.{set_known, woken_all}
+use Rattle.swf_world.proofs.WaitLemmas.{queued_woken}
 use Rattle.swf_world.proofs.world.World.install_moment.Goals as goal
 
-pub wake-requires-clause-numbers : goal.wake-requires-clause-numbers
-wake-requires-clause-numbers c = set_known c.self.inside.moment (instances_in c.self.inside.instances.entries) c.self.inside.turns c.self.inside.timers.set c.self.invariant.waiting
+pub wake-requires : goal.wake-requires
+wake-requires c = c.self.invariant.waiting.count ∙ sym (ap length c.self.invariant.waiting.own ∙ length-map (instances_in c.self.inside.instances.entries) (λ i. alarm_of i.node))
 
 pub add-requires-clause-new : goal.add-requires-clause-new
 add-requires-clause-new c =
@@ -16,11 +19,14 @@ add-requires-clause-new c =
 
 pub invariant_of-self : goal.invariant_of-self
 invariant_of-self c =
-    let later : c.self.inside.moment < c.new-moment.result = omega (arith, c.requires.suits.later, ap (λ h. h.world.now) c.self.view_is, c.new-moment.ensures) in
+    let now = c.self.inside.moment in
+    let moment = c.new-moment.result in
+    let alarms = c.self.inside.alarms.moments in
+    let queue = c.self.inside.turns.numbers in
+    let next = c.wake.new.turns.numbers in
+    let later : now < moment = omega (arith, c.requires.suits.later, ap (λ h. h.world.now) c.self.view_is, c.new-moment.ensures) in
+    let woken = subst (λ m. (n : ℕ) → is_among n next ≡ (is_among n queue || is_due m alarms n)) (sym c.new-moment.ensures) c.wake.ensures.numbers in
     rw c.add.ensures
-    (kept_reached c.self.inside.documents.entries c.self.inside.instances.entries c.self.inside.keys.entries c.self.inside.moment c.self.inside.count c.new-moment.result c.args.milliseconds
-    c.self.inside.turns c.wake.new.turns c.self.inside.timers.set c.wake.new.self.set
+    (kept_reached c.self.inside.documents.entries c.self.inside.instances.entries c.self.inside.keys.entries now c.self.inside.count moment c.args.milliseconds c.self.inside.turns c.wake.new.turns alarms
     c.self.invariant (sym c.new-moment.ensures) later (omega (arith, ap (λ h. h.room) c.self.view_is))
-    (woken_all c.self.inside.moment c.new-moment.result (instances_in c.self.inside.instances.entries) c.self.inside.turns.numbers c.wake.new.turns.numbers c.self.inside.timers.set c.wake.new.self.set
-    (subst (λ m. Woken m c.self.inside.turns.numbers c.wake.new.turns.numbers c.self.inside.timers.set c.wake.new.self.set) (sym c.new-moment.ensures) c.wake.ensures.woken)
-    (ap (λ m. is_over m c.wake.new.self.set) c.new-moment.ensures ∙ c.wake.ensures.none) (omega arith) c.self.invariant.waiting.queued) c.wake.ensures.count)
+    (queued_woken now moment (instances_in c.self.inside.instances.entries) queue next alarms c.self.invariant.waiting.own woken c.self.invariant.waiting.queued) c.wake.ensures.count)

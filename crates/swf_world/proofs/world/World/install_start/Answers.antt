@@ -16,8 +16,8 @@ add-requires-2-clause-new c =
 
 pub invariant_of-self : goal.invariant_of-self
 invariant_of-self c = rw (c.add.ensures, c.add-2.ensures, c.into_machine.ensures)
-    (kept_started c.self.inside.documents.entries c.self.inside.instances.entries c.self.inside.keys.entries c.self.inside.moment c.self.inside.count c.self.inside.turns c.add-3.new.self c.self.inside.timers.set c.args.id c.args.used c.args.instance
-    c.self.invariant c.requires.suits.placed c.requires.suits.used_is c.requires.suits.awake (omega (arith, ap (λ h. h.room) c.self.view_is)) c.add-3.ensures.numbers c.add-3.ensures.count)
+    (kept_started c.self.inside.documents.entries c.self.inside.instances.entries c.self.inside.keys.entries c.self.inside.moment c.self.inside.count c.self.inside.turns c.add-3.new.self c.self.inside.alarms.moments c.add-4.new.self.moments c.args.id c.args.used c.args.instance
+    c.self.invariant c.requires.suits.placed c.requires.suits.used_is c.requires.suits.awake (omega (arith, ap (λ h. h.room) c.self.view_is)) c.add-3.ensures.numbers c.add-3.ensures.count c.add-4.ensures.moments)
 
 pub returns : goal.returns
 returns c = rw (c.add.ensures, c.add-2.ensures, c.into_machine.ensures)

@@ -4,10 +4,10 @@ use Rattle.swf_world.proofs.world.World.is_quiet.Goals as goal
 
 pub returns-clause-quiet : goal.returns-clause-quiet
 returns-clause-quiet c =
-    quiet_is c.self.inside.moment (instances_in c.self.inside.instances.entries) c.self.inside.timers.set c.first_enabled.new.turns.numbers c.first_enabled.result c.is_none.result
-    (c.first_enabled.ensures.turns c.self.inside.timers.set c.self.invariant.waiting.queued) c.first_enabled.ensures.none c.first_enabled.ensures.some c.is_none.ensures
+    quiet_is c.self.inside.moment (instances_in c.self.inside.instances.entries) c.first_enabled.new.turns.numbers c.first_enabled.result c.is_none.result
+    (c.first_enabled.ensures.turns c.self.invariant.waiting.queued) c.first_enabled.ensures.none c.first_enabled.ensures.some c.is_none.ensures
 
 pub invariant_of-self : goal.invariant_of-self
 invariant_of-self c =
-    kept_turned c.self.inside.documents.entries c.self.inside.instances.entries c.self.inside.keys.entries c.self.inside.moment c.self.inside.count c.self.inside.turns c.first_enabled.new.turns c.self.inside.timers.set
-    c.self.invariant c.first_enabled.ensures.count (c.first_enabled.ensures.turns c.self.inside.timers.set c.self.invariant.waiting.queued)
+    kept_turned c.self.inside.documents.entries c.self.inside.instances.entries c.self.inside.keys.entries c.self.inside.moment c.self.inside.count c.self.inside.turns c.first_enabled.new.turns c.self.inside.alarms.moments
+    c.self.invariant c.first_enabled.ensures.count (c.first_enabled.ensures.turns c.self.invariant.waiting.queued)

@@ -1,0 +1,251 @@
+-- No step and no label passes the limits on documents, instances and branches.
+use Rattle.std.proofs.Common.{◌≡◌, ◌∙◌, refl, ap, sym, subst, cond, if◌then◌else◌, ℕ, zero, suc, ◌+◌, ◌≤◌, ◌||◌, inl, inr, List, [], ◌∷◌, length, length-append, nat_le, Bool, true, false, Option, Some, None, option_map, Result, Ok, Err, arith}
+use Rattle.std.proofs.lemmas.Bool.{or_parts, leb-false}
+use Rattle.std.proofs.lemmas.List.{length-map}
+use Rattle.std.proofs.lemmas.Option.{same_Some, option_and_then_some}
+use Rattle.std.specs.List.{AllByRecursion}
+use Rattle.swf_value.specs.Value.{Value, list, Members}
+use Rattle.swf_value.specs.Node.{items_of}
+use Rattle.swf_cloudevents.specs.declared.event.Event.{Event}
+use Rattle.swf_document.specs.Task.{Task}
+use Rattle.swf_document.specs.declared.common.Flow.{Flow}
+use Rattle.swf_document.specs.declared.common.Flow.TheVariants as flows
+use Rattle.swf_document.specs.declared.error.Problem.{Problem}
+use Rattle.swf_meaning.specs.Around.{seen}
+use Rattle.swf_meaning.specs.Complete.{Stepped, step_of, complete}
+use Rattle.swf_meaning.specs.Enter.{enter}
+use Rattle.swf_meaning.specs.Fork.{count, branches_in, branches_inside, branches_among, most_branches, put, outputs, joined, settled, after_branch, competes}
+use Rattle.swf_meaning.specs.Line.{Line, Site}
+use Rattle.swf_meaning.specs.Listen.{heard}
+use Rattle.swf_meaning.specs.Lists.{comes_to}
+use Rattle.swf_meaning.specs.Local.{here, local, local_inside, local_branch, put_back, moved_on, failed}
+use Rattle.swf_meaning.specs.Node.{Node, Fresh, Live, Done, Fault, Inside, At, Later, Sleep, Hear, Forked, Nodes, no_nodes, branch, Round, Try, Running}
+use Rattle.swf_meaning.specs.Offer.{or_same, takes_by, offered, offered_inside, offered_among, offered_one}
+use Rattle.swf_meaning.specs.Parts.{kind_of, listen_in}
+use Rattle.swf_meaning.specs.Wake.{woken, again}
+use Rattle.swf_meaning.specs.World.{World, Instance, empty, step_at, with_step, new_instance, site_of, line_of}
+use Rattle.swf_meaning.specs.declared.heard.Heard.{Heard}
+use Rattle.swf_meaning.specs.declared.key.Key.TheVariants.{Document as OfDocument, Instance as OfInstance, Event as OfEvent, Moment as OfMoment}
+use Rattle.swf_meaning.specs.declared.label.Label.{Label}
+use Rattle.swf_meaning.specs.declared.label.Label.TheVariants.{Load, Start, Event as Told, Reply, Moment, Step}
+use Rattle.swf_runs.specs.After.{is_used, with_document, loaded, accepted, most_documents, document_at, with_instance, most_instances, with_event, stepped, sent, with_instances, counted, after}
+use Rattle.swf_runs.specs.Kept.{ids}
+use Rattle.swf_runs.specs.Within.{IsWithin}
+use Rattle.swf_runs.specs.Runs.{world_at, Legal}
+use Rattle.swf_runs.proofs.KeepLemmas.{IdsAfter, ids_after}
+use Rattle.swf_runs.proofs.OnceLemmas.{mapped_some, refused_some}
+use Rattle.swf_runs.proofs.RuleLemmas.{AreFresh, IsMade, IsMadeInside, Yields, MayYield, if_some, completes, comes, moves_on, fails_on, hears, steps, enters}
+use Rattle.swf_runs.proofs.WorldLemmas.{Change, change, change_all, legal_keeps}
+
+-- branches that have not begun have none inside
+none_inside : (ns : Nodes) → AreFresh ns → branches_among ns ≡ zero
+none_inside no_nodes h = refl
+none_inside (branch (Fresh t v) ns) h = let e = none_inside ns h.1 in omega (arith, e)
+none_inside (branch (Live r k) ns) h = absurd h.0
+none_inside (branch (Done w f) ns) h = absurd h.0
+none_inside (branch (Fault p) ns) h = absurd h.0
+
+-- with the branches of a node that a rule makes the instance has not too many
+made_inside : (s : Site) (k : Inside) → s.branches ≤ most_branches → IsMadeInside s k → s.branches + branches_inside k ≤ most_branches
+made_inside s (At round i (Fresh t v)) few h = omega (arith, few)
+made_inside s (At round i (Live r k)) few h = absurd h
+made_inside s (At round i (Done w f)) few h = omega (arith, few)
+made_inside s (At round i (Fault p)) few h = omega (arith, few)
+made_inside s (Later n m) few h = omega (arith, few)
+made_inside s (Sleep m) few h = omega (arith, few)
+made_inside s (Hear bound hs) few h = omega (arith, few)
+made_inside s (Forked no_nodes) few h = absurd h
+made_inside s (Forked (branch n ns)) few h = omega (arith, h.0, none_inside (branch n ns) h.1)
+
+made_few : (s : Site) (n : Node) → s.branches ≤ most_branches → IsMade s n → s.branches + branches_in n ≤ most_branches
+made_few s (Fresh t v) few h = omega (arith, few)
+made_few s (Live r k) few h = made_inside s k few h
+made_few s (Done w f) few h = omega (arith, few)
+made_few s (Fault p) few h = omega (arith, few)
+
+-- with another node in place of one of so many branches the instance has not too many
+abbrev Fits : Site → ℕ → Node → Type 0
+Fits s k n = s.branches + branches_in n ≤ most_branches + k
+
+abbrev Gives : Site → ℕ → Result Stepped Problem → Type 0
+Gives s k (Ok m) = Fits s k m.node
+Gives s k (Err p) = Unit {0}
+
+abbrev Bounds : Site → ℕ → Option Stepped → Type 0
+Bounds s k None = Unit {0}
+Bounds s k (Some m) = Fits s k m.node
+
+yields_few : (s : Site) (k : ℕ) (o : Result Stepped Problem) → s.branches ≤ most_branches → Yields s o → Gives s k o
+yields_few s k (Ok m) few h = let f = made_few s m.node few h in omega (arith, f)
+yields_few s k (Err p) few h = tt
+
+gives_on : (s : Site) (k : ℕ) (l : Line) (o : Result Stepped Problem) → s.branches ≤ most_branches → Gives s k o → Fits s k (step_of l o).node
+gives_on s k l (Ok m) few h = h
+gives_on s k l (Err p) few h = omega (arith, few)
+
+here_bounds : (s : Site) (k : ℕ) (l : Line) (bs : List ℕ) (o : Option (Result Stepped Problem)) → s.branches ≤ most_branches → MayYield s o → Bounds s k (here l bs o)
+here_bounds s k l [] None few h = tt
+here_bounds s k l [] (Some r) few h = let f = made_few s (step_of l r).node few (steps s l r h) in omega (arith, f)
+here_bounds s k l (b ∷ bs) o few h = tt
+
+put_bounds : (s : Site) (k : ℕ) (r : Running) (round : Round) (i : ℕ) (o : Option Stepped) → Bounds s k o → Bounds s k (put_back r round i o)
+put_bounds s k r round i None h = tt
+put_bounds s k r round i (Some m) h = h
+
+count_put : (ns : Nodes) (b : ℕ) (m : Node) → count (put ns b m) ≡ count ns
+count_put no_nodes b m = refl
+count_put (branch n ns) zero m = refl
+count_put (branch n ns) (suc b) m = ap suc (count_put ns b m)
+
+-- what a branch comes to, in its place
+abbrev BoundsAmong : Site → Nodes → ℕ → Option Stepped → Type 0
+BoundsAmong s ns b None = Unit {0}
+BoundsAmong s ns b (Some m) = s.branches + branches_among (put ns b m.node) ≤ most_branches + branches_among ns
+
+first_among : (s : Site) (n : Node) (ns : Nodes) (o : Option Stepped) → Bounds s (branches_in n) o → BoundsAmong s (branch n ns) zero o
+first_among s n ns None h = tt
+first_among s n ns (Some m) h = omega (arith, h)
+
+later_among : (s : Site) (n : Node) (ns : Nodes) (b : ℕ) (o : Option Stepped) → BoundsAmong s ns b o → BoundsAmong s (branch n ns) (suc b) o
+later_among s n ns b None h = tt
+later_among s n ns b (Some m) h = omega (arith, h)
+
+either_few : (s : Site) (k : ℕ) (b : Bool) (x y : Result Stepped Problem) → Gives s k x → Gives s k y → Gives s k (cond b x y)
+either_few s k true x y h g = h
+either_few s k false x y h g = g
+
+joins_few : (s : Site) (k : ℕ) (l : Line) (r : Running) (ns : Nodes) (o : Option (List Value)) → s.branches ≤ most_branches → s.branches + (count ns + branches_among ns) ≤ most_branches + k → Gives s k (joined l r ns o)
+joins_few s k l r ns None few h = h
+joins_few s k l r ns (Some ws) few h = yields_few s k (complete l r (list (items_of ws))) few (completes s l r (list (items_of ws)))
+
+settles_few : (s : Site) (k : ℕ) (l : Line) (r : Running) (compete : Bool) (ns : Nodes) (m : Node) → s.branches ≤ most_branches → s.branches + (count ns + branches_among ns) ≤ most_branches + k → Gives s k (settled l r compete ns m)
+settles_few s k l r compete ns (Fresh t v) few h = h
+settles_few s k l r compete ns (Live q x) few h = h
+settles_few s k l r compete ns (Done w f) few h = by f
+  where
+    done : Gives s k (if compete then complete l r w else joined l r ns (outputs ns))
+    done = either_few s k compete (complete l r w) (joined l r ns (outputs ns)) (yields_few s k (complete l r w) few (completes s l r w)) (joins_few s k l r ns (outputs ns) few h)
+
+    by : (g : Flow) → Gives s k (settled l r compete ns (Done w g))
+    by flows.Continue = done
+    by flows.Exit = done
+    by flows.End = omega (arith, few)
+    by (flows.Task n) = done
+settles_few s k l r compete ns (Fault p) few h = tt
+
+branch_bounds : (s : Site) (l : Line) (r : Running) (ns : Nodes) (b : ℕ) (o : Option Stepped) → s.branches ≤ most_branches → BoundsAmong s ns b o → Bounds s (count ns + branches_among ns) (option_map (after_branch l r ns b) o)
+branch_bounds s l r ns b None few h = tt
+branch_bounds s l r ns b (Some m) few h =
+    let x = record l { context = m.context } in
+    let k = count ns + branches_among ns in
+    gives_on s k x (settled x r (competes r.task) (put ns b m.node) m.node) few
+    (settles_few s k x r (competes r.task) (put ns b m.node) m.node few (omega (arith, h, count_put ns b m.node)))
+
+mutual
+  local_bounds : (s : Site) (l : Line) (bs : List ℕ) (n : Node) → s.branches ≤ most_branches → Bounds s (branches_in n) (local s l bs n)
+  local_bounds s l bs (Fresh t v) few = here_bounds s zero l bs (Some (enter s l t v)) few (enters s l t v)
+  local_bounds s l bs (Live r k) few = inside_bounds s l bs r k few
+  local_bounds s l bs (Done w f) few = tt
+  local_bounds s l bs (Fault p) few = tt
+
+  inside_bounds : (s : Site) (l : Line) (bs : List ℕ) (r : Running) (k : Inside) → s.branches ≤ most_branches → Bounds s (branches_inside k) (local_inside s l bs r k)
+  inside_bounds s l bs r (At round i (Fresh t v)) few = put_bounds s zero r round i (local s (seen l r.task round) bs (Fresh t v)) (local_bounds s (seen l r.task round) bs (Fresh t v) few)
+  inside_bounds s l bs r (At round i (Live q k)) few = put_bounds s (branches_inside k) r round i (local s (seen l r.task round) bs (Live q k)) (local_bounds s (seen l r.task round) bs (Live q k) few)
+  inside_bounds s l bs r (At round i (Done w f)) few = here_bounds s zero l bs (Some (moved_on l r round i w f)) few (moves_on s l r round i w f)
+  inside_bounds s l bs r (At round i (Fault p)) few = here_bounds s zero l bs (Some (failed s l r round p)) few (fails_on s l r round p)
+  inside_bounds s l bs r (Later n until) few = here_bounds s zero l bs (again s l r n until) few (if_some s (nat_le until s.now) (comes_to l r (Try n) zero r.input) (comes s l r (Try n) zero r.input))
+  inside_bounds s l bs r (Sleep until) few = here_bounds s zero l bs (woken s l r until) few (if_some s (nat_le until s.now) (complete l r r.input) (completes s l r r.input))
+  inside_bounds s l bs r (Hear bound hs) few = here_bounds s zero l bs (heard l r hs) few (hears s l r hs (listen_in (kind_of r.task)))
+  inside_bounds s l [] r (Forked ns) few = tt
+  inside_bounds s l (b ∷ bs) r (Forked ns) few = branch_bounds s l r ns b (local_branch s l b bs ns) few (among_bounds s l b bs ns few)
+
+  among_bounds : (s : Site) (l : Line) (b : ℕ) (bs : List ℕ) (ns : Nodes) → s.branches ≤ most_branches → BoundsAmong s ns b (local_branch s l b bs ns)
+  among_bounds s l b bs no_nodes few = tt
+  among_bounds s l zero bs (branch n ns) few = first_among s n ns (local s l bs n) (local_bounds s l bs n few)
+  among_bounds s l (suc b) bs (branch n ns) few = later_among s n ns b (local_branch s l b bs ns) (among_bounds s l b bs ns few)
+
+-- an offer changes no number of branches
+or_same_few : (bound : Members) (hs : List Heard) (o : Option (Members × List Heard)) → branches_inside (or_same bound hs o).0 ≡ zero
+or_same_few bound hs None = refl
+or_same_few bound hs (Some p) = refl
+
+count_offered : (e : Event) (ns : Nodes) → count (offered_among e ns).0 ≡ count ns
+count_offered e no_nodes = refl
+count_offered e (branch n ns) = ap suc (count_offered e ns)
+
+mutual
+  offered_few : (e : Event) (n : Node) → branches_in (offered e n).0 ≡ branches_in n
+  offered_few e (Fresh t v) = refl
+  offered_few e (Live r k) = offered_inside_few e r.task k
+  offered_few e (Done w f) = refl
+  offered_few e (Fault p) = refl
+
+  offered_inside_few : (e : Event) (t : Task) (k : Inside) → branches_inside (offered_inside e t k).0 ≡ branches_inside k
+  offered_inside_few e t (At r i n) = offered_few e n
+  offered_inside_few e t (Later n m) = refl
+  offered_inside_few e t (Sleep m) = refl
+  offered_inside_few e t (Hear bound hs) = or_same_few bound hs (takes_by (listen_in (kind_of t)) bound hs e)
+  offered_inside_few e t (Forked ns) = λ i. count_offered e ns i + offered_among_few e ns i
+
+  offered_among_few : (e : Event) (ns : Nodes) → branches_among (offered_among e ns).0 ≡ branches_among ns
+  offered_among_few e no_nodes = refl
+  offered_among_few e (branch n ns) = λ i. offered_few e n i + offered_among_few e ns i
+
+-- of an instance
+abbrev IsFew : Instance → Type 0
+IsFew i = branches_in i.node ≤ most_branches
+
+step_few : (now : ℕ) (strand : List ℕ) (i : Instance) (m : Stepped) → step_at now strand i ≡ Some m → IsFew i → IsFew (with_step i m)
+step_few now strand i m e few =
+    let h : branches_in i.node + branches_in m.node ≤ most_branches + branches_in i.node = subst (Bounds (site_of now i) (branches_in i.node)) e (local_bounds (site_of now i) (line_of i) strand i.node few) in
+    omega (arith, h)
+
+offer_few : (e : Event) (i : Instance) → IsFew i → IsFew (offered_one e i)
+offer_few e i few = omega (arith, few, offered_few e i.node)
+
+few_after : (w m : World) → AllByRecursion IsFew w.instances → Change w m → AllByRecursion IsFew m.instances
+few_after w m all c = change_all IsFew w m (λ id input d. omega arith) step_few offer_few all c
+
+sent_documents : (w : World) (o : Option Event) → (sent w o).documents ≡ w.documents
+sent_documents w None = refl
+sent_documents w (Some e) = refl
+
+same_documents : (w m : World) → length w.documents ≤ most_documents → m.documents ≡ w.documents → length m.documents ≤ most_documents
+same_documents w m few e = omega (arith, few, ap length e)
+
+-- a load adds a document where there is room
+documents_after : (w m : World) (l : Label) → length w.documents ≤ most_documents → after w l ≡ Some m → length m.documents ≤ most_documents
+documents_after w m (Load v) few e = option_and_then_some (loaded w v) (accepted v) m e
+    (λ d p q.
+    let h = refused_some (is_used (OfDocument d.key) w || nat_le most_documents (length w.documents)) (Some (with_document w v d)) m q in
+    let room = leb-false most_documents (length w.documents) (or_parts (is_used (OfDocument d.key) w) (nat_le most_documents (length w.documents)) h.0).1 in
+    let more = ap (λ u. length u.documents) (sym (same_Some (with_document w v d) m h.1)) ∙ length-append w.documents ((record { value = v; document = d }) ∷ []) in
+    omega (arith, room, more))
+documents_after w m (Start id key input) few e =
+    let h = refused_some (is_used (OfInstance id) w || nat_le most_instances (length w.instances)) (option_map (λ d. with_instance w (new_instance id input w.now d)) (document_at key w.documents)) m e in
+    mapped_some (λ d. with_instance w (new_instance id input w.now d)) (document_at key w.documents) m h.1 (λ d p q. same_documents w m few (ap (λ u. u.documents) (sym q)))
+documents_after w m (Told x) few e =
+    let h = refused_some (is_used (OfEvent x.source x.id) w) (Some (with_event w x)) m e in
+    same_documents w m few (ap (λ u. u.documents) (sym (same_Some (with_event w x) m h.1)))
+documents_after w m (Reply a x) few e = cc
+documents_after w m (Moment t) few e =
+    let h = refused_some (nat_le t w.now) (Some (record (counted (OfMoment t) w) { now = t })) m e in
+    same_documents w m few (ap (λ u. u.documents) (sym (same_Some (record (counted (OfMoment t) w) { now = t }) m h.1)))
+documents_after w m (Step id strand) few e =
+    mapped_some (with_instances w) (stepped w.now id strand w.instances) m e
+    (λ js p q. same_documents w m few (ap (λ u. u.documents) (sym q) ∙ sent_documents (record w { instances = js.0; count = w.count + 1 }) js.1))
+
+instances_after : (w m : World) → length w.instances ≤ most_instances → IdsAfter w m → length m.instances ≤ most_instances
+instances_after w m few (inl e) = omega (arith, few, ap length e, length-map m.instances (λ i. i.id), length-map w.instances (λ i. i.id))
+instances_after w m few (inr h) = omega (arith, h.4, ap length h.3, length-append (ids w.instances) (h.0 ∷ []), length-map m.instances (λ i. i.id), length-map w.instances (λ i. i.id))
+
+within_after : (w m : World) (l : Label) → IsWithin w → after w l ≡ Some m → IsWithin m
+within_after w m l x e =
+    let c = change w m l e in
+    record { documents = documents_after w m l x.documents e; instances = instances_after w m x.instances (ids_after w m c); branches = few_after w m x.branches c }
+
+empty_within : IsWithin empty
+empty_within = record { documents = omega arith; instances = omega arith; branches = tt }
+
+pub legal_within : (h : List Label) → Legal h → IsWithin (world_at h)
+legal_within h legal = legal_keeps IsWithin within_after empty_within h legal

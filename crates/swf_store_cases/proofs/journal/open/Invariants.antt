@@ -1,5 +1,0 @@
-use Rattle.swf_journal.specs.Place.{IsReadingOf}
-use Rattle.swf_store_cases.proofs.journal.open.Given as goal
-
-abbrev pub invariant-loop-frames : goal.invariant-loop-frames
-invariant-loop-frames g l = IsReadingOf (g.S.Store.seen l.store) l.reading
