@@ -51,7 +51,9 @@ use Rattle.swf_protocol.specs.declared.reply.Reply.{Reply}
 use Rattle.swf_protocol.specs.declared.reply.Reply.TheVariants.{Memory}
 use Rattle.swf_cli.specs.Follows.{AddsNext, MayAdd}
 use Rattle.swf_cli.specs.Steps.{CommandDone, LineDone, Passes, Stand, IsFilled, IsBreak, or_memory, queried}
-use Rattle.swf_cli.specs.Turns.{Outcomes, Settled, Lacks, LineTurn, accepted, refused, fault_reply, settle_reply, query_reply}
+use Rattle.swf_cli.specs.Settling.{steps_in}
+use Rattle.swf_cli.proofs.SettlingLemmas.{settling_of_steps, all_steps}
+use Rattle.swf_cli.specs.Turns.{Outcomes, Settled, Lacks, CommandTurn, accepted, refused, fault_reply, settle_reply, query_reply}
 use Rattle.swf_cli.specs.Sorts.{sort_of, accepted_as}
 use Rattle.swf_cli.specs.declared.answer.Sort.{Sort}
 use Rattle.swf_cli.specs.declared.words.Words.{Words}
@@ -247,13 +249,14 @@ module _ {S : Type 0} (moment : S → ℕ) (left_since : S → ℕ → Image →
 
   -- what a settling answers, where the world is that of the history with its steps
   settled_in : (history steps : List Label) (limit : ℕ) (w : World) (settled : HasSettled) → world_at (history ++ steps) ≡ w → AreSteps steps limit → length steps ≡ settled.steps
-      → settled.quiet ≡ is_quiet w → (settled.quiet ≡ false → settled.steps ≡ limit) → Settled history limit steps (settle_reply settled.quiet settled.steps limit)
+      → settled.quiet ≡ is_quiet w → (settled.quiet ≡ false → settled.steps ≡ limit) → Settled history limit [] steps (settle_reply settled.quiet settled.steps limit)
   settled_in history steps limit w settled e are count quiet enough =
       let same : is_quiet (world_at (history ++ steps)) ≡ settled.quiet = ap is_quiet e ∙ sym quiet in
+      let all : length (steps_in steps) ≡ settled.steps = ap length (all_steps steps are.each) ∙ count in
       record {
-        steps = are;
-        enough = λ is. count ∙ enough (sym same ∙ is);
-        told = ap (λ (b : Bool). settle_reply b settled.steps limit) (sym same) ∙ ap (λ (n : ℕ). settle_reply (is_quiet (world_at (history ++ steps))) n limit) (sym count);
+        settling = settling_of_steps steps limit are;
+        enough = λ is. all ∙ enough (sym same ∙ is);
+        told = ap (λ (b : Bool). settle_reply b settled.steps limit) (sym same) ∙ ap (λ (n : ℕ). settle_reply (is_quiet (world_at (history ++ steps))) n limit) (sym all);
       }
 
   -- a call that only reads leaves what there was
@@ -276,13 +279,13 @@ module _ {S : Type 0} (moment : S → ℕ) (left_since : S → ℕ → Image →
 -- by the words of the program
 module _ (words : Words) where
   pub may_outcome : (history : List Label) (w : World) (o : Outcome) (part : List Label) → world_at history ≡ w → refusal w (label_of w o) ≡ None → Begins part (label_of w o ∷ [])
-      → MayAdd words history (Ok (Do o)) part
+      → MayAdd words None [] history (Ok (Do o)) part
   may_outcome history w o part e is b =
       let P : World → Type 0 = λ v. (part ≡ []) ⊎ ((refusal v (label_of v o) ≡ None) × (part ≡ label_of v o ∷ [])) in
       subst P (sym e) (⊎_elim (λ none. inl none) (λ all. inr (is, all)) (begins_one part (label_of w o) b))
 
   -- what a query is answered behind a history
-  asked_turn : (history : List Label) (w : World) (q : Query) (r : Result Answer QueryFault) → world_at history ≡ w → (r ≡ Err NoMemory) ⊎ (r ≡ answer history w q) → LineTurn words history (Ok (Ask q)) [] (queried r)
+  asked_turn : (history : List Label) (w : World) (q : Query) (r : Result Answer QueryFault) → world_at history ≡ w → (r ≡ Err NoMemory) ⊎ (r ≡ answer history w q) → CommandTurn words None [] history (Ok (Ask q)) [] (queried r)
   asked_turn history w q r e (inl none) = inr (ap queried none, refl)
   asked_turn history w q r e (inr is) =
       inl (refl, ap queried is ∙ answer_reply history w q ∙ ap (λ (v : World). query_reply (answer history v q)) (sym e))
@@ -290,84 +293,84 @@ module _ (words : Words) where
   module _ {S : Type 0} (moment : S → ℕ) (left_since : S → ℕ → Image → List Piece → Type 0) (said : S → Option (List Piece)) (may_leave : S → Image → Type 0) (seen : S → Option Image)
       (only_now : (s : S) (image : Image) (pieces : List Piece) → left_since s (moment s) image pieces → may_leave s image × IsSaid (said s) pieces) where
     -- a line that adds nothing
-    pub line_stays : (command : Result Command CommandFault) (old : S) (engine : Core) (reply : Reply) → ((history : List Label) → run history ≡ Some engine.world → LineTurn words history command [] reply)
-        → LineDone words moment left_since said may_leave seen command old old engine engine (Ok reply)
+    pub line_stays : (command : Result Command CommandFault) (old : S) (engine : Core) (reply : Reply) → ((history : List Label) → run history ≡ Some engine.world → CommandTurn words None [] history command [] reply)
+        → LineDone words None [] moment left_since said may_leave seen command old old engine engine (Ok reply)
     line_stays command old engine reply does = λ image is history stands.
-        done_by moment left_since said may_leave seen only_now (MayAdd words history command) (AddsNext words history command) (LineTurn words history command) old old engine engine image history [] reply (stays_adds moment left_since said may_leave seen only_now old engine) is stands (does history stands.run)
+        done_by moment left_since said may_leave seen only_now (MayAdd words None [] history command) (AddsNext words None [] history command) (CommandTurn words None [] history command) old old engine engine image history [] reply (stays_adds moment left_since said may_leave seen only_now old engine) is stands (does history stands.run)
 
     pub submit_done : (o : Outcome) (old new : S) (before after : Core) (result : Result Submitted EngineFault)
         → Submits moment left_since said may_leave seen old new before after (label_of before.world o) result
-        → LineDone words moment left_since said may_leave seen (Ok (Do o)) old new before after (submit_reply o result)
+        → LineDone words None [] moment left_since said may_leave seen (Ok (Do o)) old new before after (submit_reply o result)
     submit_done o old new before after (Ok (Accepted i)) h = λ image is history stands.
         let l = label_of before.world o in
         let e : world_at history ≡ before.world = world_of_run history before.world stands.run in
-        done_by moment left_since said may_leave seen only_now (MayAdd words history (Ok (Do o))) (AddsNext words history (Ok (Do o))) (LineTurn words history (Ok (Do o))) old new before after image history (l ∷ []) (accepted o i.place i.taken) h.0 is stands
+        done_by moment left_since said may_leave seen only_now (MayAdd words None [] history (Ok (Do o))) (AddsNext words None [] history (Ok (Do o))) (CommandTurn words None [] history (Ok (Do o))) old new before after image history (l ∷ []) (accepted o i.place i.taken) h.0 is stands
         (inl (outcome_in (world_at history) before.world o None (l ∷ []) (accepted o i.place i.taken) e h.1 (refl, ap (λ (n : ℕ). accepted o n i.taken) h.3 ∙ ap (accepted o before.world.count) h.4)))
     submit_done o old new before after (Ok (Refused r)) h = λ image is history stands.
         let e : world_at history ≡ before.world = world_of_run history before.world stands.run in
-        done_by moment left_since said may_leave seen only_now (MayAdd words history (Ok (Do o))) (AddsNext words history (Ok (Do o))) (LineTurn words history (Ok (Do o))) old new before after image history [] (refused r) (adds_none moment left_since said may_leave seen only_now old new before after h.2) is stands
+        done_by moment left_since said may_leave seen only_now (MayAdd words None [] history (Ok (Do o))) (AddsNext words None [] history (Ok (Do o))) (CommandTurn words None [] history (Ok (Do o))) old new before after image history [] (refused r) (adds_none moment left_since said may_leave seen only_now old new before after h.2) is stands
         (inl (outcome_in (world_at history) before.world o (Some r) [] (refused r) e h.0 (refl, refl)))
     submit_done o old new before after (Err Store) h = λ image is history stands.
         let e : world_at history ≡ before.world = world_of_run history before.world stands.run in
-        broken_by moment left_since said may_leave seen only_now (MayAdd words history (Ok (Do o))) (AddsNext words history (Ok (Do o))) (LineTurn words history (Ok (Do o))) old new before after image history (label_of before.world o ∷ []) h.0 is stands
+        broken_by moment left_since said may_leave seen only_now (MayAdd words None [] history (Ok (Do o))) (AddsNext words None [] history (Ok (Do o))) (CommandTurn words None [] history (Ok (Do o))) old new before after image history (label_of before.world o ∷ []) h.0 is stands
         (λ part b. may_outcome history before.world o part e h.1 b)
     submit_done o old new before after (Err (Damaged at)) h = absurd h
     submit_done o old new before after (Err (Full size)) h = λ image is history stands.
-        full_by moment left_since said may_leave seen only_now (MayAdd words history (Ok (Do o))) (AddsNext words history (Ok (Do o))) (LineTurn words history (Ok (Do o))) old new before after image history [] size (adds_none moment left_since said may_leave seen only_now old new before after h.2) is stands
+        full_by moment left_since said may_leave seen only_now (MayAdd words None [] history (Ok (Do o))) (AddsNext words None [] history (Ok (Do o))) (CommandTurn words None [] history (Ok (Do o))) old new before after image history [] size (adds_none moment left_since said may_leave seen only_now old new before after h.2) is stands
         (λ part b. inl (begins_none part b))
-        (subst (λ (c : Core). IsFilled (AddsNext words history (Ok (Do o)) []) c size) (sym h.2.1)
-        (record { label = label_of before.world o; next = (refl, ap (λ (w : World). label_of w o) (sym (world_of_run history before.world stands.run))); legal = h.1; full = h.0 }))
+        (subst (λ (c : Core). IsFilled (AddsNext words None [] history (Ok (Do o)) []) c size) (sym h.2.1)
+        (record { label = label_of before.world o; next = inr (ap (λ (w : World). label_of w o ∷ []) (sym (world_of_run history before.world stands.run))); legal = h.1; full = h.0 }))
     submit_done o old new before after (Err OutOfMemory) h = λ image is history stands.
-        done_by moment left_since said may_leave seen only_now (MayAdd words history (Ok (Do o))) (AddsNext words history (Ok (Do o))) (LineTurn words history (Ok (Do o))) old new before after image history [] Memory (adds_none moment left_since said may_leave seen only_now old new before after h) is stands (inr (refl, refl))
+        done_by moment left_since said may_leave seen only_now (MayAdd words None [] history (Ok (Do o))) (AddsNext words None [] history (Ok (Do o))) (CommandTurn words None [] history (Ok (Do o))) old new before after image history [] Memory (adds_none moment left_since said may_leave seen only_now old new before after h) is stands (inr (refl, refl))
 
     pub submit_done_as : (o : Outcome) (old new : S) (before after : Core) (result : Result Submitted EngineFault) (r : Result Reply EngineFault)
         → Submits moment left_since said may_leave seen old new before after (label_of before.world o) result → submit_reply o result ≡ r
-        → LineDone words moment left_since said may_leave seen (Ok (Do o)) old new before after r
+        → LineDone words None [] moment left_since said may_leave seen (Ok (Do o)) old new before after r
     submit_done_as o old new before after result r h e =
-        subst (λ (x : Result Reply EngineFault). LineDone words moment left_since said may_leave seen (Ok (Do o)) old new before after x) e (submit_done o old new before after result h)
+        subst (λ (x : Result Reply EngineFault). LineDone words None [] moment left_since said may_leave seen (Ok (Do o)) old new before after x) e (submit_done o old new before after result h)
 
     pub settle_done : (limit : ℕ) (old new : S) (before after : Core) (result : Result HasSettled EngineFault) → Settles moment left_since said may_leave seen old new before after limit result
-        → LineDone words moment left_since said may_leave seen (Ok (Settle (Some limit))) old new before after (settled_reply limit result)
+        → LineDone words None [] moment left_since said may_leave seen (Ok (Settle (Some limit))) old new before after (settled_reply limit result)
     settle_done limit old new before after (Ok settled) h = λ image is history stands.
         let there = some_of (seen new) (seen old) image h.2.honest is in
         let stood = h.2.stands image is history stands there.0 there.1 in
-        done_by moment left_since said may_leave seen only_now (MayAdd words history (Ok (Settle (Some limit)))) (AddsNext words history (Ok (Settle (Some limit)))) (LineTurn words history (Ok (Settle (Some limit)))) old new before after image history h.0 (settle_reply settled.quiet settled.steps limit) h.2 is stands
+        done_by moment left_since said may_leave seen only_now (MayAdd words None [] history (Ok (Settle (Some limit)))) (AddsNext words None [] history (Ok (Settle (Some limit)))) (CommandTurn words None [] history (Ok (Settle (Some limit)))) old new before after image history h.0 (settle_reply settled.quiet settled.steps limit) h.2 is stands
         (inl (settled_in moment left_since said may_leave seen only_now history h.0 limit after.world settled (world_of_run (history ++ h.0) after.world stood.run) h.1 h.3 h.4 h.5))
     settle_done limit old new before after (Err Store) h = λ image is history stands.
-        broken_by moment left_since said may_leave seen only_now (MayAdd words history (Ok (Settle (Some limit)))) (AddsNext words history (Ok (Settle (Some limit)))) (LineTurn words history (Ok (Settle (Some limit)))) old new before after image history h.0 h.2 is stands
-        (λ part b. steps_begin part h.0 limit h.1 b)
+        broken_by moment left_since said may_leave seen only_now (MayAdd words None [] history (Ok (Settle (Some limit)))) (AddsNext words None [] history (Ok (Settle (Some limit)))) (CommandTurn words None [] history (Ok (Settle (Some limit)))) old new before after image history h.0 h.2 is stands
+        (λ part b. settling_of_steps part limit (steps_begin part h.0 limit h.1 b))
     settle_done limit old new before after (Err (Damaged at)) h = absurd h
     settle_done limit old new before after (Err (Full size)) h = λ image is history stands.
-        full_by moment left_since said may_leave seen only_now (MayAdd words history (Ok (Settle (Some limit)))) (AddsNext words history (Ok (Settle (Some limit)))) (LineTurn words history (Ok (Settle (Some limit)))) old new before after image history h.0 size h.5 is stands
-        (λ part b. steps_begin part h.0 limit (steps_first h.0 (h.1 ∷ []) limit h.4) b)
-        (record { label = h.1; next = h.4; legal = h.3; full = h.6 })
+        full_by moment left_since said may_leave seen only_now (MayAdd words None [] history (Ok (Settle (Some limit)))) (AddsNext words None [] history (Ok (Settle (Some limit)))) (CommandTurn words None [] history (Ok (Settle (Some limit)))) old new before after image history h.0 size h.5 is stands
+        (λ part b. settling_of_steps part limit (steps_begin part h.0 limit (steps_first h.0 (h.1 ∷ []) limit h.4) b))
+        (record { label = h.1; next = settling_of_steps (h.0 ++ h.1 ∷ []) limit h.4; legal = h.3; full = h.6 })
     settle_done limit old new before after (Err OutOfMemory) h = λ image is history stands.
-        done_by moment left_since said may_leave seen only_now (MayAdd words history (Ok (Settle (Some limit)))) (AddsNext words history (Ok (Settle (Some limit)))) (LineTurn words history (Ok (Settle (Some limit)))) old new before after image history h.0 Memory h.2 is stands (inr (refl, h.1))
+        done_by moment left_since said may_leave seen only_now (MayAdd words None [] history (Ok (Settle (Some limit)))) (AddsNext words None [] history (Ok (Settle (Some limit)))) (CommandTurn words None [] history (Ok (Settle (Some limit)))) old new before after image history h.0 Memory h.2 is stands (inr (refl, settling_of_steps h.0 limit h.1))
 
     pub settle_done_as : (limit : ℕ) (old new : S) (before after : Core) (result : Result HasSettled EngineFault) (r : Result Reply EngineFault)
         → Settles moment left_since said may_leave seen old new before after limit result → settled_reply limit result ≡ r
-        → LineDone words moment left_since said may_leave seen (Ok (Settle (Some limit))) old new before after r
+        → LineDone words None [] moment left_since said may_leave seen (Ok (Settle (Some limit))) old new before after r
     settle_done_as limit old new before after result r h e =
-        subst (λ (x : Result Reply EngineFault). LineDone words moment left_since said may_leave seen (Ok (Settle (Some limit))) old new before after x) e (settle_done limit old new before after result h)
+        subst (λ (x : Result Reply EngineFault). LineDone words None [] moment left_since said may_leave seen (Ok (Settle (Some limit))) old new before after x) e (settle_done limit old new before after result h)
 
     -- a line without a number settles with as many steps as the words say
-    limit_as : (l : Option ℕ) (old new : S) (before after : Core) (r : Result Reply EngineFault) → LineDone words moment left_since said may_leave seen (Ok (Settle (Some (unwrap_or l words.steps)))) old new before after r
-        → LineDone words moment left_since said may_leave seen (Ok (Settle l)) old new before after r
+    limit_as : (l : Option ℕ) (old new : S) (before after : Core) (r : Result Reply EngineFault) → LineDone words None [] moment left_since said may_leave seen (Ok (Settle (Some (unwrap_or l words.steps)))) old new before after r
+        → LineDone words None [] moment left_since said may_leave seen (Ok (Settle l)) old new before after r
     limit_as None old new before after r h = h
     limit_as (Some n) old new before after r h = h
 
     pub settle_line_as : (l : Option ℕ) (limit : ℕ) (old new : S) (before after : Core) (result : Result HasSettled EngineFault) (r : Result Reply EngineFault) → limit ≡ unwrap_or l words.steps
         → Settles moment left_since said may_leave seen old new before after limit result → settled_reply limit result ≡ r
-        → LineDone words moment left_since said may_leave seen (Ok (Settle l)) old new before after r
+        → LineDone words None [] moment left_since said may_leave seen (Ok (Settle l)) old new before after r
     settle_line_as l limit old new before after result r is h e =
         limit_as l old new before after r
-        (subst (λ (n : ℕ). LineDone words moment left_since said may_leave seen (Ok (Settle (Some n))) old new before after r) is (settle_done_as limit old new before after result r h e))
+        (subst (λ (n : ℕ). LineDone words None [] moment left_since said may_leave seen (Ok (Settle (Some n))) old new before after r) is (settle_done_as limit old new before after result r h e))
 
     -- a query was answered
     pub asked_done : (q : Query) (old new : S) (before after : Core) (result : Result (Result Answer QueryFault) EngineFault) → after ≡ before → seen new ≡ seen old → NothingNew (may_leave old) (may_leave new)
         → LeavesOnly moment left_since said old new (may_leave old)
         → ForSome (seen old) (λ image. (history : List Label) → StandFor image (may_leave old) before history → AnswersQuery history before.world q result)
-        → LineDone words moment left_since said may_leave seen (Ok (Ask q)) old new before after (answer_of result)
+        → LineDone words None [] moment left_since said may_leave seen (Ok (Ask q)) old new before after (answer_of result)
     asked_done q old new before after (Ok r) same unseen stop only answers = λ image is history stands. (
       [],
       asked_turn history before.world q r (world_of_run history before.world stands.run) (answers image is history stands),
@@ -387,34 +390,34 @@ module _ (words : Words) where
     pub asked_done_as : (q : Query) (old new : S) (before after : Core) (result : Result (Result Answer QueryFault) EngineFault) (r : Result Reply EngineFault) → after ≡ before → seen new ≡ seen old
         → NothingNew (may_leave old) (may_leave new) → LeavesOnly moment left_since said old new (may_leave old)
         → ForSome (seen old) (λ image. (history : List Label) → StandFor image (may_leave old) before history → AnswersQuery history before.world q result) → answer_of result ≡ r
-        → LineDone words moment left_since said may_leave seen (Ok (Ask q)) old new before after r
+        → LineDone words None [] moment left_since said may_leave seen (Ok (Ask q)) old new before after r
     asked_done_as q old new before after result r same unseen stop only answers e =
-        subst (λ (x : Result Reply EngineFault). LineDone words moment left_since said may_leave seen (Ok (Ask q)) old new before after x) e (asked_done q old new before after result same unseen stop only answers)
+        subst (λ (x : Result Reply EngineFault). LineDone words None [] moment left_since said may_leave seen (Ok (Ask q)) old new before after x) e (asked_done q old new before after result same unseen stop only answers)
 
     -- the same of equal commands and answers
     pub line_as : (a b : Result Command CommandFault) (old new : S) (before after : Core) (r s : Result Reply EngineFault) → a ≡ b → r ≡ s
-        → LineDone words moment left_since said may_leave seen b old new before after r → LineDone words moment left_since said may_leave seen a old new before after s
+        → LineDone words None [] moment left_since said may_leave seen b old new before after r → LineDone words None [] moment left_since said may_leave seen a old new before after s
     line_as a b old new before after r s e f h =
-        subst (λ (c : Result Command CommandFault). LineDone words moment left_since said may_leave seen c old new before after s) (sym e)
-        (subst (λ (x : Result Reply EngineFault). LineDone words moment left_since said may_leave seen b old new before after x) f h)
+        subst (λ (c : Result Command CommandFault). LineDone words None [] moment left_since said may_leave seen c old new before after s) (sym e)
+        (subst (λ (x : Result Reply EngineFault). LineDone words None [] moment left_since said may_leave seen b old new before after x) f h)
 
   -- no settling takes more than a million steps
   pub limit_small : (l : Option ℕ) (limit : ℕ) → limit ≡ unwrap_or l words.steps → words.steps ≤ 1000000 → IsModest (Settle l) → limit ≤ 1000000
   limit_small None limit is small m = omega (arith, is, small)
   limit_small (Some n) limit is small m = omega (arith, is, m)
 
-  pub lacks_none : (command : Result Command CommandFault) → is_quit command ≡ false → Lacks words command []
-  lacks_none (Err f) e = refl
-  lacks_none (Ok (Do o)) e = refl
-  lacks_none (Ok (Ask q)) e = refl
-  lacks_none (Ok (Settle limit)) e = steps_none (unwrap_or limit words.steps)
-  lacks_none (Ok Quit) e = absurd (cc)
+  pub lacks_none : (history : List Label) (command : Result Command CommandFault) → is_quit command ≡ false → Lacks words None [] history command []
+  lacks_none history (Err f) e = refl
+  lacks_none history (Ok (Do o)) e = refl
+  lacks_none history (Ok (Ask q)) e = refl
+  lacks_none history (Ok (Settle limit)) e = settling_of_steps [] (unwrap_or limit words.steps) (steps_none (unwrap_or limit words.steps))
+  lacks_none history (Ok Quit) e = absurd (cc)
 
   -- a line that spells no command adds nothing, and its fault is said; so is want of memory
   pub unread_turn : (history : List Label) (command read : Result Command CommandFault) (fault : CommandFault) → read ≡ Err fault → Reads read command → (read ≡ Err faults.OutOfMemory → is_quit command ≡ false)
-      → LineTurn words history command [] (fault_reply fault)
+      → CommandTurn words None [] history command [] (fault_reply fault)
   unread_turn history command read fault is (inl none) memory =
       let e : fault ≡ faults.OutOfMemory = cc in
-      inr (ap fault_reply e, lacks_none command (memory none))
+      inr (ap fault_reply e, lacks_none history command (memory none))
   unread_turn history command read fault is (inr same) memory =
-      subst (λ (c : Result Command CommandFault). LineTurn words history c [] (fault_reply fault)) (sym is ∙ same) (inl (refl, refl))
+      subst (λ (c : Result Command CommandFault). CommandTurn words None [] history c [] (fault_reply fault)) (sym is ∙ same) (inl (refl, refl))

@@ -1,11 +1,10 @@
 -- What a turn tells, whatever its store tells.
-use Rattle.std.proofs.Common.{◌≡◌, ◌≢◌, ◌∙◌, ap, sym, refl, ◌⊎◌, inl, inr, ⊎_elim, ℕ, suc, ◌+◌, List, [], ◌∷◌, ◌++◌, append-nil, append_assoc, length, length-append, Bool, Option, Some, arith}
-use Rattle.std.proofs.lemmas.List.{map-append}
+use Rattle.std.proofs.Common.{◌≡◌, ◌≢◌, ◌∙◌, ap, sym, refl, ◌⊎◌, inl, inr, ⊎_elim, ℕ, ◌+◌, List, [], ◌∷◌, ◌++◌, append-nil, length, length-append, Bool, Option, Some, arith}
 use Rattle.swf_store.specs.declared.image.Image.{Image}
 use Rattle.swf_store.specs.declared.said.Piece.{Piece}
 use Rattle.swf_store.specs.Said.{and_piece}
 use Rattle.swf_host.specs.declared.host.Input.{Input}
-use Rattle.swf_host.specs.declared.host.Input.TheVariants.{Ask as Asks}
+use Rattle.swf_host.specs.declared.host.Input.TheVariants.{Ask as Asks, Closed}
 use Rattle.swf_protocol.specs.Spoken.{spoken, damaged_bytes, full_bytes}
 use Rattle.swf_protocol.specs.declared.reply.Reply.{Reply}
 use Rattle.swf_cli.specs.declared.turn.After.{After}
@@ -13,29 +12,13 @@ use Rattle.swf_cli.specs.declared.turn.After.TheVariants.{GoesOn, Ends, Stops}
 use Rattle.swf_engine.specs.declared.fault.EngineFault.{EngineFault}
 use Rattle.swf_engine.specs.declared.fault.EngineFault.TheVariants.{Store, Damaged, Full, OutOfMemory}
 use Rattle.swf_cli.specs.Finish.{ClosesWith, Tells, TellsDamage}
-use Rattle.swf_cli.specs.Follows.{conn_of}
-use Rattle.swf_cli.specs.Heard.{Exchange, IsHeard, TurnsTell, inputs_in, piece_in, pieces_in}
-use Rattle.swf_cli.specs.Steps.{IsReplied, IsStop, Says, TurnTells, follows_end}
+use Rattle.swf_cli.specs.Dialect.{session}
+use Rattle.swf_cli.specs.Heard.{IsReplied, TurnTells, AreReplied, TurnsTell}
+use Rattle.swf_cli.specs.Owed.{conn_of, pieces_of}
+use Rattle.swf_cli.specs.Steps.{IsStop, Says, follows_end}
+use Rattle.swf_cli.specs.Turns.{Turn, AreMore, inputs_of}
+use Rattle.swf_cli.proofs.TurnListLemmas.{inputs_join, pieces_join, said_at_once}
 use Rattle.swf_cli.proofs.SoundLemmas.{end_is_none}
-
-inputs_in-snoc : (es : List Exchange) (e : Exchange) → inputs_in (es ++ e ∷ []) ≡ inputs_in es ++ e.input ∷ []
-inputs_in-snoc es e = map-append (λ (x : Exchange). x.input) es (e ∷ [])
-
-as_many_in : (es : List Exchange) → length (inputs_in es) ≡ length es
-as_many_in [] = refl
-as_many_in (e ∷ es) = ap suc (as_many_in es)
-
--- how many inputs were taken with one more
-counted : (first : List Input) (es : List Exchange) → length (first ++ inputs_in es) + 1 ≡ length first + length es + 1
-counted first es = ap (λ (n : ℕ). n + 1) (length-append first (inputs_in es) ∙ ap (λ (n : ℕ). length first + n) (as_many_in es))
-
-pieces_in-snoc : (n : ℕ) (es : List Exchange) (e : Exchange) → pieces_in n (es ++ e ∷ []) ≡ pieces_in n es ++ piece_in (n + length es + 1) e ∷ []
-pieces_in-snoc n [] e =
-    let q : n + 1 ≡ n + 0 + 1 = omega arith in
-    ap (λ (m : ℕ). piece_in m e ∷ []) q
-pieces_in-snoc n (x ∷ es) e =
-    let q : n + 1 + length es + 1 ≡ n + length (x ∷ es) + 1 = omega arith in
-    ap (λ (l : List Piece). piece_in (n + 1) x ∷ l) (pieces_in-snoc (n + 1) es e ∙ ap (λ (m : ℕ). pieces_in (n + 1) es ++ piece_in m e ∷ []) q)
 
 same_status : (k n : ℕ) → Stops k ≡ Stops n → k ≡ n
 same_status k n e = cc
@@ -43,21 +26,23 @@ same_status k n e = cc
 module _ {S : Type 0} (moment : S → ℕ) (left_since : S → ℕ → Image → List Piece → Type 0) (said : S → Option (List Piece)) (may_leave : S → Image → Type 0) (seen : S → Option Image) (taken : S → Option (List Input)) where
   -- a piece behind one input more
   piece_told : (conn : ℕ) (bytes : List ℕ) (inputs : List Input) (input : Input) (pieces : List Piece) (new : S) → said new ≡ Some (and_piece conn bytes (length (inputs ++ input ∷ [])) pieces)
-      → said new ≡ Some (and_piece conn bytes (length inputs + 1) pieces)
+      → said new ≡ Some (and_piece conn bytes (length inputs + length (input ∷ [])) pieces)
   piece_told conn bytes inputs input pieces new told = told ∙ ap (λ (n : ℕ). Some (and_piece conn bytes n pieces)) (length-append inputs (input ∷ []))
 
   replied : (two new : S) (inputs : List Input) (pieces : List Piece) (input : Input) (reply : Reply) (done r : After) → taken two ≡ Some (inputs ++ input ∷ []) → said two ≡ Some pieces
-      → Says moment left_since said may_leave seen taken two new (conn_of input) (spoken reply) done r → r ≡ done → IsReplied moment left_since said may_leave seen taken new inputs pieces
+      → Says moment left_since said may_leave seen taken two new (conn_of input) (spoken reply) done r → r ≡ done → IsReplied session said taken new inputs pieces
   replied two new inputs pieces input reply done r took is s e = record {
     input = input;
+    more = [];
     reply = reply;
+    belong = tt;
     took = s.taken_same ∙ took;
     told = piece_told (conn_of input) (spoken reply) inputs input pieces new (s.whole (inputs ++ input ∷ []) took pieces is e);
   }
 
   -- what is said behind a reply is no damage
   pub reply_tells : (two new : S) (inputs : List Input) (pieces : List Piece) (input : Input) (reply : Reply) (over : Bool) (r : After) → taken two ≡ Some (inputs ++ input ∷ []) → said two ≡ Some pieces
-      → Says moment left_since said may_leave seen taken two new (conn_of input) (spoken reply) (follows_end over) r → TurnTells moment left_since said may_leave seen taken new inputs pieces r
+      → Says moment left_since said may_leave seen taken two new (conn_of input) (spoken reply) (follows_end over) r → TurnTells session said taken new inputs pieces r
   reply_tells two new inputs pieces input reply over GoesOn took is s =
       let on : GoesOn ≡ follows_end over = ⊎_elim (λ d. d) (λ f. ⊎_elim (λ g. absurd (cc)) (λ g. absurd (cc)) f) s.which in
       replied two new inputs pieces input reply (follows_end over) GoesOn took is s on
@@ -73,7 +58,7 @@ module _ {S : Type 0} (moment : S → ℕ) (left_since : S → ℕ → Image →
 
   -- nor is that the journal is full
   pub full_tells : (two new : S) (inputs : List Input) (pieces : List Piece) (conn size : ℕ) (r : After) → Says moment left_since said may_leave seen taken two new conn (full_bytes size) (Stops 7) r
-      → TurnTells moment left_since said may_leave seen taken new inputs pieces r
+      → TurnTells session said taken new inputs pieces r
   full_tells two new inputs pieces conn size GoesOn s = absurd (⊎_elim (λ d. cc) (λ f. ⊎_elim (λ g. cc) (λ g. cc) f) s.which)
   full_tells two new inputs pieces conn size Ends s = absurd (⊎_elim (λ d. cc) (λ f. ⊎_elim (λ g. cc) (λ g. cc) f) s.which)
   full_tells two new inputs pieces conn size (Stops k) s = λ five.
@@ -84,66 +69,92 @@ module _ {S : Type 0} (moment : S → ℕ) (left_since : S → ℕ → Image →
       s.which)
 
   pub damage_tells : (two new : S) (inputs : List Input) (pieces : List Piece) (conn : ℕ) (line : List ℕ) (at status : ℕ) → taken two ≡ Some (inputs ++ Asks conn line ∷ []) → said two ≡ Some pieces
-      → Says moment left_since said may_leave seen taken two new conn (damaged_bytes at) (Stops 5) (Stops status) → TurnTells moment left_since said may_leave seen taken new inputs pieces (Stops status)
+      → Says moment left_since said may_leave seen taken two new conn (damaged_bytes at) (Stops 5) (Stops status) → TurnTells session said taken new inputs pieces (Stops status)
   damage_tells two new inputs pieces conn line at status took is s = λ five. record {
     conn = conn;
     line = line;
+    more = [];
     at = at;
+    belong = tt;
     took = s.taken_same ∙ took;
     told = piece_told conn (damaged_bytes at) inputs (Asks conn line) pieces new (s.whole (inputs ++ Asks conn line ∷ []) took pieces is (ap Stops five));
   }
 
+  -- these turns were taken and replied to, and nothing else was said
+  pub record IsHeard (new : S) (first : List Input) (pieces : List Piece) (turns : List Turn) : Type 0 where
+    pub replied : AreReplied session said taken turns
+    pub took : taken new ≡ Some (first ++ inputs_of turns)
+    pub told : said new ≡ Some (pieces ++ pieces_of session (length first) turns)
+
   -- before the first turn
-  pub heard_none : (now : S) (first : List Input) (pieces : List Piece) → taken now ≡ Some first → said now ≡ Some pieces → IsHeard moment left_since said may_leave seen taken now first pieces []
-  heard_none now first pieces took is = record { took = took ∙ ap Some (sym (append-nil first)); told = is ∙ ap Some (sym (append-nil pieces)) }
+  pub heard_none : (now : S) (first : List Input) (pieces : List Piece) → taken now ≡ Some first → said now ≡ Some pieces → IsHeard now first pieces []
+  heard_none now first pieces took is = record { replied = tt; took = took ∙ ap Some (sym (append-nil first)); told = is ∙ ap Some (sym (append-nil pieces)) }
 
-  module _ (new : S) (first : List Input) (pieces : List Piece) (es : List Exchange) where
-    joined : (e : Exchange) → taken new ≡ Some ((first ++ inputs_in es) ++ e.input ∷ [])
-        → said new ≡ Some (and_piece (conn_of e.input) (spoken e.reply) (length (first ++ inputs_in es) + 1) (pieces ++ pieces_in (length first) es))
-        → IsHeard moment left_since said may_leave seen taken new first pieces (es ++ e ∷ [])
-    joined e took told = record {
-      took = took ∙ ap Some (append_assoc first (inputs_in es) (e.input ∷ []) ∙ ap (λ (l : List Input). first ++ l) (sym (inputs_in-snoc es e)));
-      told = told
-          ∙ ap (λ (n : ℕ). Some (and_piece (conn_of e.input) (spoken e.reply) n (pieces ++ pieces_in (length first) es))) (counted first es)
-          ∙ ap Some (append_assoc pieces (pieces_in (length first) es) (piece_in (length first + length es + 1) e ∷ []) ∙ ap (λ (l : List Piece). pieces ++ l) (sym (pieces_in-snoc (length first) es e)));
-    }
+  replied-snoc : (ts : List Turn) (t : Turn) → AreReplied session said taken ts → AreMore session t.more × ((reply : Reply) × (t.reply ≡ Some reply)) → AreReplied session said taken (ts ++ t ∷ [])
+  replied-snoc [] t h r = (r, tt)
+  replied-snoc (u ∷ ts) t h r = (h.0, replied-snoc ts t h.1 r)
 
+  module _ (new : S) (first : List Input) (pieces : List Piece) (ts : List Turn) (replied : AreReplied session said taken ts) where
     -- one reply more
-    pub heard_more : IsReplied moment left_since said may_leave seen taken new (first ++ inputs_in es) (pieces ++ pieces_in (length first) es)
-        → (more : List Exchange) × IsHeard moment left_since said may_leave seen taken new first pieces more
-    heard_more r = (es ++ (record { input = r.input; reply = r.reply }) ∷ [], joined (record { input = r.input; reply = r.reply }) r.took r.told)
-
-    -- the input ends
-    pub tells_ends : TurnTells moment left_since said may_leave seen taken new (first ++ inputs_in es) (pieces ++ pieces_in (length first) es) Ends
-        → TurnsTell moment left_since said may_leave seen taken new first pieces 0
-    tells_ends (inl closed) = record { exchanges = es; over = λ zero. inr (record { took = closed.0; told = closed.1 }); damaged = λ five. absurd (omega (arith, five)) }
-    tells_ends (inr r) = let more = heard_more r in record { exchanges = more.0; over = λ zero. inl more.1; damaged = λ five. absurd (omega (arith, five)) }
+    pub heard_more : IsReplied session said taken new (first ++ inputs_of ts) (pieces ++ pieces_of session (length first) ts) → (more : List Turn) × IsHeard new first pieces more
+    heard_more r =
+        let t : Turn = record { first = r.input; more = r.more; answers = []; labels = []; reply = Some r.reply } in (
+          ts ++ t ∷ [],
+          record {
+            replied = replied-snoc ts t replied (r.belong, (r.reply, refl));
+            took = r.took ∙ ap Some (inputs_join first ts t);
+            told = r.told ∙ ap Some (pieces_join session first pieces ts t);
+          },
+        )
 
     -- the program stops
-    pub tells_stops : (status : ℕ) → IsStop (Stops status) → TurnTells moment left_since said may_leave seen taken new (first ++ inputs_in es) (pieces ++ pieces_in (length first) es) (Stops status)
-        → TurnsTell moment left_since said may_leave seen taken new first pieces status
+    pub tells_stops : (status : ℕ) → IsStop (Stops status) → TurnTells session said taken new (first ++ inputs_of ts) (pieces ++ pieces_of session (length first) ts) (Stops status)
+        → TurnsTell session said taken new first pieces status
     tells_stops status which t = record {
-      exchanges = es;
+      turns = ts;
+      replied = replied;
+      whole = pieces_of session (length first) ts;
+      said_are = said_at_once session (length first) ts;
+      prompt = refl;
       over = λ zero. absurd (⊎_elim (λ n. omega (arith, n, zero)) (λ f. ⊎_elim (λ n. omega (arith, n, zero)) (λ h. ⊎_elim (λ n. omega (arith, n, zero)) (λ k. ⊎_elim (λ n. omega (arith, n, zero)) (λ n. omega (arith, n, zero)) k) h) f) which);
       damaged = t;
     }
 
-    -- the most turns were made
-    pub tells_all : IsHeard moment left_since said may_leave seen taken new first pieces es → TurnsTell moment left_since said may_leave seen taken new first pieces 0
-    tells_all h = record { exchanges = es; over = λ zero. inl h; damaged = λ five. absurd (omega (arith, five)) }
+    -- no input comes any more, or the most turns were made
+    pub tells_over : (taken new ≡ Some (first ++ inputs_of ts)) ⊎ (taken new ≡ Some ((first ++ inputs_of ts) ++ Closed ∷ [])) → said new ≡ Some (pieces ++ pieces_of session (length first) ts)
+        → TurnsTell session said taken new first pieces 0
+    tells_over took told = record {
+      turns = ts;
+      replied = replied;
+      whole = pieces_of session (length first) ts;
+      said_are = said_at_once session (length first) ts;
+      prompt = refl;
+      over = λ zero. (took, told);
+      damaged = λ five. absurd (omega (arith, five));
+    }
+
+  -- the most turns were made
+  pub tells_all : (new : S) (first : List Input) (pieces : List Piece) (ts : List Turn) → IsHeard new first pieces ts → TurnsTell session said taken new first pieces 0
+  tells_all new first pieces ts h = tells_over new first pieces ts h.replied (inl h.took) h.told
+
+  -- the input ends
+  pub tells_ends : (new : S) (first : List Input) (pieces : List Piece) (ts : List Turn) → AreReplied session said taken ts
+      → TurnTells session said taken new (first ++ inputs_of ts) (pieces ++ pieces_of session (length first) ts) Ends → TurnsTell session said taken new first pieces 0
+  tells_ends new first pieces ts replied (inl closed) = tells_over new first pieces ts replied (inr closed.0) closed.1
+  tells_ends new first pieces ts replied (inr r) = let more = heard_more new first pieces ts replied r in tells_all new first pieces more.0 more.1
 
   -- at any other status nothing is claimed
-  tells_other : (new : S) (first : List Input) (pieces : List Piece) (status : ℕ) → status ≢ 0 → status ≢ 5 → TurnsTell moment left_since said may_leave seen taken new first pieces status
-  tells_other new first pieces status zero five = record { exchanges = []; over = λ e. absurd (zero e); damaged = λ e. absurd (five e) }
+  tells_other : (new : S) (first : List Input) (pieces : List Piece) (status : ℕ) → status ≢ 0 → status ≢ 5 → TurnsTell session said taken new first pieces status
+  tells_other new first pieces status zero five = record { turns = []; replied = tt; whole = []; said_are = tt; prompt = refl; over = λ e. absurd (zero e); damaged = λ e. absurd (five e) }
 
   -- where no engine was opened
   pub tells_closed : (fault : EngineFault) (opened new : S) (first : List Input) (pieces : List Piece) (status h h_now t t_now : ℕ) → taken opened ≡ Some first → said opened ≡ Some pieces
       → Tells moment left_since said may_leave seen taken fault opened new status → ClosesWith fault status h h_now t t_now
-      → TurnsTell moment left_since said may_leave seen taken new first pieces status ⊎ ((at : ℕ) × TellsDamage at first pieces (taken new) (said new))
+      → TurnsTell session said taken new first pieces status ⊎ ((status ≡ 5) × ((at : ℕ) × TellsDamage at first pieces (taken new) (said new)))
   tells_closed Store opened new first pieces status h h_now t t_now took is tells closes =
       let three = closes.0 in inl (tells_other new first pieces status (λ e. omega (arith, e, three)) (λ e. omega (arith, e, three)))
   tells_closed (Damaged at) opened new first pieces status h h_now t t_now took is tells closes = ⊎_elim
-      (λ five. inr (at, record { taken = tells.taken_same ∙ took; told = tells.whole first took pieces is (ap Stops five) }))
+      (λ five. inr (five, (at, record { taken = tells.taken_same ∙ took; told = tells.whole first took pieces is (ap Stops five) })))
       (λ f. inl (⊎_elim
       (λ six. tells_other new first pieces status (λ e. omega (arith, e, six)) (λ e. omega (arith, e, six)))
       (λ four. tells_other new first pieces status (λ e. omega (arith, e, four)) (λ e. omega (arith, e, four)))

@@ -1,6 +1,8 @@
 pub mod WordLemmas
+pub mod SettlingLemmas
 pub mod AnswerLemmas
 pub mod TurnLemmas
+pub mod TurnListLemmas
 pub mod SessionLemmas
 pub mod OpeningLemmas
 pub mod SoundLemmas

@@ -18,6 +18,7 @@ use Rattle.swf_engine.proofs.HistoryLemmas.{left_history}
 use Rattle.swf_engine.proofs.LawLemmas.{history_one, damaged_long, damaged_none}
 use Rattle.swf_protocol.specs.Spoken.{damaged_bytes}
 use Rattle.swf_cli.specs.declared.turn.After.TheVariants.{Stops}
+use Rattle.swf_cli.specs.Dialect.{session}
 use Rattle.swf_cli.specs.Finish.{Ran, RunsOn, Tells, TellsDamage, ClosesWith}
 use Rattle.swf_cli.specs.Running.{KeepsDamaged, SessionRun, TellsOfDamage}
 use Rattle.swf_cli.specs.Steps.{IsSound, Stand}
@@ -28,10 +29,10 @@ use Rattle.swf_cli.proofs.HeardLemmas.{tells_closed}
 use Rattle.swf_cli.proofs.SessionLemmas.{at_rest}
 
 -- before the first turn
-pub at_start : (words : Words) (before : List Label) (first : List Input) (told : List Piece) (image : Image) (pieces : List Piece) → IsHistory image before → pieces ≡ told → IsMoment words before first told first image pieces
+pub at_start : (words : Words) (before : List Label) (first : List Input) (told : List Piece) (image : Image) (pieces : List Piece) → IsHistory image before → pieces ≡ told → IsMoment session words before first told first [] image pieces
 at_start words before first told image pieces stands same =
-    subst (λ (l : List Input). IsMoment words before first told l image pieces) (append-nil first)
-    (at_rest words before first told [] tt tt image pieces (subst (λ (l : List Label). IsHistory image l) (sym (append-nil before)) stands) (same ∙ sym (append-nil told)))
+    subst (λ (l : List Input). IsMoment session words before first told l [] image pieces) (append-nil first)
+    (at_rest words before first told [] tt tt refl image pieces (subst (λ (l : List Label). IsHistory image l) (sym (append-nil before)) stands) (same ∙ sym (append-nil told)))
 
 module _ {S : Type 0} (moment : S → ℕ) (left_since : S → ℕ → Image → List Piece → Type 0) (said : S → Option (List Piece)) (may_leave : S → Image → Type 0) (seen : S → Option Image) (taken : S → Option (List Input))
     (only_now : (s : S) (image : Image) (pieces : List Piece) → left_since s (moment s) image pieces → may_leave s image × IsSaid (said s) pieces) where
@@ -175,8 +176,8 @@ module _ {S : Type 0} (moment : S → ℕ) (left_since : S → ℕ → Image →
     pub session_opened : (old opened new : S) (engine : Core) (status : ℕ) → taken opened ≡ taken old → said opened ≡ said old
         → ((image : Image) → seen old ≡ Some image → IsOpened moment left_since said may_leave seen image opened engine)
         → ((image : Image) → seen old ≡ Some image → (history : List Label) → IsHistory image history → OpensHistory moment left_since said may_leave seen old opened history)
-        → RunsOn words moment left_since said may_leave seen taken opened new engine status → (IsSound moment left_since said may_leave seen opened engine → status ≢ 5)
-        → ((first : List Input) → taken opened ≡ Some first → (pieces : List Piece) → said opened ≡ Some pieces → TurnsTell moment left_since said may_leave seen taken new first pieces status)
+        → RunsOn session words moment left_since said may_leave seen taken opened new engine [] status → (IsSound moment left_since said may_leave seen opened engine → status ≢ 5)
+        → ((first : List Input) → taken opened ≡ Some first → (pieces : List Piece) → said opened ≡ Some pieces → TurnsTell session said taken new first pieces status)
         → SessionRun moment left_since said may_leave seen taken words old new status
     session_opened old opened new engine status same silent opens any_moment ran sound heard = record {
       moments = λ image is first took told said_is before stands.
@@ -191,14 +192,14 @@ module _ {S : Type 0} (moment : S → ℕ) (left_since : S → ℕ → Image →
     }
       where
         start : (image : Image) → seen old ≡ Some image → (first : List Input) → taken old ≡ Some first → (told : List Piece) → said old ≡ Some told → (before : List Label) → IsHistory image before
-            → (start : S) × LeavesOnly moment left_since said old start (may_leave old) × Leaves moment left_since start opened (IsMoment words before first told first)
+            → (start : S) × LeavesOnly moment left_since said old start (may_leave old) × Leaves moment left_since start opened (IsMoment session words before first told first [])
         start image is first took told said_is before stands =
             let stood = opened_stand opened image engine before stands (opens image is) in
-            opened_start (IsMoment words before first told first) before told (at_start words before first told) old opened said_is silent
+            opened_start (IsMoment session words before first told first []) before told (at_start words before first told) old opened said_is silent
             (λ left may. left_history stood.0 (may_leave opened) engine before stood.2 left may) (any_moment image is before stands)
 
         run : (image : Image) → (is : seen old ≡ Some image) → (first : List Input) → (took : taken old ≡ Some first) → (told : List Piece) → (said_is : said old ≡ Some told) → (before : List Label) → (stands : IsHistory image before)
-            → Ran words moment left_since said may_leave seen taken (start image is first took told said_is before stands).0 new before first told status
+            → Ran session words moment left_since said may_leave seen taken (start image is first took told said_is before stands).0 new before first [] told status
         run image is first took told said_is before stands =
             let s = start image is first took told said_is before stands in
             ran s.0 before first told (same ∙ took) (silent ∙ said_is) (opened_stand opened image engine before stands (opens image is)) s.2
@@ -213,8 +214,8 @@ module _ {S : Type 0} (moment : S → ℕ) (left_since : S → ℕ → Image →
       moments = λ image is first took told said_is before stands. (
         first,
         kept ∙ same ∙ took,
-        subst (λ (s : S). Runs moment left_since said may_leave (IsMoment words before first told first) old s) (sym (unchanged image is before stands))
-            (failed_runs (IsMoment words before first told first) before told (at_start words before first told) old opened said_is (any_moment image is before stands)),
+        subst (λ (s : S). Runs moment left_since said may_leave (IsMoment session words before first told first []) old s) (sym (unchanged image is before stands))
+            (failed_runs (IsMoment session words before first told first []) before told (at_start words before first told) old opened said_is (any_moment image is before stands)),
       );
       finish = λ image is first took told said_is before stands zero. absurd ((closed_other fault status h h_now t t_now closes).0 zero);
       full = λ image is first took told said_is before stands seven. absurd ((closed_other fault status h h_now t t_now closes).1 seven);
@@ -222,7 +223,12 @@ module _ {S : Type 0} (moment : S → ℕ) (left_since : S → ℕ → Image →
         turns = [];
         allowed = tt;
         more = [];
-        most = omega arith;
+        most = tt;
+        heard = [];
+        asked = refl;
+        whole = [];
+        said_are = tt;
+        prompt = refl;
         taken = kept ∙ same ∙ took ∙ ap Some (sym (append-nil (first ++ []) ∙ append-nil first));
         told = ap said (unchanged image is before stands) ∙ silent ∙ said_is ∙ ap Some (sym (append-nil told));
       };

@@ -1,5 +1,5 @@
 -- Where engine and store stand for a history, no turn finds damage, and they stand for one after it.
-use Rattle.std.proofs.Common.{◌≡◌, ◌∙◌, ap, sym, subst, ⊎_elim, ℕ, List, ◌++◌, Bool, true, false, Option, Ok, Err, Result, arith}
+use Rattle.std.proofs.Common.{◌≡◌, ◌∙◌, ap, sym, subst, ⊎_elim, ℕ, List, [], ◌++◌, Bool, true, false, Option, None, Ok, Err, Result, arith}
 use Rattle.swf_store.specs.declared.image.Image.{Image}
 use Rattle.swf_store.specs.declared.said.Piece.{Piece}
 use Rattle.swf_store.specs.Disk.{NothingNew}
@@ -7,6 +7,8 @@ use Rattle.swf_host.specs.declared.host.Input.{Input}
 use Rattle.swf_engine.specs.declared.fault.EngineFault.{EngineFault}
 use Rattle.swf_engine.specs.declared.fault.EngineFault.TheVariants.{Store, Damaged, Full, OutOfMemory}
 use Rattle.swf_engine.specs.Core.{Core}
+use Rattle.swf_protocol.specs.declared.command.Command.{Command}
+use Rattle.swf_protocol.specs.declared.command.CommandFault.{CommandFault}
 use Rattle.swf_cli.specs.declared.answer.Answered.{Answered}
 use Rattle.swf_cli.specs.declared.turn.After.{After}
 use Rattle.swf_cli.specs.declared.turn.After.TheVariants.{GoesOn, Ends, Stops}
@@ -38,17 +40,17 @@ module _ (words : Words) {S : Type 0} (moment : S → ℕ) (left_since : S → �
   AfterAsk two after (Err (Full size)) = IsSound moment left_since said may_leave seen two after
   AfterAsk two after (Err OutOfMemory) = Unit {0}
 
-  pub sound_asked : (line : List ℕ) (one two : S) (engine after : Core) (result : Result Answered EngineFault) → IsSound moment left_since said may_leave seen one engine
-      → AskDone words moment left_since said may_leave seen line one two engine after (reply_of result) → AfterAsk two after result
-  sound_asked line one two engine after (Ok answered) s ask = let d = ask s.1.0 s.1.1 s.0 s.1.2 in (s.0 ++ d.0, d.3)
-  sound_asked line one two engine after (Err Store) s ask = tt
-  sound_asked line one two engine after (Err (Damaged at)) s ask = ask s.1.0 s.1.1 s.0 s.1.2
-  sound_asked line one two engine after (Err (Full size)) s ask = let d = ask s.1.0 s.1.1 s.0 s.1.2 in (s.0 ++ d.0, d.3)
-  sound_asked line one two engine after (Err OutOfMemory) s ask = tt
+  pub sound_asked : (read : Option (Result Command CommandFault)) (one two : S) (engine after : Core) (result : Result Answered EngineFault) → IsSound moment left_since said may_leave seen one engine
+      → AskDone words None [] moment left_since said may_leave seen read one two engine after (reply_of result) → AfterAsk two after result
+  sound_asked read one two engine after (Ok answered) s ask = let d = ask s.1.0 s.1.1 s.0 s.1.2 in (s.0 ++ d.0, d.3)
+  sound_asked read one two engine after (Err Store) s ask = tt
+  sound_asked read one two engine after (Err (Damaged at)) s ask = ask s.1.0 s.1.1 s.0 s.1.2
+  sound_asked read one two engine after (Err (Full size)) s ask = let d = ask s.1.0 s.1.1 s.0 s.1.2 in (s.0 ++ d.0, d.3)
+  sound_asked read one two engine after (Err OutOfMemory) s ask = tt
 
-  pub sound_asked_as : (line : List ℕ) (one two : S) (engine after : Core) (result is : Result Answered EngineFault) → result ≡ is → IsSound moment left_since said may_leave seen one engine
-      → AskDone words moment left_since said may_leave seen line one two engine after (reply_of result) → AfterAsk two after is
-  sound_asked_as line one two engine after result is e s ask = subst (λ (r : Result Answered EngineFault). AfterAsk two after r) e (sound_asked line one two engine after result s ask)
+  pub sound_asked_as : (read : Option (Result Command CommandFault)) (one two : S) (engine after : Core) (result is : Result Answered EngineFault) → result ≡ is → IsSound moment left_since said may_leave seen one engine
+      → AskDone words None [] moment left_since said may_leave seen read one two engine after (reply_of result) → AfterAsk two after is
+  sound_asked_as read one two engine after result is e s ask = subst (λ (r : Result Answered EngineFault). AfterAsk two after r) e (sound_asked read one two engine after result s ask)
 
   -- what was said leaves the store as it was
   pub sound_said : (taken : S → Option (List Input)) (old new : S) (engine : Core) (conn : ℕ) (line : List ℕ) (done r : After) → (done ≡ Stops 5 → ⊥) → Says moment left_since said may_leave seen taken old new conn line done r

@@ -15,12 +15,11 @@ use Rattle.swf_world.specs.Latest.{label_of}
 use Rattle.swf_world.specs.Refusals.{refusal}
 use Rattle.swf_world.specs.declared.refusal.Refusal.{Refusal}
 use Rattle.swf_engine.specs.declared.fault.EngineFault.{EngineFault}
-use Rattle.swf_engine.specs.declared.fault.EngineFault.TheVariants.{Store, Damaged, Full, OutOfMemory}
+use Rattle.swf_engine.specs.declared.fault.EngineFault.TheVariants.{Store, Full}
 use Rattle.swf_engine.specs.Core.{Core, StandFor}
 use Rattle.swf_engine.specs.History.{IsHistory, Begins, IsGrown}
 use Rattle.swf_engine.proofs.MoveLemmas.{stays_adds}
 use Rattle.swf_engine.proofs.HistoryLemmas.{left_history, not_grown}
-use Rattle.swf_protocol.specs.Line.{command_of}
 use Rattle.swf_protocol.specs.Spoken.{spoken, full_bytes}
 use Rattle.swf_protocol.specs.declared.command.Command.{Command}
 use Rattle.swf_protocol.specs.declared.command.Command.TheVariants.{Do, Ask, Settle, Quit}
@@ -30,11 +29,14 @@ use Rattle.swf_protocol.specs.declared.reply.Reply.TheVariants.{TooLong}
 use Rattle.swf_cli.specs.declared.answer.Answered.{Answered}
 use Rattle.swf_cli.specs.declared.turn.After.{After}
 use Rattle.swf_cli.specs.declared.turn.After.TheVariants.{GoesOn, Ends, Stops}
-use Rattle.swf_cli.specs.Follows.{Heard, AddsNext, MayAdd, MayBegin, conn_of, heard}
+use Rattle.swf_cli.specs.Dialect.{session}
+use Rattle.swf_cli.specs.Owed.{Heard, conn_of, heard}
+use Rattle.swf_cli.specs.Follows.{AsksNext, MayAdd, MayAsk, MayBegin}
 use Rattle.swf_cli.specs.Statuses.{IsBlamed}
-use Rattle.swf_cli.specs.Steps.{CommandDone, LineDone, AskDone, AsksNext, MayAsk, Passes, Stand, IsFilled, TurnLeft, Turned, TurnDone, Says, reply_of, follows_end}
-use Rattle.swf_cli.specs.Turns.{Outcomes, LineTurn, AskTurn, IsAnswered, is_long, ends}
-use Rattle.swf_cli.proofs.AnswerLemmas.{begins_none, may_outcome, steps_begin, done_by}
+use Rattle.swf_cli.specs.Steps.{CommandDone, LineDone, AskDone, Passes, Stand, IsFilled, TurnLeft, Turned, TurnDone, Says, reply_of, follows_end}
+use Rattle.swf_cli.specs.Turns.{Outcomes, CommandTurn, AskTurn, IsAnswered}
+use Rattle.swf_cli.proofs.AnswerLemmas.{begins_none, may_outcome, done_by}
+use Rattle.swf_cli.proofs.SettlingLemmas.{settling_begin}
 use Rattle.swf_cli.specs.declared.words.Words.{Words}
 
 module _ (words : Words) where
@@ -43,31 +45,27 @@ module _ (words : Words) where
   begins_no part labels e b = begins_none part (subst (λ (l : List Label). Begins part l) e b)
 
   may_do : (history : List Label) (o : Outcome) (r : Option Refusal) (labels : List Label) (reply : Reply) (part : List Label) → refusal (world_at history) (label_of (world_at history) o) ≡ r
-      → Outcomes (world_at history) o r labels reply → Begins part labels → MayAdd words history (Ok (Do o)) part
+      → Outcomes (world_at history) o r labels reply → Begins part labels → MayAdd words None [] history (Ok (Do o)) part
   may_do history o None labels reply part is h b = may_outcome words history (world_at history) o part refl is (subst (λ (l : List Label). Begins part l) h.0 b)
   may_do history o (Some r) labels reply part is h b = inl (begins_no part labels h.0 b)
 
   -- a line adds what it may add
-  pub line_may : (history : List Label) (command : Result Command CommandFault) (labels : List Label) (reply : Reply) (part : List Label) → LineTurn words history command labels reply → Begins part labels → MayAdd words history command part
-  line_may history (Err f) labels reply part (inl a) b = begins_no part labels a.0 b
-  line_may history (Ok (Do o)) labels reply part (inl a) b = may_do history o (refusal (world_at history) (label_of (world_at history) o)) labels reply part refl a b
-  line_may history (Ok (Ask q)) labels reply part (inl a) b = begins_no part labels a.0 b
-  line_may history (Ok (Settle limit)) labels reply part (inl a) b = steps_begin part labels (unwrap_or limit words.steps) a.steps b
-  line_may history (Ok Quit) labels reply part (inl a) b = begins_no part labels a.0 b
-  line_may history (Err f) labels reply part (inr l) b = begins_no part labels l.1 b
-  line_may history (Ok (Do o)) labels reply part (inr l) b = inl (begins_no part labels l.1 b)
-  line_may history (Ok (Ask q)) labels reply part (inr l) b = begins_no part labels l.1 b
-  line_may history (Ok (Settle limit)) labels reply part (inr l) b = steps_begin part labels (unwrap_or limit words.steps) l.1 b
-  line_may history (Ok Quit) labels reply part (inr l) b = absurd l.1
+  pub command_may : (history : List Label) (command : Result Command CommandFault) (labels : List Label) (reply : Reply) (part : List Label) → CommandTurn words None [] history command labels reply → Begins part labels → MayAdd words None [] history command part
+  command_may history (Err f) labels reply part (inl a) b = begins_no part labels a.0 b
+  command_may history (Ok (Do o)) labels reply part (inl a) b = may_do history o (refusal (world_at history) (label_of (world_at history) o)) labels reply part refl a b
+  command_may history (Ok (Ask q)) labels reply part (inl a) b = begins_no part labels a.0 b
+  command_may history (Ok (Settle limit)) labels reply part (inl a) b = settling_begin part labels (unwrap_or limit words.steps) [] a.settling b
+  command_may history (Ok Quit) labels reply part (inl a) b = begins_no part labels a.0 b
+  command_may history (Err f) labels reply part (inr l) b = begins_no part labels l.1 b
+  command_may history (Ok (Do o)) labels reply part (inr l) b = inl (begins_no part labels l.1 b)
+  command_may history (Ok (Ask q)) labels reply part (inr l) b = begins_no part labels l.1 b
+  command_may history (Ok (Settle limit)) labels reply part (inr l) b = settling_begin part labels (unwrap_or limit words.steps) [] l.1 b
+  command_may history (Ok Quit) labels reply part (inr l) b = absurd l.1
 
-  may_short : (b : Bool) (history line part : _) → b ≡ false → MayAdd words history (command_of line) part → (b ≡ true → part ≡ []) × (b ≡ false → MayAdd words history (command_of line) part)
-  may_short true history line part e m = absurd (cc)
-  may_short false history line part e m = ((λ f. absurd (cc)), (λ f. m))
-
-  pub ask_may : (b : Bool) (history : List Label) (line : List ℕ) (labels : List Label) (reply : Reply) (part : List Label) → AskTurn words b history line labels reply → Begins part labels
-      → (b ≡ true → part ≡ []) × (b ≡ false → MayAdd words history (command_of line) part)
-  ask_may true history line labels reply part a b = ((λ e. begins_no part labels a.0 b), (λ e. absurd (cc)))
-  ask_may false history line labels reply part a b = ((λ e. absurd (cc)), (λ e. line_may history (command_of line) labels reply part a b))
+  pub ask_may : (history : List Label) (read : Option (Result Command CommandFault)) (labels : List Label) (reply : Reply) (part : List Label) → AskTurn words None [] history read labels reply → Begins part labels
+      → MayAsk words None [] history read part
+  ask_may history None labels reply part a b = begins_no part labels a.0 b
+  ask_may history (Some command) labels reply part a b = command_may history command labels reply part a b
 
   -- the counts behind some calls that changed none
   pub blamed_behind : (status h0 h h_now t0 t t_now : ℕ) → h ≡ h0 → t ≡ t0 → IsBlamed status h h_now t t_now → IsBlamed status h0 h_now t0 t_now
@@ -97,29 +95,11 @@ module _ (words : Words) where
 
   module _ {S : Type 0} (moment : S → ℕ) (left_since : S → ℕ → Image → List Piece → Type 0) (said : S → Option (List Piece)) (may_leave : S → Image → Type 0) (seen : S → Option Image)
       (only_now : (s : S) (image : Image) (pieces : List Piece) → left_since s (moment s) image pieces → may_leave s image × IsSaid (said s) pieces) where
-    -- a command's answer says more
-    pub command_as : (May More : List Label → Type 0) (Next Then : List Label → Label → Type 0) (Does Tells : List Label → Reply → Type 0) (history : List Label) (old new : S) (after : Core) (result : Result Reply EngineFault)
-        → ((part : List Label) → May part → More part) → ((labels : List Label) (label : Label) → Next labels label → Then labels label) → ((labels : List Label) (reply : Reply) → Does labels reply → Tells labels reply)
-        → CommandDone moment left_since said may_leave seen May Next Does history old new after result → CommandDone moment left_since said may_leave seen More Then Tells history old new after result
-    command_as May More Next Then Does Tells history old new after (Ok reply) m n d h = (h.0, d h.0 reply h.1, h.2, h.3)
-    command_as May More Next Then Does Tells history old new after (Err Store) m n d h = (h.0, (λ part b. m part (h.1 part b)), h.2)
-    command_as May More Next Then Does Tells history old new after (Err (Damaged at)) m n d h = h
-    command_as May More Next Then Does Tells history old new after (Err (Full size)) m n d h = (h.0, (λ part b. m part (h.1 part b)), h.2, h.3, record { label = h.4.label; next = n h.0 h.4.label h.4.next; legal = h.4.legal; full = h.4.full })
-    command_as May More Next Then Does Tells history old new after (Err OutOfMemory) m n d h = h
-
-    ask_turn : (b : Bool) (history : List Label) (line : List ℕ) (labels : List Label) (reply : Reply) → b ≡ false → LineTurn words history (command_of line) labels reply → AskTurn words b history line labels reply
-    ask_turn true history line labels reply e h = absurd (cc)
-    ask_turn false history line labels reply e h = h
-
     -- an Ask that is not too long
-    pub asked_short : (line : List ℕ) (old new : S) (before after : Core) (result : Result Reply EngineFault) → is_long line ≡ false
-        → LineDone words moment left_since said may_leave seen (command_of line) old new before after result → AskDone words moment left_since said may_leave seen line old new before after result
-    asked_short line old new before after result short h = λ image is history stands.
-        command_as (MayAdd words history (command_of line)) (MayAsk words history line) (AddsNext words history (command_of line)) (AsksNext words history line) (LineTurn words history (command_of line)) (AskTurn words (is_long line) history line) history old new after result
-        (λ part m. may_short (is_long line) history line part short m)
-        (λ labels label n. (short, n))
-        (λ labels reply d. ask_turn (is_long line) history line labels reply short d)
-        (h image is history stands)
+    pub asked_short : (command : Result Command CommandFault) (read : Option (Result Command CommandFault)) (old new : S) (before after : Core) (result : Result Reply EngineFault) → read ≡ Some command
+        → LineDone words None [] moment left_since said may_leave seen command old new before after result → AskDone words None [] moment left_since said may_leave seen read old new before after result
+    asked_short command read old new before after result short h =
+        subst (λ (r : Option (Result Command CommandFault)). AskDone words None [] moment left_since said may_leave seen r old new before after result) (sym short) h
 
     -- no input, or one, was taken; nothing was said
     pub next_leaves : (old new : S) (image : Image) (engine : Core) (history : List Label) (pieces : List Piece) → StandFor image (may_leave old) engine history → said old ≡ Some pieces
@@ -142,22 +122,20 @@ module _ (words : Words) where
     -- and then what is said
     pub then_said : (old two new : S) (history group : List Label) (inputs : ℕ) (pieces : List Piece) (one : Heard) (after : Core)
         → Leaves moment left_since old two (TurnLeft history inputs pieces group (one ∷ [])) → Stand moment left_since said may_leave seen two after (history ++ group)
-        → Leaves moment left_since two new (λ left now. may_leave two left × SaidPart one.conn one.bytes (inputs + 1) pieces now)
+        → Leaves moment left_since two new (λ left now. may_leave two left × SaidPart one.conn one.bytes inputs pieces now)
         → Leaves moment left_since old new (TurnLeft history inputs pieces group (one ∷ []))
     then_said old two new history group inputs pieces one after first stand second =
-        goes_on moment left_since old two new (TurnLeft history inputs pieces group (one ∷ [])) (λ left now. may_leave two left × SaidPart one.conn one.bytes (inputs + 1) pieces now) (TurnLeft history inputs pieces group (one ∷ [])) first second
+        goes_on moment left_since old two new (TurnLeft history inputs pieces group (one ∷ [])) (λ left now. may_leave two left × SaidPart one.conn one.bytes inputs pieces now) (TurnLeft history inputs pieces group (one ∷ [])) first second
         (λ left now h. h)
         (λ left now h. inr (one, refl, left_history stand.0 (may_leave two) after (history ++ group) stand.2 left h.0, h.1))
 
-    long_turn : (b : Bool) (history : List Label) (line : List ℕ) → b ≡ true → AskTurn words b history line [] TooLong
-    long_turn true history line e = (refl, refl)
-    long_turn false history line e = absurd (cc)
-
     -- an Ask that is too long
-    pub asked_long : (line : List ℕ) (old : S) (engine : Core) → is_long line ≡ true → AskDone words moment left_since said may_leave seen line old old engine engine (Ok TooLong)
-    asked_long line old engine long = λ image is history stands.
-        done_by moment left_since said may_leave seen only_now (MayAsk words history line) (AsksNext words history line) (AskTurn words (is_long line) history line) old old engine engine image history [] TooLong
-        (stays_adds moment left_since said may_leave seen only_now old engine) is stands (long_turn (is_long line) history line long)
+    pub asked_long : (read : Option (Result Command CommandFault)) (old : S) (engine : Core) → read ≡ None → AskDone words None [] moment left_since said may_leave seen read old old engine engine (Ok TooLong)
+    asked_long read old engine long =
+        subst (λ (r : Option (Result Command CommandFault)). AskDone words None [] moment left_since said may_leave seen r old old engine engine (Ok TooLong)) (sym long)
+        (λ image is history stands.
+        done_by moment left_since said may_leave seen only_now (MayAsk words None [] history None) (AsksNext words None [] history None) (AskTurn words None [] history None) old old engine engine image history [] TooLong
+        (stays_adds moment left_since said may_leave seen only_now old engine) is stands (refl, refl))
 
     -- an input that adds nothing
     pub begun_none : (old one : S) (history : List Label) (inputs : ℕ) (pieces : List Piece) (line : List Heard)
@@ -178,7 +156,8 @@ module _ (words : Words) where
         pub stop : NothingNew (may_leave old) (may_leave one)
         pub time : ElapsesSilent (moment old) (moment one) (left_since old) (left_since one) (may_leave one) (said old)
 
-      one_more : (inputs : List Input) (input : Input) → length (inputs ++ input ∷ []) ≡ length inputs + 1
+      -- how many inputs were taken with one more
+      one_more : (inputs : List Input) (input : Input) → length (inputs ++ input ∷ []) ≡ length inputs + length (input ∷ [])
       one_more inputs input = length-append inputs (input ∷ [])
 
       all_taken : (old one : S) (input : Input) (inputs : List Input) → Comes old one input → taken old ≡ Some inputs → taken one ≡ Some (inputs ++ input ∷ [])
@@ -187,12 +166,12 @@ module _ (words : Words) where
       -- what is said behind an input that was taken
       say_leaves : (two new : S) (conn : ℕ) (line : List ℕ) (done r : After) (inputs : List Input) (input : Input) (pieces : List Piece) → Says moment left_since said may_leave seen taken two new conn line done r
           → taken two ≡ Some (inputs ++ input ∷ []) → said two ≡ Some pieces
-          → Leaves moment left_since two new (λ left now. may_leave two left × SaidPart conn line (length inputs + 1) pieces now)
+          → Leaves moment left_since two new (λ left now. may_leave two left × SaidPart conn line (length inputs + length (input ∷ [])) pieces now)
       say_leaves two new conn line done r inputs input pieces s took is =
           subst (λ (n : ℕ). Leaves moment left_since two new (λ left now. may_leave two left × SaidPart conn line n pieces now)) (one_more inputs input) (s.leaves (inputs ++ input ∷ []) took pieces is)
 
       say_whole : (two new : S) (conn : ℕ) (line : List ℕ) (done r : After) (inputs : List Input) (input : Input) (pieces : List Piece) → Says moment left_since said may_leave seen taken two new conn line done r
-          → taken two ≡ Some (inputs ++ input ∷ []) → said two ≡ Some pieces → r ≡ done → said new ≡ Some (and_piece conn line (length inputs + 1) pieces)
+          → taken two ≡ Some (inputs ++ input ∷ []) → said two ≡ Some pieces → r ≡ done → said new ≡ Some (and_piece conn line (length inputs + length (input ∷ [])) pieces)
       say_whole two new conn line done r inputs input pieces s took is e =
           s.whole (inputs ++ input ∷ []) took pieces is e ∙ ap (λ (n : ℕ). Some (and_piece conn line n pieces)) (one_more inputs input)
 
@@ -202,26 +181,28 @@ module _ (words : Words) where
 
       -- a turn that said something, or a part of it
       turned_said : (old two new : S) (after : Core) (history : List Label) (inputs : List Input) (pieces : List Piece) (input : Input) (group : List Label) (one : Heard) (done r : After)
-          → ((part : List Label) → Begins part group → MayBegin words history input part) → taken two ≡ Some (inputs ++ input ∷ []) → said two ≡ Some pieces
-          → Leaves moment left_since old two (TurnLeft history (length inputs) pieces group (one ∷ [])) → Stand moment left_since said may_leave seen two after (history ++ group)
+          → ((part : List Label) → Begins part group → MayBegin session words None [] history input part) → taken two ≡ Some (inputs ++ input ∷ []) → said two ≡ Some pieces
+          → Leaves moment left_since old two (TurnLeft history (length inputs + length (input ∷ [])) pieces group (one ∷ [])) → Stand moment left_since said may_leave seen two after (history ++ group)
           → Says moment left_since said may_leave seen taken two new one.conn one.bytes done r
-          → Turned words moment left_since said may_leave seen taken old new history inputs pieces input group (one ∷ [])
+          → Turned session words None [] moment left_since said may_leave seen taken old new history inputs pieces input [] group (one ∷ [])
       turned_said old two new after history inputs pieces input group one done r may took is first stand s = record {
         may = may;
+        belong = tt;
         took = s.taken_same ∙ took;
-        leaves = then_said old two new history group (length inputs) pieces one after first stand (say_leaves two new one.conn one.bytes done r inputs input pieces s took is);
+        leaves = then_said old two new history group (length inputs + length (input ∷ [])) pieces one after first stand (say_leaves two new one.conn one.bytes done r inputs input pieces s took is);
       }
 
       -- a turn whose reply is said
       pub said_done : (old two new : S) (after : Core) (history : List Label) (inputs : List Input) (pieces : List Piece) (input : Input) (labels : List Label) (reply : Reply) (over : Bool) (r : After)
-          → ((part : List Label) → Begins part labels → MayBegin words history input part) → taken two ≡ Some (inputs ++ input ∷ []) → said two ≡ Some pieces
-          → Leaves moment left_since old two (TurnLeft history (length inputs) pieces labels (heard (conn_of input) (Some reply))) → Stand moment left_since said may_leave seen two after (history ++ labels)
-          → IsAnswered words history input labels (Some reply) → ends input ≡ over
+          → ((part : List Label) → Begins part labels → MayBegin session words None [] history input part) → taken two ≡ Some (inputs ++ input ∷ []) → said two ≡ Some pieces
+          → Leaves moment left_since old two (TurnLeft history (length inputs + length (input ∷ [])) pieces labels (heard session (conn_of input) (Some reply))) → Stand moment left_since said may_leave seen two after (history ++ labels)
+          → IsAnswered session words None [] history input labels (Some reply) → session.ends input ≡ over
           → Says moment left_since said may_leave seen taken two new (conn_of input) (spoken reply) (follows_end over) r
-          → TurnDone words moment left_since said may_leave seen taken old new after history inputs pieces r
+          → TurnDone session words None [] moment left_since said may_leave seen taken old new after history inputs pieces r
       said_done old two new after history inputs pieces input labels reply over GoesOn may took is first stand a e s =
           let on : GoesOn ≡ follows_end over = ⊎_elim (λ d. d) (λ f. ⊎_elim (λ g. absurd (cc)) (λ g. absurd (cc)) f) s.which in record {
-            turn = record { input = input; labels = labels; reply = Some reply };
+            turn = record { first = input; more = []; answers = []; labels = labels; reply = Some reply };
+            asked = refl;
             turned = turned_said old two new after history inputs pieces input labels (record { conn = conn_of input; bytes = spoken reply }) (follows_end over) GoesOn may took is first stand s;
             answered = a;
             ends = e ∙ goes_not_over over on;
@@ -230,7 +211,8 @@ module _ (words : Words) where
           }
       said_done old two new after history inputs pieces input labels reply over Ends may took is first stand a e s =
           let on : Ends ≡ follows_end over = ⊎_elim (λ d. d) (λ f. ⊎_elim (λ g. absurd (cc)) (λ g. absurd (cc)) f) s.which in record {
-            turn = record { input = input; labels = labels; reply = Some reply };
+            turn = record { first = input; more = []; answers = []; labels = labels; reply = Some reply };
+            asked = refl;
             turned = turned_said old two new after history inputs pieces input labels (record { conn = conn_of input; bytes = spoken reply }) (follows_end over) Ends may took is first stand s;
             answered = a;
             ends = e ∙ ends_over over on;
@@ -240,7 +222,8 @@ module _ (words : Words) where
       said_done old two new after history inputs pieces input labels reply over (Stops k) may took is first stand a e s =
           let status : (k ≡ 6) ⊎ (k ≡ 4) = ⊎_elim (λ d. absurd (not_over over k (sym d))) (λ f. ⊎_elim (λ g. inl (cc)) (λ g. inr (cc)) f) s.which in (
             inr (inl (record {
-              turn = record { input = input; labels = labels; reply = Some reply };
+              turn = record { first = input; more = []; answers = []; labels = labels; reply = Some reply };
+              asked = refl;
               turned = turned_said old two new after history inputs pieces input labels (record { conn = conn_of input; bytes = spoken reply }) (follows_end over) (Stops k) may took is first stand s;
               answered = a;
             })),
@@ -251,17 +234,18 @@ module _ (words : Words) where
 
       -- a turn that tells that the journal is full
       pub full_done : (old two new : S) (after : Core) (history : List Label) (inputs : List Input) (pieces : List Piece) (conn : ℕ) (line : List ℕ) (labels : List Label) (size : ℕ) (r : After)
-          → ((part : List Label) → Begins part labels → MayBegin words history (Asks conn line) part) → taken two ≡ Some (inputs ++ Asks conn line ∷ []) → said two ≡ Some pieces
-          → Leaves moment left_since old two (TurnLeft history (length inputs) pieces labels ((record { conn = conn; bytes = full_bytes size }) ∷ [])) → Stand moment left_since said may_leave seen two after (history ++ labels)
-          → IsFilled (AsksNext words history line labels) after size
+          → ((part : List Label) → Begins part labels → MayBegin session words None [] history (Asks conn line) part) → taken two ≡ Some (inputs ++ Asks conn line ∷ []) → said two ≡ Some pieces
+          → Leaves moment left_since old two (TurnLeft history (length inputs + length (Asks conn line ∷ [])) pieces labels ((record { conn = conn; bytes = full_bytes size }) ∷ [])) → Stand moment left_since said may_leave seen two after (history ++ labels)
+          → IsFilled (AsksNext words None [] history (session.reads line) labels) after size
           → Says moment left_since said may_leave seen taken two new conn (full_bytes size) (Stops 7) r
-          → TurnDone words moment left_since said may_leave seen taken old new after history inputs pieces r
+          → TurnDone session words None [] moment left_since said may_leave seen taken old new after history inputs pieces r
       full_done old two new after history inputs pieces conn line labels size GoesOn may took is first stand filled s = absurd (⊎_elim (λ d. cc) (λ f. ⊎_elim (λ g. cc) (λ g. cc) f) s.which)
       full_done old two new after history inputs pieces conn line labels size Ends may took is first stand filled s = absurd (⊎_elim (λ d. cc) (λ f. ⊎_elim (λ g. cc) (λ g. cc) f) s.which)
       full_done old two new after history inputs pieces conn line labels size (Stops k) may took is first stand filled s =
           let status : (k ≡ 7) ⊎ ((k ≡ 6) ⊎ (k ≡ 4)) = ⊎_elim (λ d. inl (cc)) (λ f. ⊎_elim (λ g. inr (inl (cc))) (λ g. inr (inr (cc))) f) s.which in (
             inr (inr (record {
               input = Asks conn line;
+              more = [];
               group = labels;
               line = (record { conn = conn; bytes = full_bytes size }) ∷ [];
               turned = turned_said old two new after history inputs pieces (Asks conn line) labels (record { conn = conn; bytes = full_bytes size }) (Stops 7) (Stops k) may took is first stand s;
@@ -271,8 +255,10 @@ module _ (words : Words) where
             (λ seven. record {
               conn = conn;
               line = line;
+              more = [];
               group = labels;
               size = size;
+              belong = tt;
               took = s.taken_same ∙ took;
               stands = stand_said two new conn (full_bytes size) (Stops 7) (Stops k) after (history ++ labels) s stand;
               filled = filled;
@@ -291,49 +277,51 @@ module _ (words : Words) where
 
         -- the answer to an Ask
         answered_as : (two : S) (after : Core) (conn : ℕ) (line : List ℕ) (result : Result Answered EngineFault) (is : Result Answered EngineFault) → Comes old one (Asks conn line)
-            → AskDone words moment left_since said may_leave seen line one two engine after (reply_of result) → result ≡ is
-            → CommandDone moment left_since said may_leave seen (MayAsk words history line) (AsksNext words history line) (AskTurn words (is_long line) history line) history one two after (reply_of is)
+            → AskDone words None [] moment left_since said may_leave seen (session.reads line) one two engine after (reply_of result) → result ≡ is
+            → CommandDone moment left_since said may_leave seen (MayAsk words None [] history (session.reads line)) (AsksNext words None [] history (session.reads line)) (AskTurn words None [] history (session.reads line)) history one two after (reply_of is)
         answered_as two after conn line result is came ask e =
-            subst (λ (x : Result Answered EngineFault). CommandDone moment left_since said may_leave seen (MayAsk words history line) (AsksNext words history line) (AskTurn words (is_long line) history line) history one two after (reply_of x)) e
+            subst (λ (x : Result Answered EngineFault). CommandDone moment left_since said may_leave seen (MayAsk words None [] history (session.reads line)) (AsksNext words None [] history (session.reads line)) (AskTurn words None [] history (session.reads line)) history one two after (reply_of x)) e
             (ask image (came.same ∙ seen_is) history (still_stands image (may_leave old) (may_leave one) engine history stands came.stop))
 
         pub asked_reply : (two new : S) (after : Core) (conn : ℕ) (line : List ℕ) (result : Result Answered EngineFault) (answered : Answered) (r : After) → Comes old one (Asks conn line)
-            → AskDone words moment left_since said may_leave seen line one two engine after (reply_of result) → result ≡ Ok answered → answered.ends ≡ ends (Asks conn line)
+            → AskDone words None [] moment left_since said may_leave seen (session.reads line) one two engine after (reply_of result) → result ≡ Ok answered → answered.ends ≡ session.ends (Asks conn line)
             → taken two ≡ taken one → said two ≡ said one → Says moment left_since said may_leave seen taken two new conn (spoken answered.reply) (follows_end answered.ends) r
-            → TurnDone words moment left_since said may_leave seen taken old new after history inputs pieces r
+            → TurnDone session words None [] moment left_since said may_leave seen taken old new after history inputs pieces r
         asked_reply two new after conn line result answered r came ask e over took silent says =
             let done = answered_as two after conn line result (Ok answered) came ask e in
             said_done old two new after history inputs pieces (Asks conn line) done.0 answered.reply answered.ends r
-            (λ part b. ask_may (is_long line) history line done.0 answered.reply part done.1 b)
+            (λ part b. ask_may history (session.reads line) done.0 answered.reply part done.1 b)
             (took ∙ all_taken old one (Asks conn line) inputs came taken_is) (silent ∙ came.silent ∙ said_is)
-            (begun old one two history done.0 (length inputs) pieces (heard conn (Some answered.reply)) (come_leaves (Asks conn line) came) (came.silent ∙ said_is) done.2)
+            (begun old one two history done.0 (length inputs + length (Asks conn line ∷ [])) pieces (heard session conn (Some answered.reply)) (come_leaves (Asks conn line) came) (came.silent ∙ said_is) done.2)
             done.3 done.1 (sym over) says
 
         pub asked_full : (two new : S) (after : Core) (conn : ℕ) (line : List ℕ) (result : Result Answered EngineFault) (size : ℕ) (r : After) → Comes old one (Asks conn line)
-            → AskDone words moment left_since said may_leave seen line one two engine after (reply_of result) → result ≡ Err (Full size)
+            → AskDone words None [] moment left_since said may_leave seen (session.reads line) one two engine after (reply_of result) → result ≡ Err (Full size)
             → taken two ≡ taken one → said two ≡ said one → Says moment left_since said may_leave seen taken two new conn (full_bytes size) (Stops 7) r
-            → TurnDone words moment left_since said may_leave seen taken old new after history inputs pieces r
+            → TurnDone session words None [] moment left_since said may_leave seen taken old new after history inputs pieces r
         asked_full two new after conn line result size r came ask e took silent says =
             let done = answered_as two after conn line result (Err (Full size)) came ask e in
             full_done old two new after history inputs pieces conn line done.0 size r
             done.1
             (took ∙ all_taken old one (Asks conn line) inputs came taken_is) (silent ∙ came.silent ∙ said_is)
-            (begun old one two history done.0 (length inputs) pieces ((record { conn = conn; bytes = full_bytes size }) ∷ []) (come_leaves (Asks conn line) came) (came.silent ∙ said_is) done.2)
+            (begun old one two history done.0 (length inputs + length (Asks conn line ∷ [])) pieces ((record { conn = conn; bytes = full_bytes size }) ∷ []) (come_leaves (Asks conn line) came) (came.silent ∙ said_is) done.2)
             done.3 done.4 says
 
         pub asked_broken : (two : S) (after : Core) (conn : ℕ) (line : List ℕ) (result : Result Answered EngineFault) → Comes old one (Asks conn line)
-            → AskDone words moment left_since said may_leave seen line one two engine after (reply_of result) → result ≡ Err Store → taken two ≡ taken one → said two ≡ said one
-            → TurnDone words moment left_since said may_leave seen taken old two after history inputs pieces (Stops 3)
+            → AskDone words None [] moment left_since said may_leave seen (session.reads line) one two engine after (reply_of result) → result ≡ Err Store → taken two ≡ taken one → said two ≡ said one
+            → TurnDone session words None [] moment left_since said may_leave seen taken old two after history inputs pieces (Stops 3)
         asked_broken two after conn line result came ask e took silent =
             let done = answered_as two after conn line result (Err Store) came ask e in (
               inr (inr (record {
                 input = Asks conn line;
+                more = [];
                 group = done.0;
                 line = [];
                 turned = record {
                   may = done.1;
+                  belong = tt;
                   took = took ∙ all_taken old one (Asks conn line) inputs came taken_is;
-                  leaves = begun old one two history done.0 (length inputs) pieces [] (come_leaves (Asks conn line) came) (came.silent ∙ said_is) done.2;
+                  leaves = begun old one two history done.0 (length inputs + length (Asks conn line ∷ [])) pieces [] (come_leaves (Asks conn line) came) (came.silent ∙ said_is) done.2;
                 };
                 is_full = λ h f. absurd (cc);
               })),
@@ -343,21 +331,23 @@ module _ (words : Words) where
             )
 
         pub too_long_done : (new : S) (conn : ℕ) (r : After) → Comes old one (TooLongInput conn) → Says moment left_since said may_leave seen taken one new conn (spoken TooLong) (follows_end false) r
-            → TurnDone words moment left_since said may_leave seen taken old new engine history inputs pieces r
+            → TurnDone session words None [] moment left_since said may_leave seen taken old new engine history inputs pieces r
         too_long_done new conn r came says =
             said_done old one new engine history inputs pieces (TooLongInput conn) [] TooLong false r
             (λ part b. begins_none part b)
             (all_taken old one (TooLongInput conn) inputs came taken_is) (came.silent ∙ said_is)
-            (begun_none old one history (length inputs) pieces (heard conn (Some TooLong)) (come_leaves (TooLongInput conn) came))
+            (begun_none old one history (length inputs + length (TooLongInput conn ∷ [])) pieces (heard session conn (Some TooLong)) (come_leaves (TooLongInput conn) came))
             (come_stand (TooLongInput conn) came) (refl, refl) refl says
 
-        pub closed_done : Comes old one Closed → TurnDone words moment left_since said may_leave seen taken old one engine history inputs pieces Ends
+        pub closed_done : Comes old one Closed → TurnDone session words None [] moment left_since said may_leave seen taken old one engine history inputs pieces Ends
         closed_done came = record {
-          turn = record { input = Closed; labels = []; reply = None };
+          turn = record { first = Closed; more = []; answers = []; labels = []; reply = None };
+          asked = refl;
           turned = record {
             may = λ part b. begins_none part b;
+            belong = tt;
             took = all_taken old one Closed inputs came taken_is;
-            leaves = begun_none old one history (length inputs) pieces [] (come_leaves Closed came);
+            leaves = begun_none old one history (length inputs + length (Closed ∷ [])) pieces [] (come_leaves Closed came);
           };
           answered = (refl, refl);
           ends = refl;
@@ -367,7 +357,7 @@ module _ (words : Words) where
 
         -- nothing was taken
         pub none_done : NothingNew (may_leave old) (may_leave one) → ElapsesSilent (moment old) (moment one) (left_since old) (left_since one) (may_leave one) (said old) → taken one ≡ taken old
-            → TurnDone words moment left_since said may_leave seen taken old one engine history inputs pieces (Stops 4)
+            → TurnDone session words None [] moment left_since said may_leave seen taken old one engine history inputs pieces (Stops 4)
         none_done stop time took = (
           inl (record { took = took ∙ taken_is; leaves = next_leaves old one image engine history pieces stands said_is stop time }),
           (λ zero. absurd (omega arith)),

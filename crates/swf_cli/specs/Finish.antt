@@ -1,5 +1,5 @@
 -- How a session ends.
-use Rattle.std.specs.Prelude.{◌≡◌, ◌⊎◌, ◌≤◌, ℕ, ◌+◌, ◌-◌, ◌^◌, List, [], ◌∷◌, ◌++◌, length, true, Option, Some}
+use Rattle.std.specs.Prelude.{◌≡◌, ◌⊎◌, ℕ, ◌-◌, ◌^◌, List, [], ◌∷◌, ◌++◌, length, true, Option, Some, None}
 use Rattle.swf_store.specs.declared.image.Image.{Image}
 use Rattle.swf_store.specs.declared.said.Piece.{Piece}
 use Rattle.swf_meaning.specs.declared.label.Label.{Label}
@@ -12,47 +12,54 @@ use Rattle.swf_store.specs.Said.{and_piece}
 use Rattle.swf_store.specs.Stops.{Leaves}
 use Rattle.swf_cli.specs.Statuses.{IsBlamed}
 use Rattle.swf_protocol.specs.Spoken.{damaged_bytes}
-use Rattle.swf_cli.specs.Turns.{Turn, AreTurns, labels_of, inputs_of, ends}
-use Rattle.swf_cli.specs.Follows.{conn_of, heard}
+use Rattle.swf_cli.specs.Dialect.{Dialect}
+use Rattle.swf_cli.specs.Turns.{Turn, AreTurns, last_told, labels_of, inputs_of, answers_of}
+use Rattle.swf_cli.specs.Owed.{AreSaid, ArePrompt}
+use Rattle.swf_cli.specs.Follows.{IsOneTurn}
 use Rattle.swf_cli.specs.Moments.{IsMoment}
-use Rattle.swf_cli.specs.Steps.{piece_of, Stand, IsTold, Says}
+use Rattle.swf_cli.specs.Steps.{Stand, IsTold, Says}
 use Rattle.swf_cli.specs.declared.turn.After.TheVariants.{Stops}
 use Rattle.swf_cli.specs.declared.words.Words.{Words}
 
 -- the last turn ends the input
-abbrev pub IsOver : List Turn → Type 0
-IsOver [] = ⊥
-IsOver (t ∷ []) = ends t.input ≡ true
-IsOver (t ∷ u ∷ ts) = IsOver (u ∷ ts)
+abbrev pub IsOver : Dialect → List Turn → Type 0
+IsOver mode [] = ⊥
+IsOver mode (t ∷ []) = mode.ends t.first ≡ true
+IsOver mode (t ∷ u ∷ ts) = IsOver mode (u ∷ ts)
 
 -- how many inputs a session takes
 abbrev pub most_turns : ℕ
 most_turns = 2 ^ 64 - 1
 
--- the pieces that say the replies of turns, of which the first is taken behind so many inputs
-abbrev pub pieces_of : ℕ → List Turn → List Piece
-pieces_of n [] = []
-pieces_of n (t ∷ ts) = piece_of (n + 1) (heard (conn_of t.input) t.reply) ++ pieces_of (n + 1) ts
-
 -- Read to its end: the inputs that were taken are turns, each with its labels in the history that every image stands for, and
 -- each with its reply said whole.
-pub record Finished (words : Words) (before : List Label) (first : List Input) (said : List Piece) (taken_now : Option (List Input)) (said_now : Option (List Piece)) (may_leave : Image → Type 0) : Type 0 where
+pub record Finished (mode : Dialect) (words : Words) (before : List Label) (first : List Input) (answers : List Label) (said : List Piece) (taken_now : Option (List Input)) (said_now : Option (List Piece)) (may_leave : Image → Type 0) : Type 0 where
   pub turns : List Turn
-  pub allowed : AreTurns words before turns
-  pub over : IsOver turns ⊎ (length turns ≡ most_turns)
+  pub allowed : AreTurns mode words None before turns
+  pub over : IsOver mode turns ⊎ (length turns ≡ most_turns)
   pub taken : taken_now ≡ Some (first ++ inputs_of turns)
-  pub told : said_now ≡ Some (said ++ pieces_of (length first) turns)
+  pub asked : answers ≡ answers_of turns
+  pub whole : List Piece
+  pub told : said_now ≡ Some (said ++ whole)
+  pub said_are : AreSaid mode (length first) turns whole
+  pub prompt : ArePrompt mode (length first) turns whole
   pub stands : (image : Image) → may_leave image → IsHistory image (before ++ labels_of turns)
 
--- Where the store failed or memory was missing, whole replies were said and no part of another, and at most one input more was
--- taken.
-pub record IsShort (words : Words) (before : List Label) (first : List Input) (said : List Piece) (taken_now : Option (List Input)) (said_now : Option (List Piece)) : Type 0 where
+-- Where the store failed or memory was missing, whole replies were said and no part of another, and at most the inputs of one turn more
+-- were taken.
+pub record IsShort (mode : Dialect) (words : Words) (before : List Label) (first : List Input) (answers : List Label) (said : List Piece) (taken_now : Option (List Input)) (said_now : Option (List Piece)) : Type 0 where
   pub turns : List Turn
-  pub allowed : AreTurns words before turns
+  pub allowed : AreTurns mode words None before turns
   pub more : List Input
-  pub most : length more ≤ 1
+  pub most : IsOneTurn mode more
   pub taken : taken_now ≡ Some ((first ++ inputs_of turns) ++ more)
-  pub told : said_now ≡ Some (said ++ pieces_of (length first) turns)
+  -- what the board answered behind the turns
+  pub heard : List Label
+  pub asked : answers ≡ answers_of turns ++ heard
+  pub whole : List Piece
+  pub told : said_now ≡ Some (said ++ whole)
+  pub said_are : AreSaid mode (length first) turns whole
+  pub prompt : ArePrompt mode (length first) turns whole
 
 -- the line that tells of damage was said to connection 0, and no input was taken
 pub record TellsDamage (at : ℕ) (first : List Input) (said : List Piece) (taken_now : Option (List Input)) (said_now : Option (List Piece)) : Type 0 where
@@ -74,25 +81,32 @@ module _ {S : Type 0} (moment : S → ℕ) (left_since : S → ℕ → Image →
   Tells (Full size) old new status = ⊥
   Tells OutOfMemory old new status = new ≡ old
 
-module _ (words : Words) {S : Type 0} (moment : S → ℕ) (left_since : S → ℕ → Image → List Piece → Type 0) (said : S → Option (List Piece)) (may_leave : S → Image → Type 0) (seen : S → Option Image) (taken : S → Option (List Input)) where
+module _ (mode : Dialect) (words : Words) {S : Type 0} (moment : S → ℕ) (left_since : S → ℕ → Image → List Piece → Type 0) (said : S → Option (List Piece)) (may_leave : S → Image → Type 0) (seen : S → Option Image) (taken : S → Option (List Input)) where
   -- Where the journal is full: turns were taken and answered, and one command more was asked, whose next label is legal and has no
   -- room. That was said whole, last, to who asked.
-  pub record TellsFull (new : S) (before : List Label) (first : List Input) (pieces : List Piece) : Type 0 where
+  pub record TellsFull (new : S) (before : List Label) (first : List Input) (answers : List Label) (pieces : List Piece) : Type 0 where
     pub engine : Core
     pub turns : List Turn
-    pub allowed : AreTurns words before turns
-    pub told : IsTold words moment left_since said may_leave seen taken new engine (before ++ labels_of turns) (first ++ inputs_of turns) (pieces ++ pieces_of (length first) turns)
+    pub allowed : AreTurns mode words None before turns
+    -- what the board answered behind the turns
+    pub heard : List Label
+    pub asked : answers ≡ answers_of turns ++ heard
+    pub whole : List Piece
+    pub said_are : AreSaid mode (length first) turns whole
+    pub prompt : ArePrompt mode (length first) turns whole
+    pub told : IsTold mode words (last_told mode None (inputs_of turns)) heard moment left_since said may_leave seen taken new engine (before ++ labels_of turns) (first ++ inputs_of turns) (pieces ++ whole)
 
   -- What turns make of a store that stands for a history since some state. `all` are the inputs in the end.
-  pub record Ran (start new : S) (before : List Label) (first : List Input) (pieces : List Piece) (status : ℕ) : Type 0 where
+  pub record Ran (start new : S) (before : List Label) (first : List Input) (answers : List Label) (pieces : List Piece) (status : ℕ) : Type 0 where
     pub all : List Input
     pub took : taken new ≡ Some all
-    pub leaves : Leaves moment left_since start new (IsMoment words before first pieces all)
-    pub finish : status ≡ 0 → Finished words before first pieces (taken new) (said new) (may_leave new)
-    pub full : status ≡ 7 → TellsFull new before first pieces
-    pub short : (status ≡ 3) ⊎ (status ≡ 6) → IsShort words before first pieces (taken new) (said new)
+    pub leaves : Leaves moment left_since start new (IsMoment mode words before first pieces all answers)
+    pub finish : status ≡ 0 → Finished mode words before first answers pieces (taken new) (said new) (may_leave new)
+    pub full : status ≡ 7 → TellsFull new before first answers pieces
+    pub short : (status ≡ 3) ⊎ (status ≡ 6) → IsShort mode words before first answers pieces (taken new) (said new)
 
   -- the same for whatever the store stands for
-  abbrev pub RunsOn : S → S → Core → ℕ → Type 0
-  RunsOn old new engine status = (start : S) (before : List Label) (first : List Input) (pieces : List Piece) → taken old ≡ Some first → said old ≡ Some pieces
-      → Stand moment left_since said may_leave seen old engine before → Leaves moment left_since start old (IsMoment words before first pieces first) → Ran start new before first pieces status
+  abbrev pub RunsOn : S → S → Core → List Label → ℕ → Type 0
+  RunsOn old new engine answers status = (start : S) (before : List Label) (first : List Input) (pieces : List Piece) → taken old ≡ Some first → said old ≡ Some pieces
+      → Stand moment left_since said may_leave seen old engine before → Leaves moment left_since start old (IsMoment mode words before first pieces first [])
+      → Ran start new before first answers pieces status

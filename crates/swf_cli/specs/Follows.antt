@@ -1,82 +1,81 @@
 -- What inputs and replies are to a history: turns, of which the last may have begun.
-use Rattle.std.specs.Prelude.{◌≡◌, ◌⊎◌, ◌≤◌, ℕ, ◌+◌, List, [], ◌∷◌, ◌++◌, length, true, false, Option, Some, None, Result, Ok, unwrap_or, flat_map}
+use Rattle.std.specs.Prelude.{◌≡◌, ◌⊎◌, List, [], ◌∷◌, ◌++◌, ℕ, false, Option, Some, None, Result, Ok, unwrap_or}
 use Rattle.swf_meaning.specs.declared.label.Label.{Label}
 use Rattle.swf_runs.specs.Runs.{world_at}
 use Rattle.swf_host.specs.declared.host.Input.{Input}
-use Rattle.swf_host.specs.declared.host.Input.TheVariants.{Ask as Asks, TooLong, Closed}
+use Rattle.swf_host.specs.declared.host.Input.TheVariants.{Ask as Asks}
 use Rattle.swf_world.specs.Latest.{label_of}
 use Rattle.swf_world.specs.Refusals.{refusal}
-use Rattle.swf_engine.specs.Moves.{AreSteps}
-use Rattle.swf_protocol.specs.Line.{command_of}
-use Rattle.swf_protocol.specs.Spoken.{spoken}
 use Rattle.swf_protocol.specs.declared.command.Command.{Command}
 use Rattle.swf_protocol.specs.declared.command.Command.TheVariants.{Do, Settle}
 use Rattle.swf_protocol.specs.declared.command.CommandFault.{CommandFault}
-use Rattle.swf_protocol.specs.declared.reply.Reply.{Reply}
-use Rattle.swf_cli.specs.Turns.{Turn, AreTurns, is_long, ends, labels_of, inputs_of}
+use Rattle.swf_cli.specs.Behind.{Behind, MayBehind}
+use Rattle.swf_cli.specs.Dialect.{Dialect}
+use Rattle.swf_cli.specs.Owed.{Heard, replies_of}
+use Rattle.swf_cli.specs.Settling.{AreSettling}
+use Rattle.swf_cli.specs.Turns.{Turn, AreMore, AreTurns, last_told, labels_of, inputs_of, answers_of}
 use Rattle.swf_cli.specs.declared.words.Words.{Words}
 
--- bytes that a connection is told
-pub record Heard : Type 0 where
-  pub conn : ℕ
-  pub bytes : List ℕ
-
--- the connection that asked
-abbrev pub conn_of : Input → ℕ
-conn_of (Asks conn line) = conn
-conn_of (TooLong conn) = conn
-conn_of Closed = 0
-
-abbrev pub heard : ℕ → Option Reply → List Heard
-heard conn None = []
-heard conn (Some reply) = (record { conn = conn; bytes = spoken reply }) ∷ []
-
--- the replies that turns owe, in their order
-abbrev pub replies_of : List Turn → List Heard
-replies_of ts = flat_map (λ t. heard (conn_of t.input) t.reply) ts
-
--- no turn ends the input
-abbrev pub AreOpen : List Turn → Type 0
-AreOpen [] = Unit {0}
-AreOpen (t ∷ ts) = (ends t.input ≡ false) × AreOpen ts
-
--- by the words of the program
-module _ (words : Words) where
+-- by the words of the program, the last moment that was told, and what the board answered in the turn
+module _ (words : Words) (last : Option ℕ) (answers : List Label) where
   -- a command has added these labels so far
   abbrev pub MayAdd : List Label → Result Command CommandFault → List Label → Type 0
-  MayAdd before (Ok (Do o)) part = (part ≡ []) ⊎ ((refusal (world_at before) (label_of (world_at before) o) ≡ None) × (part ≡ label_of (world_at before) o ∷ []))
-  MayAdd before (Ok (Settle limit)) part = AreSteps part (unwrap_or limit words.steps)
+  MayAdd before (Ok (Do o)) part =
+      MayBehind (λ b ls. (ls ≡ []) ⊎ ((refusal (world_at b) (label_of (world_at b) o) ≡ None) × (ls ≡ label_of (world_at b) o ∷ []))) last before part
+  MayAdd before (Ok (Settle limit)) part = AreSettling part (unwrap_or limit words.steps) answers
   MayAdd before command part = part ≡ []
 
   -- the label that a command adds next, behind these that it has added
   abbrev pub AddsNext : List Label → Result Command CommandFault → List Label → Label → Type 0
-  AddsNext before (Ok (Do o)) part label = (part ≡ []) × (label ≡ label_of (world_at before) o)
-  AddsNext before (Ok (Settle limit)) part label = AreSteps (part ++ label ∷ []) (unwrap_or limit words.steps)
+  AddsNext before (Ok (Do o)) part label = Behind (λ b ls. (ls ≡ []) ⊎ (ls ≡ label_of (world_at b) o ∷ [])) last before (part ++ label ∷ [])
+  AddsNext before (Ok (Settle limit)) part label = AreSettling (part ++ label ∷ []) (unwrap_or limit words.steps) answers
   AddsNext before command part label = ⊥
 
-  -- an input has added these labels so far
-  abbrev pub MayBegin : List Label → Input → List Label → Type 0
-  MayBegin before (Asks conn line) part = (is_long line ≡ true → part ≡ []) × (is_long line ≡ false → MayAdd before (command_of line) part)
-  MayBegin before i part = part ≡ []
+  -- the same of what was read, if it was not too long
+  abbrev pub MayAsk : List Label → Option (Result Command CommandFault) → List Label → Type 0
+  MayAsk before None part = part ≡ []
+  MayAsk before (Some command) part = MayAdd before command part
 
-  -- nothing has begun behind these turns, or one more input was taken, which has added these labels so far
-  abbrev pub IsGoing : List Label → List Turn → List Input → List Label → Type 0
-  IsGoing before ts [] part = part ≡ []
-  IsGoing before ts (i ∷ []) part = AreOpen ts × MayBegin (before ++ labels_of ts) i part
-  IsGoing before ts (i ∷ j ∷ is) part = ⊥
+  abbrev pub AsksNext : List Label → Option (Result Command CommandFault) → List Label → Label → Type 0
+  AsksNext before None part label = ⊥
+  AsksNext before (Some command) part label = AddsNext before command part label
 
-  -- The inputs fall into turns, each with the labels that it adds, behind the history before them. The replies are those of all
-  -- turns but perhaps the last, of which a part of the labels may be there.
-  pub record Follows (before : List Label) (inputs : List Input) (replies : List Heard) (history : List Label) : Type 0 where
-    pub answered : List Turn
-    -- turns whose labels are whole, and whose replies are not
-    pub unsaid : List Turn
-    pub «open» : List Input
-    pub part : List Label
-    pub allowed : AreTurns words before (answered ++ unsaid)
-    pub going : IsGoing before (answered ++ unsaid) «open» part
-    pub inputs_are : inputs ≡ inputs_of (answered ++ unsaid) ++ «open»
-    pub labels_are : history ≡ before ++ (labels_of (answered ++ unsaid) ++ part)
-    pub replies_are : replies ≡ replies_of answered
-    -- of all that was taken no more than the last is not answered
-    pub one : length unsaid + length «open» ≤ 1
+-- in a mode, by the words of the program
+module _ (mode : Dialect) where
+  -- no turn ends the input
+  abbrev pub AreOpen : List Turn → Type 0
+  AreOpen [] = Unit {0}
+  AreOpen (t ∷ ts) = (mode.ends t.first ≡ false) × AreOpen ts
+
+  -- these are no more than the inputs of one turn
+  abbrev pub IsOneTurn : List Input → Type 0
+  IsOneTurn [] = Unit {0}
+  IsOneTurn (i ∷ more) = AreMore mode more
+
+  module _ (words : Words) where
+    -- an input has added these labels so far
+    abbrev pub MayBegin : Option ℕ → List Label → List Label → Input → List Label → Type 0
+    MayBegin last answers before (Asks conn bytes) part = MayAsk words last answers before (mode.reads bytes) part
+    MayBegin last answers before i part = part ≡ []
+
+    -- nothing has begun behind these turns, or one more turn: by its inputs so far and what the board answered it has added these labels
+    abbrev pub IsGoing : List Label → List Turn → List Input → List Label → List Label → Type 0
+    IsGoing before ts [] answers part = (answers ≡ []) × (part ≡ [])
+    IsGoing before ts (i ∷ more) answers part = AreOpen ts × AreMore mode more × MayBegin (last_told mode None (inputs_of ts)) answers (before ++ labels_of ts) i part
+
+    -- The inputs fall into turns, each with the labels that it adds, behind the history before them. The replies are those of the
+    -- first of the turns. Of a turn that has begun a part of the labels may be there.
+    pub record Follows (before : List Label) (inputs : List Input) (answers : List Label) (replies : List Heard) (history : List Label) : Type 0 where
+      pub answered : List Turn
+      -- turns whose labels are whole, and whose replies are not
+      pub unsaid : List Turn
+      pub «open» : List Input
+      pub part : List Label
+      -- what the board answered in the turn that has begun
+      pub heard : List Label
+      pub allowed : AreTurns mode words None before (answered ++ unsaid)
+      pub going : IsGoing before (answered ++ unsaid) «open» heard part
+      pub inputs_are : inputs ≡ inputs_of (answered ++ unsaid) ++ «open»
+      pub answers_are : answers ≡ answers_of (answered ++ unsaid) ++ heard
+      pub labels_are : history ≡ before ++ (labels_of (answered ++ unsaid) ++ part)
+      pub replies_are : replies ≡ replies_of mode answered

@@ -1,44 +1,54 @@
 -- What a session tells, whatever its store tells.
-use Rattle.std.specs.Prelude.{◌≡◌, ◌⊎◌, ℕ, ◌+◌, List, [], ◌∷◌, ◌++◌, length, map, Option, Some}
-use Rattle.swf_store.specs.declared.image.Image.{Image}
+use Rattle.std.specs.Prelude.{◌≡◌, ◌⊎◌, ℕ, ◌+◌, List, [], ◌∷◌, ◌++◌, length, Option, Some}
+use Rattle.std.specs.List.{AllByRecursion}
 use Rattle.swf_store.specs.declared.said.Piece.{Piece}
+use Rattle.swf_store.specs.Said.{and_piece}
 use Rattle.swf_host.specs.declared.host.Input.{Input}
-use Rattle.swf_host.specs.declared.host.Input.TheVariants.{Closed}
-use Rattle.swf_protocol.specs.Spoken.{spoken}
+use Rattle.swf_host.specs.declared.host.Input.TheVariants.{Ask as Asks, Closed}
 use Rattle.swf_protocol.specs.declared.reply.Reply.{Reply}
-use Rattle.swf_cli.specs.Follows.{conn_of}
-use Rattle.swf_cli.specs.Steps.{IsDamageTold}
+use Rattle.swf_cli.specs.declared.turn.After.{After}
+use Rattle.swf_cli.specs.declared.turn.After.TheVariants.{GoesOn, Ends, Stops}
+use Rattle.swf_cli.specs.Dialect.{Dialect}
+use Rattle.swf_cli.specs.Owed.{AreSaid, ArePrompt, conn_of}
+use Rattle.swf_cli.specs.Turns.{Turn, AreMore, inputs_of}
 
--- an input, and the reply to it
-pub record Exchange : Type 0 where
-  pub input : Input
-  pub reply : Reply
+module _ (mode : Dialect) {S : Type 0} (said : S → Option (List Piece)) (taken : S → Option (List Input)) where
+  -- the inputs of a turn were taken, and one reply was said to who asked
+  pub record IsReplied (new : S) (inputs : List Input) (pieces : List Piece) : Type 0 where
+    pub input : Input
+    pub more : List Input
+    pub reply : Reply
+    pub belong : AreMore mode more
+    pub took : taken new ≡ Some (inputs ++ input ∷ more)
+    pub told : said new ≡ Some (and_piece (conn_of input) (mode.says reply) (length inputs + length (input ∷ more)) pieces)
 
-abbrev pub inputs_in : List Exchange → List Input
-inputs_in es = map (λ e. e.input) es
+  -- a line was asked, and to who asked it damage was told
+  pub record IsDamageTold (new : S) (inputs : List Input) (pieces : List Piece) : Type 0 where
+    pub conn : ℕ
+    pub line : List ℕ
+    pub more : List Input
+    pub at : ℕ
+    pub belong : AreMore mode more
+    pub took : taken new ≡ Some (inputs ++ Asks conn line ∷ more)
+    pub told : said new ≡ Some (and_piece conn (mode.says_damaged at) (length inputs + length (Asks conn line ∷ more)) pieces)
 
--- the piece that says the reply to who asked, behind so many inputs
-abbrev pub piece_in : ℕ → Exchange → Piece
-piece_in n e = record { conn = conn_of e.input; bytes = spoken e.reply; inputs = n }
+  -- What a turn tells: one that goes on a reply, the last one a reply, or nothing where no input comes any more, and one that stops
+  -- with 5 damage.
+  abbrev pub TurnTells : S → List Input → List Piece → After → Type 0
+  TurnTells new inputs pieces GoesOn = IsReplied new inputs pieces
+  TurnTells new inputs pieces Ends = ((taken new ≡ Some (inputs ++ Closed ∷ [])) × (said new ≡ Some pieces)) ⊎ IsReplied new inputs pieces
+  TurnTells new inputs pieces (Stops s) = s ≡ 5 → IsDamageTold new inputs pieces
 
--- the pieces of all, where so many inputs were taken before the first
-abbrev pub pieces_in : ℕ → List Exchange → List Piece
-pieces_in n [] = []
-pieces_in n (e ∷ es) = piece_in (n + 1) e ∷ pieces_in (n + 1) es
+  -- each of these turns has a reply, whatever labels it added
+  abbrev pub AreReplied : List Turn → Type 0
+  AreReplied turns = AllByRecursion (λ t. AreMore mode t.more × ((reply : Reply) × (t.reply ≡ Some reply))) turns
 
-module _ {S : Type 0} (moment : S → ℕ) (left_since : S → ℕ → Image → List Piece → Type 0) (said : S → Option (List Piece)) (may_leave : S → Image → Type 0) (seen : S → Option Image) (taken : S → Option (List Input)) where
-  -- these inputs were taken and replied to, and nothing else was said
-  pub record IsHeard (new : S) (first : List Input) (pieces : List Piece) (exchanges : List Exchange) : Type 0 where
-    pub took : taken new ≡ Some (first ++ inputs_in exchanges)
-    pub told : said new ≡ Some (pieces ++ pieces_in (length first) exchanges)
-
-  -- the same, and then no input came any more
-  pub record IsEndHeard (new : S) (first : List Input) (pieces : List Piece) (exchanges : List Exchange) : Type 0 where
-    pub took : taken new ≡ Some ((first ++ inputs_in exchanges) ++ Closed ∷ [])
-    pub told : said new ≡ Some (pieces ++ pieces_in (length first) exchanges)
-
-  -- At 0 each input was replied to, to its end. At 5 so were all before the last, and to who asked that one damage was told.
+  -- At 0 each turn was replied to, to the end of the input. At 5 so were all before the last, and to who asked in that one damage was told.
   pub record TurnsTell (new : S) (first : List Input) (pieces : List Piece) (status : ℕ) : Type 0 where
-    pub exchanges : List Exchange
-    pub over : status ≡ 0 → IsHeard new first pieces exchanges ⊎ IsEndHeard new first pieces exchanges
-    pub damaged : status ≡ 5 → IsDamageTold moment left_since said may_leave seen taken new (first ++ inputs_in exchanges) (pieces ++ pieces_in (length first) exchanges)
+    pub turns : List Turn
+    pub replied : AreReplied turns
+    pub whole : List Piece
+    pub said_are : AreSaid mode (length first) turns whole
+    pub prompt : ArePrompt mode (length first) turns whole
+    pub over : status ≡ 0 → ((taken new ≡ Some (first ++ inputs_of turns)) ⊎ (taken new ≡ Some ((first ++ inputs_of turns) ++ Closed ∷ []))) × (said new ≡ Some (pieces ++ whole))
+    pub damaged : status ≡ 5 → IsDamageTold new (first ++ inputs_of turns) (pieces ++ whole)

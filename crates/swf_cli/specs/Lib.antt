@@ -1,7 +1,11 @@
 pub mod Words
 pub mod Arguments
 pub mod Statuses
+pub mod Dialect
+pub mod Settling
+pub mod Behind
 pub mod Turns
+pub mod Owed
 pub mod Follows
 pub mod Moments
 pub mod Steps
@@ -10,3 +14,4 @@ pub mod Heard
 pub mod Shown
 pub mod Running
 pub mod Sorts
+pub mod StoreCalls

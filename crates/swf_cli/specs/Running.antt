@@ -1,5 +1,5 @@
 -- What the program does, by what its words mean.
-use Rattle.std.specs.Prelude.{◌≡◌, ◌≢◌, ◌⊎◌, ℕ, List, length, Option, Some}
+use Rattle.std.specs.Prelude.{◌≡◌, ◌≢◌, ◌⊎◌, ℕ, List, [], length, Option, Some}
 use Rattle.std.specs.Option.{ForSome}
 use Rattle.swf_store.specs.declared.image.Image.{Image}
 use Rattle.swf_store.specs.declared.said.Piece.{Piece}
@@ -15,6 +15,7 @@ use Rattle.swf_check.specs.Checking.{CheckRun}
 use Rattle.swf_cli.specs.declared.words.Mode.{Mode}
 use Rattle.swf_cli.specs.declared.words.Mode.TheVariants.{Check, Session, Show}
 use Rattle.swf_cli.specs.declared.words.Words.{Words}
+use Rattle.swf_cli.specs.Dialect.{session}
 use Rattle.swf_cli.specs.Finish.{Finished, IsShort, TellsFull, TellsDamage}
 use Rattle.swf_cli.specs.Heard.{TurnsTell}
 use Rattle.swf_cli.specs.Moments.{IsMoment, Runs}
@@ -44,18 +45,18 @@ module _ {S : Type 0} (moment : S → ℕ) (left_since : S → ℕ → Image →
   pub record SessionRun (words : Words) (old new : S) (status : ℕ) : Type 0 where
     -- A stop at any moment leaves a journal whose history begins with that of the journal at entry and has a place for every
     -- reply that was said.
-    pub moments : Told old (λ image inputs pieces before. (all : List Input) × (taken new ≡ Some all) × Runs moment left_since said may_leave (IsMoment words before inputs pieces all) old new)
+    pub moments : Told old (λ image inputs pieces before. (all : List Input) × (taken new ≡ Some all) × Runs moment left_since said may_leave (IsMoment session words before inputs pieces all []) old new)
     -- At 0 the input was read to its end, each reply was said whole, and every image stands for the one history.
-    pub finish : Told old (λ image inputs pieces before. status ≡ 0 → Finished words before inputs pieces (taken new) (said new) (may_leave new))
+    pub finish : Told old (λ image inputs pieces before. status ≡ 0 → Finished session words before inputs [] pieces (taken new) (said new) (may_leave new))
     -- At 7 the journal is full, which was said whole, and the store stands for a history that has no room for its next label.
-    pub full : Told old (λ image inputs pieces before. status ≡ 7 → TellsFull words moment left_since said may_leave seen taken new before inputs pieces)
+    pub full : Told old (λ image inputs pieces before. status ≡ 7 → TellsFull session words moment left_since said may_leave seen taken new before inputs [] pieces)
     -- At 3 and 6 whole replies were said, and no part of another.
-    pub short : Told old (λ image inputs pieces before. (status ≡ 3) ⊎ (status ≡ 6) → IsShort words before inputs pieces (taken new) (said new))
+    pub short : Told old (λ image inputs pieces before. (status ≡ 3) ⊎ (status ≡ 6) → IsShort session words before inputs [] pieces (taken new) (said new))
     pub damage : TellsOfDamage old new status
     -- Whatever the store tells, at 0 each input was replied to, and at 5 damage was told: to who asked last, or to connection 0 where
-    -- no engine was opened.
+    -- no engine was opened, which comes at 5 alone.
     pub heard : ForSome (taken old) (λ first. ForSome (said old) (λ pieces.
-        TurnsTell moment left_since said may_leave seen taken new first pieces status ⊎ ((at : ℕ) × TellsDamage at first pieces (taken new) (said new))))
+        TurnsTell session said taken new first pieces status ⊎ ((status ≡ 5) × ((at : ℕ) × TellsDamage at first pieces (taken new) (said new)))))
 
   pub record ShowRun (old new : S) (status : ℕ) : Type 0 where
     -- A stop at any moment leaves a journal of the same history, and a beginning of its lines was said.

@@ -8,7 +8,7 @@ use Rattle.swf_store.specs.Said.{SaidPart, and_piece}
 use Rattle.swf_store.specs.Stops.{Leaves, LeavesOnly}
 use Rattle.swf_meaning.specs.declared.label.Label.{Label}
 use Rattle.swf_host.specs.declared.host.Input.{Input}
-use Rattle.swf_host.specs.declared.host.Input.TheVariants.{Ask as Asks, Closed}
+use Rattle.swf_host.specs.declared.host.Input.TheVariants.{Ask as Asks}
 use Rattle.swf_engine.specs.declared.fault.EngineFault.{EngineFault}
 use Rattle.swf_engine.specs.declared.fault.EngineFault.TheVariants.{Store, Damaged, Full, OutOfMemory}
 use Rattle.swf_engine.specs.Core.{Core, StandFor}
@@ -19,8 +19,6 @@ use Rattle.swf_meaning.specs.declared.label.Answer.TheVariants.{Status, Pending 
 use Rattle.swf_world.specs.Refusals.{refusal}
 use Rattle.swf_world.specs.declared.query.QueryFault.{QueryFault}
 use Rattle.swf_world.specs.declared.query.QueryFault.TheVariants.{UnknownInstance, OutOfMemory as NoMemory}
-use Rattle.swf_protocol.specs.Line.{command_of}
-use Rattle.swf_protocol.specs.Spoken.{spoken, damaged_bytes, full_bytes}
 use Rattle.swf_protocol.specs.declared.command.Command.{Command}
 use Rattle.swf_protocol.specs.declared.command.CommandFault.{CommandFault}
 use Rattle.swf_protocol.specs.declared.reply.Reply.{Reply}
@@ -28,8 +26,10 @@ use Rattle.swf_protocol.specs.declared.reply.Reply.TheVariants.{Report, Pending,
 use Rattle.swf_cli.specs.declared.answer.Answered.{Answered}
 use Rattle.swf_cli.specs.declared.turn.After.{After}
 use Rattle.swf_cli.specs.declared.turn.After.TheVariants.{GoesOn, Ends, Stops}
-use Rattle.swf_cli.specs.Turns.{Turn, LineTurn, AskTurn, IsAnswered, is_long, ends}
-use Rattle.swf_cli.specs.Follows.{Heard, AddsNext, MayAdd, MayBegin, conn_of, heard}
+use Rattle.swf_cli.specs.Dialect.{Dialect}
+use Rattle.swf_cli.specs.Turns.{Turn, AreMore, CommandTurn, AskTurn, IsAnswered, inputs_in}
+use Rattle.swf_cli.specs.Owed.{Heard, conn_of, owed, piece_of}
+use Rattle.swf_cli.specs.Follows.{AddsNext, AsksNext, MayAdd, MayAsk, MayBegin}
 use Rattle.swf_cli.specs.declared.words.Words.{Words}
 
 -- a label that comes next and would be taken, and whose frame would end past the most bytes of a journal
@@ -38,11 +38,6 @@ pub record IsFilled (Next : Label → Type 0) (engine : Core) (size : ℕ) : Typ
   pub next : Next label
   pub legal : refusal engine.world label ≡ None
   pub full : IsFull engine (label ∷ []) size
-
--- the piece that says a reply, if there is one, behind so many inputs
-abbrev pub piece_of : ℕ → List Heard → List Piece
-piece_of n [] = []
-piece_of n (h ∷ hs) = (record { conn = h.conn; bytes = h.bytes; inputs = n }) ∷ piece_of n hs
 
 -- the reply of an answer
 abbrev pub reply_of : Result Answered EngineFault → Result Reply EngineFault
@@ -73,14 +68,6 @@ IsBreak (Err (Damaged at)) = Unit {0}
 IsBreak (Err (Full size)) = Unit {0}
 IsBreak (Err OutOfMemory) = ⊥
 
--- a line has added these labels so far
-abbrev pub MayAsk : Words → List Label → List ℕ → List Label → Type 0
-MayAsk words history line part = (is_long line ≡ true → part ≡ []) × (is_long line ≡ false → MayAdd words history (command_of line) part)
-
--- the label that a line adds next, behind these that it has added
-abbrev pub AsksNext : Words → List Label → List ℕ → List Label → Label → Type 0
-AsksNext words history line part label = (is_long line ≡ false) × AddsNext words history (command_of line) part label
-
 -- whether what follows a turn is the end of the input
 abbrev pub follows_end : Bool → After
 follows_end true = Ends
@@ -92,12 +79,12 @@ status_of GoesOn = 0
 status_of Ends = 0
 status_of (Stops s) = s
 
--- A stop in a turn that was taken behind so many inputs: the image stands for the history and the first labels of the group, and
+-- A stop in a turn with which so many inputs were taken: the image stands for the history and the first labels of the group, and
 -- nothing was said; or for all of them, and a part of these bytes was said, if there are some.
 abbrev pub TurnLeft : List Label → ℕ → List Piece → List Label → List Heard → Image → List Piece → Type 0
 TurnLeft history inputs pieces group line image now =
     (IsGrown history group image × (now ≡ pieces))
-    ⊎ ((one : Heard) × (line ≡ one ∷ []) × IsHistory image (history ++ group) × SaidPart one.conn one.bytes (inputs + 1) pieces now)
+    ⊎ ((one : Heard) × (line ≡ one ∷ []) × IsHistory image (history ++ group) × SaidPart one.conn one.bytes inputs pieces now)
 
 -- a turn stops the program only where the store or the host failed, at damage, for want of memory, or at a full journal
 abbrev pub IsStop : After → Type 0
@@ -145,90 +132,76 @@ module _ {S : Type 0} (moment : S → ℕ) (left_since : S → ℕ → Image →
       pub seen_same : seen new ≡ seen old
       pub taken_same : taken new ≡ taken old
 
-    -- Whatever the store tells: an input was taken, and one reply was said to who asked.
-    pub record IsReplied (new : S) (inputs : List Input) (pieces : List Piece) : Type 0 where
-      pub input : Input
-      pub reply : Reply
-      pub took : taken new ≡ Some (inputs ++ input ∷ [])
-      pub told : said new ≡ Some (and_piece (conn_of input) (spoken reply) (length inputs + 1) pieces)
-
-    -- a line was asked, and to who asked it damage was told
-    pub record IsDamageTold (new : S) (inputs : List Input) (pieces : List Piece) : Type 0 where
-      pub conn : ℕ
-      pub line : List ℕ
-      pub at : ℕ
-      pub took : taken new ≡ Some (inputs ++ Asks conn line ∷ [])
-      pub told : said new ≡ Some (and_piece conn (damaged_bytes at) (length inputs + 1) pieces)
-
-    -- What a turn tells: one that goes on a reply, the last one a reply, or nothing where no input comes any more, and one that stops
-    -- with 5 damage.
-    abbrev pub TurnTells : S → List Input → List Piece → After → Type 0
-    TurnTells new inputs pieces GoesOn = IsReplied new inputs pieces
-    TurnTells new inputs pieces Ends = ((taken new ≡ Some (inputs ++ Closed ∷ [])) × (said new ≡ Some pieces)) ⊎ IsReplied new inputs pieces
-    TurnTells new inputs pieces (Stops s) = s ≡ 5 → IsDamageTold new inputs pieces
-
     -- no input was taken
     pub record Nothing (old new : S) (history : List Label) (inputs : List Input) (pieces : List Piece) : Type 0 where
       pub took : taken new ≡ Some inputs
       pub leaves : Leaves moment left_since old new (λ image now. IsHistory image history × (now ≡ pieces))
 
--- by the words of the program
-module _ (words : Words) {S : Type 0} (moment : S → ℕ) (left_since : S → ℕ → Image → List Piece → Type 0) (said : S → Option (List Piece)) (may_leave : S → Image → Type 0) (seen : S → Option Image) where
-  -- where engine and store stood for a history before it, a line was answered so
+-- by the words of the program, the last moment that was told, and what the board answered in the turn
+module _ (words : Words) (last : Option ℕ) (answers : List Label) {S : Type 0} (moment : S → ℕ) (left_since : S → ℕ → Image → List Piece → Type 0) (said : S → Option (List Piece)) (may_leave : S → Image → Type 0) (seen : S → Option Image) where
+  -- where engine and store stood for a history before it, a command was answered so
   abbrev pub LineDone : Result Command CommandFault → S → S → Core → Core → Result Reply EngineFault → Type 0
   LineDone command old new before after result = ForSome (seen old) (λ image. (history : List Label) → StandFor image (may_leave old) before history
-      → CommandDone moment left_since said may_leave seen (MayAdd words history command) (AddsNext words history command) (LineTurn words history command) history old new after result)
+      → CommandDone moment left_since said may_leave seen (MayAdd words last answers history command) (AddsNext words last answers history command) (CommandTurn words last answers history command) history old new after result)
 
-  -- the same of an Ask, which may be too long
-  abbrev pub AskDone : List ℕ → S → S → Core → Core → Result Reply EngineFault → Type 0
-  AskDone line old new before after result = ForSome (seen old) (λ image. (history : List Label) → StandFor image (may_leave old) before history
-      → CommandDone moment left_since said may_leave seen (MayAsk words history line) (AsksNext words history line) (AskTurn words (is_long line) history line) history old new after result)
+  -- the same of what was read of an Ask, which may be too long
+  abbrev pub AskDone : Option (Result Command CommandFault) → S → S → Core → Core → Result Reply EngineFault → Type 0
+  AskDone read old new before after result = ForSome (seen old) (λ image. (history : List Label) → StandFor image (may_leave old) before history
+      → CommandDone moment left_since said may_leave seen (MayAsk words last answers history read) (AsksNext words last answers history read) (AskTurn words last answers history read) history old new after result)
 
-  module _ (taken : S → Option (List Input)) where
-    -- a turn has taken this input; while it added the group nothing was said, and then a part of these bytes, if there are some
-    pub record Turned (old new : S) (history : List Label) (inputs : List Input) (pieces : List Piece) (input : Input) (group : List Label) (line : List Heard) : Type 0 where
-      pub may : (part : List Label) → Begins part group → MayBegin words history input part
-      pub took : taken new ≡ Some (inputs ++ input ∷ [])
-      pub leaves : Leaves moment left_since old new (TurnLeft history (length inputs) pieces group line)
+-- the same in a mode
+module _ (mode : Dialect) (words : Words) (last : Option ℕ) (answers : List Label) {S : Type 0} (moment : S → ℕ) (left_since : S → ℕ → Image → List Piece → Type 0) (said : S → Option (List Piece)) (may_leave : S → Image → Type 0) (seen : S → Option Image) (taken : S → Option (List Input)) where
+  -- A turn has taken this input and those that belong to it. While it added the group nothing was said, and then a part of these
+  -- bytes, if there are some.
+  pub record Turned (old new : S) (history : List Label) (inputs : List Input) (pieces : List Piece) (input : Input) (more : List Input) (group : List Label) (line : List Heard) : Type 0 where
+    pub may : (part : List Label) → Begins part group → MayBegin mode words last answers history input part
+    pub belong : AreMore mode more
+    pub took : taken new ≡ Some (inputs ++ input ∷ more)
+    pub leaves : Leaves moment left_since old new (TurnLeft history (length inputs + length (input ∷ more)) pieces group line)
 
-    -- the turn is whole: its labels were added and its reply was said
-    pub record Whole (old new : S) (after : Core) (history : List Label) (inputs : List Input) (pieces : List Piece) (over : Bool) : Type 0 where
-      pub turn : Turn
-      pub turned : Turned old new history inputs pieces turn.input turn.labels (heard (conn_of turn.input) turn.reply)
-      pub answered : IsAnswered words history turn.input turn.labels turn.reply
-      pub ends : ends turn.input ≡ over
-      pub stands : Stand moment left_since said may_leave seen new after (history ++ turn.labels)
-      pub said_all : said new ≡ Some (pieces ++ piece_of (length inputs + 1) (heard (conn_of turn.input) turn.reply))
+  -- the turn is whole: its labels were added and its reply was said
+  pub record Whole (old new : S) (after : Core) (history : List Label) (inputs : List Input) (pieces : List Piece) (over : Bool) : Type 0 where
+    pub turn : Turn
+    pub asked : turn.answers ≡ answers
+    pub turned : Turned old new history inputs pieces turn.first turn.more turn.labels (owed mode turn)
+    pub answered : IsAnswered mode words last turn.answers history turn.first turn.labels turn.reply
+    pub ends : mode.ends turn.first ≡ over
+    pub stands : Stand moment left_since said may_leave seen new after (history ++ turn.labels)
+    pub said_all : said new ≡ Some (pieces ++ piece_of (length inputs + length (inputs_in turn)) (owed mode turn))
 
-    -- its labels were added, and its reply was not said whole
-    pub record Unsaid (old new : S) (history : List Label) (inputs : List Input) (pieces : List Piece) : Type 0 where
-      pub turn : Turn
-      pub turned : Turned old new history inputs pieces turn.input turn.labels (heard (conn_of turn.input) turn.reply)
-      pub answered : IsAnswered words history turn.input turn.labels turn.reply
+  -- its labels were added, and its reply was not said whole
+  pub record Unsaid (old new : S) (history : List Label) (inputs : List Input) (pieces : List Piece) : Type 0 where
+    pub turn : Turn
+    pub asked : turn.answers ≡ answers
+    pub turned : Turned old new history inputs pieces turn.first turn.more turn.labels (owed mode turn)
+    pub answered : IsAnswered mode words last turn.answers history turn.first turn.labels turn.reply
 
-    -- the store failed, or the journal is full, of which a line was said
-    pub record Broken (old new : S) (history : List Label) (inputs : List Input) (pieces : List Piece) : Type 0 where
-      pub input : Input
-      pub group : List Label
-      pub line : List Heard
-      pub turned : Turned old new history inputs pieces input group line
-      pub is_full : (one : Heard) → line ≡ one ∷ [] → (size : ℕ) × (one.bytes ≡ full_bytes size) × (one.conn ≡ conn_of input)
+  -- the store failed, or the journal is full, of which a line was said
+  pub record Broken (old new : S) (history : List Label) (inputs : List Input) (pieces : List Piece) : Type 0 where
+    pub input : Input
+    pub more : List Input
+    pub group : List Label
+    pub line : List Heard
+    pub turned : Turned old new history inputs pieces input more group line
+    pub is_full : (one : Heard) → line ≡ one ∷ [] → (size : ℕ) × (one.bytes ≡ mode.says_full size) × (one.conn ≡ conn_of input)
 
-    -- What is left where the journal is full, behind this history: a line was asked which has added some labels, engine and store
-    -- stand for them, and its next label does not fit. That was said to who asked.
-    pub record IsTold (new : S) (after : Core) (history : List Label) (inputs : List Input) (pieces : List Piece) : Type 0 where
-      pub conn : ℕ
-      pub line : List ℕ
-      pub group : List Label
-      pub size : ℕ
-      pub took : taken new ≡ Some (inputs ++ Asks conn line ∷ [])
-      pub stands : Stand moment left_since said may_leave seen new after (history ++ group)
-      pub filled : IsFilled (AsksNext words history line group) after size
-      pub told : said new ≡ Some (and_piece conn (full_bytes size) (length inputs + 1) pieces)
+  -- What is left where the journal is full, behind this history: a line was asked which has added some labels, engine and store
+  -- stand for them, and its next label does not fit. That was said to who asked.
+  pub record IsTold (new : S) (after : Core) (history : List Label) (inputs : List Input) (pieces : List Piece) : Type 0 where
+    pub conn : ℕ
+    pub line : List ℕ
+    pub more : List Input
+    pub group : List Label
+    pub size : ℕ
+    pub belong : AreMore mode more
+    pub took : taken new ≡ Some (inputs ++ Asks conn line ∷ more)
+    pub stands : Stand moment left_since said may_leave seen new after (history ++ group)
+    pub filled : IsFilled (AsksNext words last answers history (mode.reads line) group) after size
+    pub told : said new ≡ Some (and_piece conn (mode.says_full size) (length inputs + length (Asks conn line ∷ more)) pieces)
 
-    abbrev pub TurnDone : S → S → Core → List Label → List Input → List Piece → After → Type 0
-    TurnDone old new after history inputs pieces GoesOn = Whole old new after history inputs pieces false
-    TurnDone old new after history inputs pieces Ends = Whole old new after history inputs pieces true
-    TurnDone old new after history inputs pieces (Stops s) =
-        (Nothing moment left_since said may_leave seen taken old new history inputs pieces ⊎ Unsaid old new history inputs pieces ⊎ Broken old new history inputs pieces)
-        × (s ≢ 0) × (s ≡ 7 → IsTold new after history inputs pieces) × (s ≢ 4 → s ≢ 7 → said new ≡ Some pieces)
+  abbrev pub TurnDone : S → S → Core → List Label → List Input → List Piece → After → Type 0
+  TurnDone old new after history inputs pieces GoesOn = Whole old new after history inputs pieces false
+  TurnDone old new after history inputs pieces Ends = Whole old new after history inputs pieces true
+  TurnDone old new after history inputs pieces (Stops s) =
+      (Nothing moment left_since said may_leave seen taken old new history inputs pieces ⊎ Unsaid old new history inputs pieces ⊎ Broken old new history inputs pieces)
+      × (s ≢ 0) × (s ≡ 7 → IsTold new after history inputs pieces) × (s ≢ 4 → s ≢ 7 → said new ≡ Some pieces)

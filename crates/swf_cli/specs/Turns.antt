@@ -1,5 +1,6 @@
--- Turns: an input, the labels that it adds, and the reply that it owes.
-use Rattle.std.specs.Prelude.{◌≡◌, ◌⊎◌, ℕ, List, [], ◌∷◌, ◌++◌, Bool, true, false, length, nat_lt, Option, Some, None, Result, Ok, Err, unwrap_or, if◌then◌else◌, flat_map, map}
+-- Turns: inputs, the labels that they add, and the reply that they owe.
+use Rattle.std.specs.Prelude.{◌≡◌, ◌⊎◌, ℕ, List, [], ◌∷◌, ◌++◌, Bool, true, false, length, Option, Some, None, Result, Ok, Err, unwrap_or, if◌then◌else◌, flat_map}
+use Rattle.std.specs.List.{AllByRecursion}
 use Rattle.swf_meaning.specs.declared.label.Label.{Label}
 use Rattle.swf_meaning.specs.declared.label.Outcome.{Outcome}
 use Rattle.swf_meaning.specs.declared.label.Outcome.TheVariants.{Load, Start, Event, Reply as Replies, Moment}
@@ -16,8 +17,6 @@ use Rattle.swf_world.specs.declared.refusal.Refusal.TheVariants.{Refused as NotR
 use Rattle.swf_meaning.specs.declared.label.Answer.{Answer}
 use Rattle.swf_meaning.specs.declared.label.Answer.TheVariants.{Status, Pending as Waits, Outbox as Sent, History}
 use Rattle.swf_world.specs.declared.query.QueryFault.{QueryFault}
-use Rattle.swf_engine.specs.Moves.{AreSteps}
-use Rattle.swf_protocol.specs.Line.{command_of, is_quit}
 use Rattle.swf_protocol.specs.declared.command.Command.{Command}
 use Rattle.swf_protocol.specs.declared.command.Command.TheVariants.{Do, Ask, Settle, Quit}
 use Rattle.swf_protocol.specs.declared.command.CommandFault.{CommandFault}
@@ -25,15 +24,17 @@ use Rattle.swf_protocol.specs.declared.command.CommandFault.TheVariants as fault
 use Rattle.swf_protocol.specs.declared.reply.Reply.{Reply}
 use Rattle.swf_protocol.specs.declared.reply.Reply.TheVariants.{Loaded, Started, Accepted, Replied, Reached, Quiet, Budget, Report, Pending, Outbox, History as Labels, Quit as Bye, BadLine, BadEvent, TooLong, Refused, Duplicate, UnknownDocument, UnknownInstance, Stale, Past, Full, Memory}
 use Rattle.swf_cli.specs.declared.words.Words.{Words}
+use Rattle.swf_cli.specs.Behind.{Behind, MayBehind}
+use Rattle.swf_cli.specs.Dialect.{Dialect}
+use Rattle.swf_cli.specs.Settling.{AreSettling, steps_in}
 
+-- a first input and those that belong to it, what a board answered in the turn, the labels that it adds, and the reply that it owes
 pub record Turn : Type 0 where
-  pub input : Input
+  pub first : Input
+  pub more : List Input
+  pub answers : List Label
   pub labels : List Label
   pub reply : Option Reply
-
--- the most bytes of a line
-abbrev pub most_line : ℕ
-most_line = 1048576
 
 -- the reply to an outcome whose label was added at this place, and whose event so many took
 abbrev pub accepted : Outcome → ℕ → ℕ → Reply
@@ -77,22 +78,13 @@ abbrev pub settle_reply : Bool → ℕ → ℕ → Reply
 settle_reply quiet steps limit = if quiet then Quiet steps else Budget limit
 
 -- a settling takes steps, at most so many, until no strand is enabled
-pub record Settled (before : List Label) (limit : ℕ) (labels : List Label) (reply : Reply) : Type 0 where
-  pub steps : AreSteps labels limit
-  pub enough : is_quiet (world_at (before ++ labels)) ≡ false → length labels ≡ limit
-  pub told : reply ≡ settle_reply (is_quiet (world_at (before ++ labels))) (length labels) limit
-
-abbrev pub is_long : List ℕ → Bool
-is_long line = nat_lt most_line (length line)
+pub record Settled (before : List Label) (limit : ℕ) (answers labels : List Label) (reply : Reply) : Type 0 where
+  pub settling : AreSettling labels limit answers
+  pub enough : is_quiet (world_at (before ++ labels)) ≡ false → length (steps_in labels) ≡ limit
+  pub told : reply ≡ settle_reply (is_quiet (world_at (before ++ labels))) (length (steps_in labels)) limit
 
 abbrev pub LongTurn : List Label → Reply → Type 0
 LongTurn labels reply = (labels ≡ []) × (reply ≡ TooLong)
-
--- no input is taken after this one
-abbrev pub ends : Input → Bool
-ends (Asks conn line) = if is_long line then false else is_quit (command_of line)
-ends (TooLongInput conn) = false
-ends Closed = true
 
 abbrev pub IsLast : Bool → List Turn → Type 0
 IsLast true ts = ts ≡ []
@@ -103,41 +95,69 @@ abbrev pub labels_of : List Turn → List Label
 labels_of ts = flat_map (λ t. t.labels) ts
 
 -- their inputs
-abbrev pub inputs_of : List Turn → List Input
-inputs_of ts = map (λ t. t.input) ts
+abbrev pub inputs_in : Turn → List Input
+inputs_in t = t.first ∷ t.more
 
--- by the words of the program
-module _ (words : Words) where
-  -- with memory, a line adds these labels behind those before it, and owes the reply
+abbrev pub inputs_of : List Turn → List Input
+inputs_of ts = flat_map inputs_in ts
+
+-- what the board answered in them
+abbrev pub answers_of : List Turn → List Label
+answers_of ts = flat_map (λ t. t.answers) ts
+
+-- by the words of the program, the last moment that was told, and what the board answered in the turn
+module _ (words : Words) (last : Option ℕ) (answers : List Label) where
+  -- with memory, a command adds these labels behind those before it, and owes the reply
   abbrev pub Answers : List Label → Result Command CommandFault → List Label → Reply → Type 0
   Answers before (Err f) labels reply = (labels ≡ []) × (reply ≡ fault_reply f)
-  Answers before (Ok (Do o)) labels reply = Outcomes (world_at before) o (refusal (world_at before) (label_of (world_at before) o)) labels reply
+  Answers before (Ok (Do o)) labels reply = Behind (λ b ls. Outcomes (world_at b) o (refusal (world_at b) (label_of (world_at b) o)) ls reply) last before labels
   Answers before (Ok (Ask q)) labels reply = (labels ≡ []) × (reply ≡ query_reply (answer before (world_at before) q))
-  Answers before (Ok (Settle limit)) labels reply = Settled before (unwrap_or limit words.steps) labels reply
+  Answers before (Ok (Settle limit)) labels reply = Settled before (unwrap_or limit words.steps) answers labels reply
   Answers before (Ok Quit) labels reply = (labels ≡ []) × (reply ≡ Bye)
 
-  -- what a command adds that finds no memory: a settling keeps the steps that it took, and `quit` needs none
-  abbrev pub Lacks : Result Command CommandFault → List Label → Type 0
-  Lacks (Ok (Settle limit)) labels = AreSteps labels (unwrap_or limit words.steps)
-  Lacks (Ok Quit) labels = ⊥
-  Lacks c labels = labels ≡ []
+  -- what a command adds that finds no memory: a settling keeps the labels that it added, and `quit` needs none
+  abbrev pub Lacks : List Label → Result Command CommandFault → List Label → Type 0
+  Lacks before (Ok (Do o)) labels = MayBehind (λ b ls. ls ≡ []) last before labels
+  Lacks before (Ok (Settle limit)) labels = AreSettling labels (unwrap_or limit words.steps) answers
+  Lacks before (Ok Quit) labels = ⊥
+  Lacks before c labels = labels ≡ []
 
-  abbrev pub LineTurn : List Label → Result Command CommandFault → List Label → Reply → Type 0
-  LineTurn before command labels reply = Answers before command labels reply ⊎ ((reply ≡ Memory) × Lacks command labels)
+  abbrev pub CommandTurn : List Label → Result Command CommandFault → List Label → Reply → Type 0
+  CommandTurn before command labels reply = Answers before command labels reply ⊎ ((reply ≡ Memory) × Lacks before command labels)
 
-  abbrev pub AskTurn : Bool → List Label → List ℕ → List Label → Reply → Type 0
-  AskTurn true before line labels reply = LongTurn labels reply
-  AskTurn false before line labels reply = LineTurn before (command_of line) labels reply
+  -- the same of what was read, if it was not too long
+  abbrev pub AskTurn : List Label → Option (Result Command CommandFault) → List Label → Reply → Type 0
+  AskTurn before None labels reply = LongTurn labels reply
+  AskTurn before (Some command) labels reply = CommandTurn before command labels reply
 
-  -- the input may add these labels and be answered so, where those came before
-  abbrev pub IsAnswered : List Label → Input → List Label → Option Reply → Type 0
-  IsAnswered before (Asks conn line) labels (Some reply) = AskTurn (is_long line) before line labels reply
-  IsAnswered before (Asks conn line) labels None = ⊥
-  IsAnswered before (TooLongInput conn) labels (Some reply) = LongTurn labels reply
-  IsAnswered before (TooLongInput conn) labels None = ⊥
-  IsAnswered before Closed labels reply = (labels ≡ []) × (reply ≡ None)
+-- in a mode
+module _ (mode : Dialect) where
+  -- these inputs belong to the turn before
+  abbrev pub AreMore : List Input → Type 0
+  AreMore is = AllByRecursion (λ i. mode.belongs i ≡ true) is
 
-  -- each turn is one that the labels before it allow, and none comes after one that ends
-  abbrev pub AreTurns : List Label → List Turn → Type 0
-  AreTurns before [] = Unit {0}
-  AreTurns before (t ∷ ts) = IsAnswered before t.input t.labels t.reply × IsLast (ends t.input) ts × AreTurns (before ++ t.labels) ts
+  abbrev pub told_by : Option ℕ → Option ℕ → Option ℕ
+  told_by last None = last
+  told_by last (Some t) = Some t
+
+  -- the last moment told behind these inputs, where this was the last before them
+  abbrev pub last_told : Option ℕ → List Input → Option ℕ
+  last_told last [] = last
+  last_told last (i ∷ is) = last_told (told_by last (mode.tells i)) is
+
+  module _ (words : Words) where
+    -- where those labels came before, the last moment told is this and the board answers so, an input may add these labels and be
+    -- replied to so
+    abbrev pub IsAnswered : Option ℕ → List Label → List Label → Input → List Label → Option Reply → Type 0
+    IsAnswered last answers before (Asks conn bytes) labels (Some reply) = AskTurn words last answers before (mode.reads bytes) labels reply
+    IsAnswered last answers before (Asks conn bytes) labels None = ⊥
+    IsAnswered last answers before (TooLongInput conn) labels (Some reply) = LongTurn labels reply
+    IsAnswered last answers before (TooLongInput conn) labels None = ⊥
+    IsAnswered last answers before Closed labels reply = (labels ≡ []) × (reply ≡ None)
+
+    -- each turn is one that the labels and the moment before it allow, and none comes after one that ends
+    abbrev pub AreTurns : Option ℕ → List Label → List Turn → Type 0
+    AreTurns last before [] = Unit {0}
+    AreTurns last before (t ∷ ts) =
+        IsAnswered last t.answers before t.first t.labels t.reply × AreMore t.more × IsLast (mode.ends t.first) ts
+        × AreTurns (last_told last (inputs_in t)) (before ++ t.labels) ts

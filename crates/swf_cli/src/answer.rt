@@ -1,5 +1,5 @@
 // What a line is answered, and what it adds to the journal.
-ghost use Rattle.std.specs.Prelude.{◌≡◌, ◌≤◌, Ok, IfOk, is_some};
+ghost use Rattle.std.specs.Prelude.{◌≡◌, ◌≤◌, [], None, Ok, IfOk, is_some};
 ghost use Rattle.swf_engine.specs.Causes.{EngineCause, WhereUsable};
 ghost use Rattle.swf_engine.specs.Core.{IsEngineOf};
 ghost use Rattle.swf_protocol.specs.Line.{command_of, is_quit};
@@ -7,6 +7,7 @@ ghost use Rattle.swf_protocol.specs.Sayable.{IsSayable, IsModest};
 ghost use Rattle.swf_cli.specs.Steps.{LineDone, reply_of, or_memory, queried, IsBreak};
 ghost use Rattle.swf_cli.specs.Sorts.{sort_of, accepted_as};
 ghost use Rattle.swf_cli.specs.Turns.{refused, settle_reply, fault_reply};
+ghost use Rattle.swf_cli.specs.StoreCalls.{CommandCalls};
 ghost use Rattle.swf_cli.specs.declared.words.Words.{Words as Meaning};
 
 use crate::words::Words;
@@ -95,7 +96,8 @@ fn submit<S: Store>(
     requires place { IsEngineOf (S.seen store.old) engine.old }
     requires modest { IsModest (Command.Do outcome) }
     ensures place { WhereUsable result (IsEngineOf (S.seen store.new) engine.new) }
-    ensures done { (words : Meaning) → LineDone words S.moment S.left_since S.said S.may_leave S.seen (Ok (Command.Do outcome)) store.old store.new engine.old engine.new result }
+    ensures done { (words : Meaning) → LineDone words None [] S.moment S.left_since S.said S.may_leave S.seen (Ok (Command.Do outcome)) store.old store.new engine.old engine.new result }
+    ensures calls { (words : Meaning) → CommandCalls words S.moment S.left_since S.said S.may_leave S.seen S.calls (Ok (Command.Do outcome)) store.old store.new engine.old engine.new }
     ensures which { IsBreak result }
     ensures sayable { IfOk result IsSayable }
     ensures said { S.said store.new ≡ S.said store.old }
@@ -133,7 +135,8 @@ fn settle<S: Store>(
     requires modest { IsModest (Command.Settle limit) }
     requires words { words.now.steps ≤ 1000000 }
     ensures place { WhereUsable result (IsEngineOf (S.seen store.new) engine.new) }
-    ensures done { LineDone words.now S.moment S.left_since S.said S.may_leave S.seen (Ok (Command.Settle limit)) store.old store.new engine.old engine.new result }
+    ensures done { LineDone words.now None [] S.moment S.left_since S.said S.may_leave S.seen (Ok (Command.Settle limit)) store.old store.new engine.old engine.new result }
+    ensures calls { CommandCalls words.now S.moment S.left_since S.said S.may_leave S.seen S.calls (Ok (Command.Settle limit)) store.old store.new engine.old engine.new }
     ensures which { IsBreak result }
     ensures sayable { IfOk result IsSayable }
     ensures said { S.said store.new ≡ S.said store.old }
@@ -166,7 +169,8 @@ pub fn queried(answer: Result<Answer, QueryFault>) -> Reply
 fn ask<S: Store>(store: &mut S, engine: &mut Engine, query: &Query) -> Result<Reply, EngineFault>
     requires place { IsEngineOf (S.seen store.old) engine.old }
     ensures place { WhereUsable result (IsEngineOf (S.seen store.new) engine.new) }
-    ensures done { (words : Meaning) → LineDone words S.moment S.left_since S.said S.may_leave S.seen (Ok (Command.Ask query.now)) store.old store.new engine.old engine.new result }
+    ensures done { (words : Meaning) → LineDone words None [] S.moment S.left_since S.said S.may_leave S.seen (Ok (Command.Ask query.now)) store.old store.new engine.old engine.new result }
+    ensures calls { (words : Meaning) → CommandCalls words S.moment S.left_since S.said S.may_leave S.seen S.calls (Ok (Command.Ask query.now)) store.old store.new engine.old engine.new }
     ensures which { IsBreak result }
     ensures sayable { IfOk result IsSayable }
     ensures said { S.said store.new ≡ S.said store.old }
@@ -191,7 +195,8 @@ fn obey<S: Store>(
     requires modest { IsModest command }
     requires words { words.now.steps ≤ 1000000 }
     ensures place { WhereUsable result (IsEngineOf (S.seen store.new) engine.new) }
-    ensures done { LineDone words.now S.moment S.left_since S.said S.may_leave S.seen (Ok command) store.old store.new engine.old engine.new result }
+    ensures done { LineDone words.now None [] S.moment S.left_since S.said S.may_leave S.seen (Ok command) store.old store.new engine.old engine.new result }
+    ensures calls { CommandCalls words.now S.moment S.left_since S.said S.may_leave S.seen S.calls (Ok command) store.old store.new engine.old engine.new }
     ensures which { IsBreak result }
     ensures sayable { IfOk result IsSayable }
     ensures said { S.said store.new ≡ S.said store.old }
@@ -236,7 +241,8 @@ pub fn answer_line<S: Store>(
     requires place { IsEngineOf (S.seen store.old) engine.old }
     requires words { words.now.steps ≤ 1000000 }
     ensures place { WhereUsable result (IsEngineOf (S.seen store.new) engine.new) }
-    ensures done { LineDone words.now S.moment S.left_since S.said S.may_leave S.seen (command_of line.now) store.old store.new engine.old engine.new (reply_of result) }
+    ensures done { LineDone words.now None [] S.moment S.left_since S.said S.may_leave S.seen (command_of line.now) store.old store.new engine.old engine.new (reply_of result) }
+    ensures calls { CommandCalls words.now S.moment S.left_since S.said S.may_leave S.seen S.calls (command_of line.now) store.old store.new engine.old engine.new }
     ensures ends { IfOk result (λ answered. answered.ends ≡ is_quit (command_of line.now)) }
     ensures which { IsBreak result }
     ensures sayable { IfOk result (λ answered. IsSayable answered.reply) }

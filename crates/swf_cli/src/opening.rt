@@ -12,6 +12,7 @@ pub fn not_opened<H: Host>(alloc: Global, host: &mut H, fault: EngineFault) -> u
     requires { (size : ℕ) → fault ≡ EngineFault.Full size → ⊥ }
     ensures tells { Tells H.moment H.left_since H.said H.may_leave H.seen H.taken fault host.old host.new result }
     ensures taken { H.taken host.new ≡ H.taken host.old }
+    ensures calls { H.calls host.new ≡ H.calls host.old }
     ensures closes { ClosesWith fault result (H.host_faults host.old) (H.host_faults host.new) (H.store_faults host.old) (H.store_faults host.new) }
 {
     match fault {

@@ -3,6 +3,7 @@ ghost use Rattle.std.specs.Prelude.{◌≡◌, ◌↔◌, Some, None};
 ghost use Rattle.swf_check.specs.Checking.{CheckRun};
 ghost use Rattle.swf_cli.specs.Running.{RunsIn};
 ghost use Rattle.swf_cli.specs.Statuses.{IsStatus, IsBlamed};
+ghost use Rattle.swf_cli.specs.StoreCalls.{SessionCalls};
 ghost use Rattle.swf_cli.specs.Words.{texts, words_of};
 ghost use Rattle.swf_cli.specs.declared.words.Words.{Words as Meaning};
 
@@ -40,6 +41,8 @@ pub fn swf_run<H: Host>(alloc: Global, words: &[String], host: &mut H) -> u8
     ensures statuses { (meaning : Meaning) → words_of (texts words.now) ≡ Some meaning → IsStatus meaning.mode result }
     // To check a document no call of the store is made.
     ensures no_call { (meaning : Meaning) → words_of (texts words.now) ≡ Some meaning → meaning.mode ≡ Mode.Check → (H.calls host.new ≡ H.calls host.old) × (H.seen host.new ≡ H.seen host.old) }
+    // A session opens its store once, and in each turn makes the calls of the one call of the engine that its input asks for.
+    ensures calls { (meaning : Meaning) → words_of (texts words.now) ≡ Some meaning → meaning.mode ≡ Mode.Session → SessionCalls meaning H.moment H.left_since H.said H.may_leave H.seen H.calls H.taken host.old host.new }
     // 3 comes where a call of the store failed and 4 where one of the host did, at the first such call; else none did.
     ensures blamed { IsBlamed result (H.host_faults host.old) (H.host_faults host.new) (H.store_faults host.old) (H.store_faults host.new) }
 {

@@ -1,11 +1,13 @@
 // The session: an engine is opened, and then one turn comes after another.
-ghost use Rattle.std.specs.Prelude.{◌≡◌, ◌≢◌, ◌≤◌, ℕ};
+ghost use Rattle.std.specs.Prelude.{◌≡◌, ◌≢◌, ◌≤◌, ℕ, []};
 ghost use Rattle.std.specs.Option.{ForSome};
 ghost use Rattle.swf_engine.specs.Core.{IsEngineOf};
+ghost use Rattle.swf_cli.specs.Dialect.{session};
 ghost use Rattle.swf_cli.specs.Finish.{RunsOn};
 ghost use Rattle.swf_cli.specs.Heard.{TurnsTell};
 ghost use Rattle.swf_cli.specs.Running.{SessionRun};
 ghost use Rattle.swf_cli.specs.Statuses.{IsStatus, IsBlamed};
+ghost use Rattle.swf_cli.specs.StoreCalls.{SessionCalls, TurnsCalls};
 ghost use Rattle.swf_cli.specs.Steps.{IsSound};
 
 use crate::opening::not_opened;
@@ -19,8 +21,9 @@ use swf_host::Host;
 fn take_turns<H: Host>(alloc: Global, words: &Words, host: &mut H, engine: &mut Engine) -> u8
     requires place { IsEngineOf (H.seen host.old) engine.old }
     requires words { words.now.steps ≤ 1000000 }
-    ensures ran { RunsOn words.now H.moment H.left_since H.said H.may_leave H.seen H.taken host.old host.new engine.old result }
-    ensures tells { ForSome (H.taken host.old) (λ first. ForSome (H.said host.old) (λ pieces. TurnsTell H.moment H.left_since H.said H.may_leave H.seen H.taken host.new first pieces result)) }
+    ensures ran { RunsOn session words.now H.moment H.left_since H.said H.may_leave H.seen H.taken host.old host.new engine.old [] result }
+    ensures tells { ForSome (H.taken host.old) (λ first. ForSome (H.said host.old) (λ pieces. TurnsTell session H.said H.taken host.new first pieces result)) }
+    ensures calls { (turns : ℕ) × TurnsCalls words.now H.moment H.left_since H.said H.may_leave H.seen H.calls H.taken turns host.old host.new engine.old engine.new }
     ensures sound { IsSound H.moment H.left_since H.said H.may_leave H.seen host.old engine.old → result ≢ 5 }
     ensures blamed { IsBlamed result (H.host_faults host.old) (H.host_faults host.new) (H.store_faults host.old) (H.store_faults host.new) }
     ensures which { IsStatus Mode.Session result }
@@ -39,6 +42,7 @@ fn take_turns<H: Host>(alloc: Global, words: &Words, host: &mut H, engine: &mut 
 pub fn run_session<H: Host>(alloc: Global, words: &Words, host: &mut H) -> u8
     requires { words.now.steps ≤ 1000000 }
     ensures runs { SessionRun H.moment H.left_since H.said H.may_leave H.seen H.taken words.now host.old host.new result }
+    ensures calls { SessionCalls words.now H.moment H.left_since H.said H.may_leave H.seen H.calls H.taken host.old host.new }
     ensures blamed { IsBlamed result (H.host_faults host.old) (H.host_faults host.new) (H.store_faults host.old) (H.store_faults host.new) }
     ensures which { IsStatus Mode.Session result }
 {

@@ -1,5 +1,5 @@
 // One turn of a session: an input is taken, answered, and its reply is said.
-ghost use Rattle.std.specs.Prelude.{◌≡◌, ◌⊎◌, ◌≤◌, ℕ, Some, Ok, Err, IfOk, List, true, false, is_some, length, if◌then◌else◌};
+ghost use Rattle.std.specs.Prelude.{◌≡◌, ◌⊎◌, ◌≤◌, ℕ, [], Some, None, Ok, Err, IfOk, List, true, false, is_some, length, if◌then◌else◌};
 ghost use Rattle.std.specs.Option.{ForSome};
 ghost use Rattle.swf_meaning.specs.declared.label.Label.{Label};
 ghost use Rattle.swf_engine.specs.Causes.{EngineCause, WhereUsable};
@@ -7,9 +7,11 @@ ghost use Rattle.swf_engine.specs.Core.{IsEngineOf, StandFor};
 ghost use Rattle.swf_protocol.specs.Line.{command_of, is_quit};
 ghost use Rattle.swf_protocol.specs.Sayable.{IsSayable};
 ghost use Rattle.swf_protocol.specs.Spoken.{spoken, damaged_bytes, full_bytes};
+ghost use Rattle.swf_cli.specs.Heard.{TurnTells};
 ghost use Rattle.swf_cli.specs.Statuses.{IsBlamed};
-ghost use Rattle.swf_cli.specs.Steps.{AskDone, IsBreak, IsSound, IsStop, Says, StaysSound, TurnDone, TurnTells, reply_of, follows_end, status_of};
-ghost use Rattle.swf_cli.specs.Turns.{is_long};
+ghost use Rattle.swf_cli.specs.Steps.{AskDone, IsBreak, IsSound, IsStop, Says, StaysSound, TurnDone, reply_of, follows_end, status_of};
+ghost use Rattle.swf_cli.specs.StoreCalls.{ReadCalls, TurnCalls};
+ghost use Rattle.swf_cli.specs.Dialect.{is_long, line_read, session};
 
 use crate::answer::{Answered, answer_line};
 use crate::words::Words;
@@ -54,7 +56,8 @@ fn answer_ask<H: Host>(
     requires place { IsEngineOf (H.seen host.old) engine.old }
     requires words { words.now.steps ≤ 1000000 }
     ensures place { WhereUsable result (IsEngineOf (H.seen host.new) engine.new) }
-    ensures done { AskDone words.now H.moment H.left_since H.said H.may_leave H.seen line.now host.old host.new engine.old engine.new (reply_of result) }
+    ensures done { AskDone words.now None [] H.moment H.left_since H.said H.may_leave H.seen (line_read line.now) host.old host.new engine.old engine.new (reply_of result) }
+    ensures calls { ReadCalls words.now H.moment H.left_since H.said H.may_leave H.seen H.calls (line_read line.now) host.old host.new engine.old engine.new }
     ensures ends { IfOk result (λ answered. answered.ends ≡ (if is_long line.now then false else is_quit (command_of line.now))) }
     ensures which { IsBreak result }
     ensures sayable { IfOk result (λ answered. IsSayable answered.reply) }
@@ -86,6 +89,7 @@ fn line_of(alloc: Global, reply: Reply) -> Result<Vec<u8>, AllocError>
 // Says the line of a reply, behind which the input may end.
 fn say_line<H: Host>(host: &mut H, conn: u64, line: &[u8], ends: bool) -> After
     ensures says { Says H.moment H.left_since H.said H.may_leave H.seen H.taken host.old host.new conn line.now (follows_end ends) result }
+    ensures calls { H.calls host.new ≡ H.calls host.old }
     ensures stops { IsStop result }
     ensures blamed { IsBlamed (status_of result) (H.host_faults host.old) (H.host_faults host.new) (H.store_faults host.old) (H.store_faults host.new) }
 {
@@ -99,6 +103,7 @@ fn say_line<H: Host>(host: &mut H, conn: u64, line: &[u8], ends: bool) -> After
 pub fn say<H: Host>(alloc: Global, host: &mut H, conn: u64, answered: Answered) -> After
     requires { IsSayable answered.reply }
     ensures says { Says H.moment H.left_since H.said H.may_leave H.seen H.taken host.old host.new conn (spoken answered.reply) (follows_end answered.ends) result }
+    ensures calls { H.calls host.new ≡ H.calls host.old }
     ensures stops { IsStop result }
     ensures blamed { IsBlamed (status_of result) (H.host_faults host.old) (H.host_faults host.new) (H.store_faults host.old) (H.store_faults host.new) }
 {
@@ -112,6 +117,7 @@ pub fn say<H: Host>(alloc: Global, host: &mut H, conn: u64, answered: Answered) 
 // Says to the connection that asked that the journal is full.
 fn say_full<H: Host>(alloc: Global, host: &mut H, conn: u64, size: u64) -> After
     ensures says { Says H.moment H.left_since H.said H.may_leave H.seen H.taken host.old host.new conn (full_bytes size) (After.Stops 7) result }
+    ensures calls { H.calls host.new ≡ H.calls host.old }
     ensures stops { IsStop result }
     ensures blamed { IsBlamed (status_of result) (H.host_faults host.old) (H.host_faults host.new) (H.store_faults host.old) (H.store_faults host.new) }
 {
@@ -124,6 +130,7 @@ fn say_full<H: Host>(alloc: Global, host: &mut H, conn: u64, size: u64) -> After
 // Says a line behind which the program stops, since the journal is full.
 fn say_last<H: Host>(host: &mut H, conn: u64, line: &[u8]) -> After
     ensures says { Says H.moment H.left_since H.said H.may_leave H.seen H.taken host.old host.new conn line.now (After.Stops 7) result }
+    ensures calls { H.calls host.new ≡ H.calls host.old }
     ensures stops { IsStop result }
     ensures blamed { IsBlamed (status_of result) (H.host_faults host.old) (H.host_faults host.new) (H.store_faults host.old) (H.store_faults host.new) }
 {
@@ -136,6 +143,7 @@ fn say_last<H: Host>(host: &mut H, conn: u64, line: &[u8]) -> After
 // Says a line behind which the program stops, since the journal is damaged, and answers the status.
 fn say_damaged<H: Host>(host: &mut H, conn: u64, line: &[u8]) -> u8
     ensures says { Says H.moment H.left_since H.said H.may_leave H.seen H.taken host.old host.new conn line.now (After.Stops 5) (After.Stops result) }
+    ensures calls { H.calls host.new ≡ H.calls host.old }
     ensures taken { H.taken host.new ≡ H.taken host.old }
     ensures blamed { IsBlamed result (H.host_faults host.old) (H.host_faults host.new) (H.store_faults host.old) (H.store_faults host.new) }
     ensures which { (result ≡ 5) ⊎ (result ≡ 6) ⊎ (result ≡ 4) }
@@ -149,6 +157,7 @@ fn say_damaged<H: Host>(host: &mut H, conn: u64, line: &[u8]) -> u8
 /// Says to a connection where the journal is damaged, and answers the status.
 pub fn say_damage<H: Host>(alloc: Global, host: &mut H, conn: u64, at: u64) -> u8
     ensures says { Says H.moment H.left_since H.said H.may_leave H.seen H.taken host.old host.new conn (damaged_bytes at) (After.Stops 5) (After.Stops result) }
+    ensures calls { H.calls host.new ≡ H.calls host.old }
     ensures taken { H.taken host.new ≡ H.taken host.old }
     ensures blamed { IsBlamed result (H.host_faults host.old) (H.host_faults host.new) (H.store_faults host.old) (H.store_faults host.new) }
     ensures which { (result ≡ 5) ⊎ (result ≡ 6) ⊎ (result ≡ 4) }
@@ -166,9 +175,11 @@ pub fn take_turn<H: Host>(alloc: Global, words: &Words, host: &mut H, engine: &m
     ensures place { result ≡ After.GoesOn → IsEngineOf (H.seen host.new) engine.new }
     ensures turn { ForSome (H.seen host.old) (λ image. ForSome (H.taken host.old) (λ inputs. ForSome (H.said host.old) (λ pieces.
         (history : List Label) → StandFor image (H.may_leave host.old) engine.old history
-        → TurnDone words.now H.moment H.left_since H.said H.may_leave H.seen H.taken host.old host.new engine.new history inputs pieces result))) }
+        → TurnDone session words.now None [] H.moment H.left_since H.said H.may_leave H.seen H.taken host.old host.new engine.new history inputs pieces result))) }
     // Whatever the store tells, each turn says its reply, and damage is told to who asked and ends with 5.
-    ensures tells { ForSome (H.taken host.old) (λ inputs. ForSome (H.said host.old) (λ pieces. TurnTells H.moment H.left_since H.said H.may_leave H.seen H.taken host.new inputs pieces result)) }
+    ensures tells { ForSome (H.taken host.old) (λ inputs. ForSome (H.said host.old) (λ pieces. TurnTells session H.said H.taken host.new inputs pieces result)) }
+    // Its calls of the store are those of the one call of the engine that the input asks for.
+    ensures calls { TurnCalls words.now H.moment H.left_since H.said H.may_leave H.seen H.calls H.taken host.old host.new engine.old engine.new }
     // Where engine and store stand for a history no damage is found, and they stand for one after it.
     ensures sound { IsSound H.moment H.left_since H.said H.may_leave H.seen host.old engine.old → StaysSound H.moment H.left_since H.said H.may_leave H.seen host.new engine.new result }
     ensures which { IsStop result }

@@ -52,20 +52,20 @@ split (f ∷ front) more labels h =
       of_more = s.of_more;
     }
 
--- frames that stand in front of an open gate are the first of those that stand in front of a shut one
+-- frames that stand in front of some bytes are the first of those that stand in front of a shut gate
 pub record Further (fs h : List (List ℕ)) (behind : List ℕ) (x : ℕ) (r : List ℕ) : Type 0 where
   pub more : List (List ℕ)
   pub joined : h ≡ fs ++ more
   pub behind_is : behind ≡ frames_bytes more ++ x ∷ r
   pub fit : AllByRecursion Fits more
 
-pub further : (fs h : List (List ℕ)) (behind rest : List ℕ) (x : ℕ) (r : List ℕ) → AllByRecursion Fits fs → AllByRecursion Fits h → x ≢ open_gate → behind ≡ open_gate ∷ rest
+pub further : (fs h : List (List ℕ)) (behind : List ℕ) (x : ℕ) (r : List ℕ) → AllByRecursion Fits fs → AllByRecursion Fits h → x ≢ open_gate
     → frames_bytes fs ++ behind ≡ frames_bytes h ++ x ∷ r → Further fs h behind x r
-further [] h behind rest x r fit fit' shut opens is = record { more = h; joined = refl; behind_is = is; fit = fit' }
-further (f ∷ fs) [] behind rest x r fit fit' shut opens is = let e : x ≡ open_gate = cc in absurd (shut e)
-further (f ∷ fs) (b ∷ h) behind rest x r fit fit' shut opens is =
+further [] h behind x r fit fit' shut is = record { more = h; joined = refl; behind_is = is; fit = fit' }
+further (f ∷ fs) [] behind x r fit fit' shut is = let e : x ≡ open_gate = cc in absurd (shut e)
+further (f ∷ fs) (b ∷ h) behind x r fit fit' shut is =
     let both = first_is f b (frames_bytes fs ++ behind) (frames_bytes h ++ x ∷ r) fit.0 fit'.0 (peeled f fs b h behind (x ∷ r) is) in
-    let go = further fs h behind rest x r fit.1 fit'.1 shut opens both.rest in
+    let go = further fs h behind x r fit.1 fit'.1 shut both.rest in
     record {
       more = go.more;
       joined = ap (λ (l : List ℕ). l ∷ h) (sym both.same) ∙ ap (λ (l : List (List ℕ)). f ∷ l) go.joined;
@@ -85,15 +85,11 @@ first_frame (m ∷ ms) behind body after x r fit shut frame is =
     let both = first_is body m after (frames_bytes ms ++ x ∷ r) frame.fits fit.0 (inner ∙ nested lm m (frames_bytes ms) (x ∷ r)) in
     (ms, ap (λ (l : List ℕ). l ∷ ms) (sym both.same))
 
-opens_with : (w : World) (gate at : ℕ) (behind : List ℕ) → IsBadFrame w gate behind at → (rest : List ℕ) × (behind ≡ open_gate ∷ rest)
-opens_with w gate at behind (inl cut) = (cut.0.rest, cut.0.opened)
-opens_with w gate at behind (inr frame) = (_, frame.2.bytes)
-
 -- a run that meets a label whose condition does not hold is none
 stuck : (w middle : World) (first more : List Label) (l : Label) → run_from w first ≡ Some middle → after middle l ≡ None → run_from w (first ++ l ∷ more) ≡ None
 stuck w middle first more l legal refused = run_joined w middle first (l ∷ more) legal ∙ ap (λ (o : Option World). option_and_then (λ m. run_from m more) o) refused
 
-bad_body : (w : World) (gate at : ℕ) (body : List ℕ) (labels rest : List Label) → Encodes labels body → is_some (run_from w (labels ++ rest)) ≡ true → IsBadBody w gate body at → ⊥
+pub bad_body : (w : World) (gate at : ℕ) (body : List ℕ) (labels rest : List Label) → Encodes labels body → is_some (run_from w (labels ++ rest)) ≡ true → IsBadBody w gate body at → ⊥
 bad_body w gate at body labels rest e legal (inl bad) = let d = encodes_decoded labels body e in let b = bad.spells_none in absurd (cc)
 bad_body w gate at body labels rest e legal (inr bad) =
     let d = encodes_decoded labels body e in
@@ -107,30 +103,30 @@ bad_body w gate at body labels rest e legal (inr bad) =
 pub header_first : (journal rest : List ℕ) → journal ≡ header ++ rest → take 16 journal ≡ header
 header_first journal rest is = ap (λ (l : List ℕ). take 16 l) is ∙ take_at header rest 16 length-header
 
-bad_frame : (image : Image) (history : List Label) (at : ℕ) (h : IsHistory image history) (shut : IsShutAfter header image.journal h.bodies) (d : IsFrameDamage image.journal at)
+bad_frame : (image : Image) (history : List Label) (at : ℕ) (h : IsHistory image history) (shut : IsShutAfter header image.journal h.bodies) (d : IsFrameDamage image.journal header empty at)
     → IsBadFrame d.world (next_gate header d.bodies) d.behind at → ⊥
 bad_frame image history at h shut d (inl cut) =
     let place : Place = record { file = Journal; gate = next_gate header d.bodies; size = 0; limit = 0; ended = false } in
     let read : HasRead image.journal place header d.bodies = record {
       gate = open_gate;
       rest = cut.0.rest;
-      laid = d.front.laid ∙ ap (λ (l : List ℕ). header ++ (frames_bytes d.bodies ++ l)) cut.0.opened;
-      fit = d.front.fit;
+      laid = d.ahead.laid ∙ ap (λ (l : List ℕ). header ++ (frames_bytes d.bodies ++ l)) cut.0.opened;
+      fit = d.ahead.fit;
       here = refl;
       ended = λ e. absurd (cc);
     } in
     let there : drop place.gate image.journal ≡ d.behind = behind_is image.journal place header d.bodies read ∙ sym cut.0.opened in
     no_damage image.journal place header d.bodies h.bodies read shut (subst IsDamage (sym there) cut.0)
 bad_frame image history at h shut d (inr frame) =
-    let go = further d.bodies h.bodies d.behind _ shut.gate shut.rest d.front.fit shut.fit shut.shut frame.2.bytes (append_cancel_left header _ _ (sym d.front.laid ∙ shut.laid)) in
+    let go = further d.bodies h.bodies d.behind shut.gate shut.rest d.ahead.fit shut.fit shut.shut (append_cancel_left header _ _ (sym d.ahead.laid ∙ shut.laid)) in
     let here = first_frame go.more d.behind frame.0 frame.1 shut.gate shut.rest go.fit shut.shut frame.2 go.behind_is in
     let holds : HoldLabels (d.bodies ++ frame.0 ∷ here.0) history = subst (λ (l : List (List ℕ)). HoldLabels l history) (go.joined ∙ ap (λ (l : List (List ℕ)). d.bodies ++ l) here.1) h.holds in
     let s = split d.bodies (frame.0 ∷ here.0) history holds in
-    let same : s.first ≡ d.front.history = holds_one d.bodies s.first d.front.history s.of_front d.front.holds in
+    let same : s.first ≡ d.ahead.labels = holds_one d.bodies s.first d.ahead.labels s.of_front d.ahead.holds in
     let labels = s.of_more.0 in
     let rest = s.of_more.1 in
-    let all : history ≡ d.front.history ++ (labels ++ rest) = s.joined ∙ ap (λ (l : List Label). l ++ s.rest) same ∙ ap (λ (l : List Label). d.front.history ++ l) s.of_more.2 in
-    let runs : run history ≡ run_from d.world (labels ++ rest) = ap run all ∙ run_joined empty d.world d.front.history (labels ++ rest) d.front.run in
+    let all : history ≡ d.ahead.labels ++ (labels ++ rest) = s.joined ∙ ap (λ (l : List Label). l ++ s.rest) same ∙ ap (λ (l : List Label). d.ahead.labels ++ l) s.of_more.2 in
+    let runs : run history ≡ run_from d.world (labels ++ rest) = ap run all ∙ run_joined empty d.world d.ahead.labels (labels ++ rest) d.ahead.run in
     let legal : is_some (run_from d.world (labels ++ rest)) ≡ true = ap is_some (sym runs) ∙ h.legal in
     bad_body d.world (next_gate header d.bodies) at frame.0 labels rest s.of_more.3 legal frame.3
 

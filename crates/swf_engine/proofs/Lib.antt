@@ -4,5 +4,7 @@ pub mod AddLemmas
 pub mod OpenLemmas
 pub mod RetellLemmas
 pub mod LawLemmas
+pub mod EngineCallLemmas
+pub mod FrontLemmas
 pub mod StepLemmas
 pub mod ReplayLemmas

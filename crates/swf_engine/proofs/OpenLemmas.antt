@@ -38,29 +38,29 @@ use Rattle.swf_engine.proofs.HistoryLemmas.{holds_push}
 use Rattle.swf_engine.proofs.MoveLemmas.{run_joined}
 
 -- what the reading found, of the journal
-pub of_journal : (image : Image) (file : File) (new : Place) (bodies : List (List ℕ)) (o p : Option (Vec ℕ Global)) → file ≡ Journal → o ≡ p
-    → MatchOption o (HasRead (bytes_of image file) new header bodies × IsShutAfter header (bytes_of image file) bodies) (λ body. HasRead (bytes_of image file) new header (bodies ++ body.items ∷ []))
-    → MatchOption p (HasRead image.journal new header bodies × IsShutAfter header image.journal bodies) (λ body. HasRead image.journal new header (bodies ++ body.items ∷ []))
-of_journal image file new bodies o p is same found =
-    subst (λ (f : File). MatchOption p (HasRead (bytes_of image f) new header bodies × IsShutAfter header (bytes_of image f) bodies) (λ body. HasRead (bytes_of image f) new header (bodies ++ body.items ∷ []))) is
-    (subst (λ (q : Option (Vec ℕ Global)). MatchOption q (HasRead (bytes_of image file) new header bodies × IsShutAfter header (bytes_of image file) bodies) (λ body. HasRead (bytes_of image file) new header (bodies ++ body.items ∷ []))) same found)
+pub of_journal : (image : Image) (file : File) (new : Place) (front : List ℕ) (bodies : List (List ℕ)) (o p : Option (Vec ℕ Global)) → file ≡ Journal → o ≡ p
+    → MatchOption o (HasRead (bytes_of image file) new front bodies × IsShutAfter front (bytes_of image file) bodies) (λ body. HasRead (bytes_of image file) new front (bodies ++ body.items ∷ []))
+    → MatchOption p (HasRead image.journal new front bodies × IsShutAfter front image.journal bodies) (λ body. HasRead image.journal new front (bodies ++ body.items ∷ []))
+of_journal image file new front bodies o p is same found =
+    subst (λ (f : File). MatchOption p (HasRead (bytes_of image f) new front bodies × IsShutAfter front (bytes_of image f) bodies) (λ body. HasRead (bytes_of image f) new front (bodies ++ body.items ∷ []))) is
+    (subst (λ (q : Option (Vec ℕ Global)). MatchOption q (HasRead (bytes_of image file) new front bodies × IsShutAfter front (bytes_of image file) bodies) (λ body. HasRead (bytes_of image file) new front (bodies ++ body.items ∷ []))) same found)
 
-pub in_file : (image : Image) (file : File) (place : Place) (bodies : List (List ℕ)) → file ≡ Journal → HasRead image.journal place header bodies → HasRead (bytes_of image file) place header bodies
-in_file image file place bodies is read = subst (λ (f : File). HasRead (bytes_of image f) place header bodies) (sym is) read
+pub in_file : (image : Image) (file : File) (place : Place) (front : List ℕ) (bodies : List (List ℕ)) → file ≡ Journal → HasRead image.journal place front bodies → HasRead (bytes_of image file) place front bodies
+in_file image file place front bodies is read = subst (λ (f : File). HasRead (bytes_of image f) place front bodies) (sym is) read
 
 -- no frame yet
-pub replayed_none : (journal : List ℕ) (place : Place) → HasRead journal place header [] → HasReplayed journal place empty
-replayed_none journal place read = record { bodies = []; history = []; read = read; holds = refl; run = refl }
+pub replayed_none : (journal front : List ℕ) (first : World) (place : Place) → HasRead journal place front [] → HasReplayed journal front first place first
+replayed_none journal front first place read = record { bodies = []; labels = []; read = read; holds = refl; run = refl }
 
 -- one frame more
-pub replayed_more : (journal : List ℕ) (old new : Place) (w m : World) (s : HasReplayed journal old w) (body : List ℕ) (labels : List Label)
-    → HasRead journal new header (s.bodies ++ body ∷ []) → Encodes labels body → run_from w labels ≡ Some m → HasReplayed journal new m
-replayed_more journal old new w m s body labels read encodes legal = record {
+pub replayed_more : (journal front : List ℕ) (first : World) (old new : Place) (w m : World) (s : HasReplayed journal front first old w) (body : List ℕ) (labels : List Label)
+    → HasRead journal new front (s.bodies ++ body ∷ []) → Encodes labels body → run_from w labels ≡ Some m → HasReplayed journal front first new m
+replayed_more journal front first old new w m s body labels read encodes legal = record {
   bodies = s.bodies ++ body ∷ [];
-  history = s.history ++ labels;
+  labels = s.labels ++ labels;
   read = read;
-  holds = holds_push s.bodies s.history body labels s.holds encodes;
-  run = run_joined empty w s.history labels s.run ∙ legal;
+  holds = holds_push s.bodies s.labels body labels s.holds encodes;
+  run = run_joined first w s.labels labels s.run ∙ legal;
 }
 
 -- the frames of an opened journal are those of the journal before
@@ -81,25 +81,26 @@ pub opened_history : (image left : Image) (history : List Label) → IsHistory i
 opened_history image left history h is = subst (λ (i : Image). IsHistory i history) (sym is) (keeps_history image (opened image) history h (keeps_begun image))
 
 -- the history of an image whose journal was read to its end
-pub history_read : (image : Image) (place : Place) (w : World) (s : HasReplayed (begun image.journal) place w) → IsShutAfter header (begun image.journal) s.bodies → IsHistory image s.history
-history_read image place w s shut = record { bodies = s.bodies; stands = was_standing image.journal s.bodies shut; holds = s.holds; legal = legal_run s.history w s.run }
+pub history_read : (image : Image) (place : Place) (w : World) (s : HasReplayed (begun image.journal) header empty place w) → IsShutAfter header (begun image.journal) s.bodies → IsHistory image s.labels
+history_read image place w s shut = record { bodies = s.bodies; stands = was_standing image.journal s.bodies shut; holds = s.holds; legal = legal_run s.labels w s.run }
 
 -- the engine stands for it
-pub engine_stands : (image : Image) (may_leave : Image → Type 0) (place : Place) (w : World) (s : HasReplayed (begun image.journal) place w) (gate : ℕ)
-    → IsReady (begun image.journal) gate header s.bodies → Only (opened image) may_leave → StandFor (opened image) may_leave (record { world = w; gate = gate }) s.history
+pub engine_stands : (image : Image) (may_leave : Image → Type 0) (place : Place) (w : World) (s : HasReplayed (begun image.journal) header empty place w) (gate : ℕ)
+    → IsReady (begun image.journal) gate header s.bodies → Only (opened image) may_leave → StandFor (opened image) may_leave (record { world = w; gate = gate }) s.labels
 engine_stands image may_leave place w s gate ready durable = record { bodies = s.bodies; settled = record { ready = ready; durable = durable }; holds = s.holds; run = s.run }
 
 -- a bad frame at the place of a reading is damage behind what was replayed
-pub damaged_there : (journal : List ℕ) (place : Place) (w : World) (s : HasReplayed journal place w) (at : ℕ) → IsBadFrame w place.gate (drop place.gate journal) at → IsFrameDamage journal at
-damaged_there journal place w s at bad =
-    let behind = behind_is journal place header s.bodies s.read in
+pub damaged_there : (journal front : List ℕ) (first : World) (place : Place) (w : World) (s : HasReplayed journal front first place w) (at : ℕ) → IsBadFrame w place.gate (drop place.gate journal) at
+    → IsFrameDamage journal front first at
+damaged_there journal front first place w s at bad =
+    let behind = behind_is journal place front s.bodies s.read in
     record {
       bodies = s.bodies;
       world = w;
       behind = drop place.gate journal;
-      front = record {
-        history = s.history;
-        laid = s.read.laid ∙ ap (λ (l : List ℕ). header ++ (frames_bytes s.bodies ++ l)) (sym behind);
+      ahead = record {
+        labels = s.labels;
+        laid = s.read.laid ∙ ap (λ (l : List ℕ). front ++ (frames_bytes s.bodies ++ l)) (sym behind);
         fit = s.read.fit;
         holds = s.holds;
         run = s.run;
@@ -117,12 +118,12 @@ behind_begun [] behind rest w gate at is bad = begun_shut behind rest w gate at 
 behind_begun (b ∷ bodies) behind rest w gate at is bad = let e : 0 ≡ open_gate = cc in absurd (cc)
 
 -- damage of an opened journal is damage of the journal before
-pub was_damaged : (image : Image) (at : ℕ) → IsFrameDamage (begun image.journal) at → IsDamaged image at
+pub was_damaged : (image : Image) (at : ℕ) → IsFrameDamage (begun image.journal) header empty at → IsDamaged image at
 was_damaged image at d = ⊎_elim
     (λ short.
-    let is : header ++ 0 ∷ [] ++ drop 17 image.journal ≡ header ++ (frames_bytes d.bodies ++ d.behind) = sym (begun_short image.journal short) ∙ d.front.laid in
+    let is : header ++ 0 ∷ [] ++ drop 17 image.journal ≡ header ++ (frames_bytes d.bodies ++ d.behind) = sym (begun_short image.journal short) ∙ d.ahead.laid in
     absurd (behind_begun d.bodies d.behind (drop 17 image.journal) d.world (next_gate header d.bodies) at (append_cancel_left header _ _ (sym (append_assoc header (0 ∷ []) (drop 17 image.journal)) ∙ is)) d.bad))
-    (λ long. inr (long, subst (λ (l : List ℕ). IsFrameDamage l at) (begun_long image.journal long) d))
+    (λ long. inr (long, subst (λ (l : List ℕ). IsFrameDamage l header empty at) (begun_long image.journal long) d))
     (cases_lt (length image.journal) 25)
 
 last_fits : (frames : List (List ℕ)) (body : List ℕ) → AllByRecursion Fits (frames ++ body ∷ []) → Fits body
@@ -139,57 +140,57 @@ frame_there bytes old new front frames body was now =
     record { bytes = behind_is bytes old front frames was ∙ is; gate = omega arith; fits = last_fits frames body now.fit }
 
 -- a body that was replayed
-pub read_more : (journal : List ℕ) (old new : Place) (w m : World) (s : HasReplayed journal old w) (body slice : List ℕ) → HasRead journal new header (s.bodies ++ body ∷ []) → slice ≡ body
-    → ((labels : List Label) × Encodes labels slice × (run_from w labels ≡ Some m)) → HasReplayed journal new m
-read_more journal old new w m s body slice read is found = replayed_more journal old new w m s body found.0 read (subst (λ (l : List ℕ). Encodes found.0 l) is found.1) found.2
+pub read_more : (journal front : List ℕ) (first : World) (old new : Place) (w m : World) (s : HasReplayed journal front first old w) (body slice : List ℕ) → HasRead journal new front (s.bodies ++ body ∷ []) → slice ≡ body
+    → ((labels : List Label) × Encodes labels slice × (run_from w labels ≡ Some m)) → HasReplayed journal front first new m
+read_more journal front first old new w m s body slice read is found = replayed_more journal front first old new w m s body found.0 read (subst (λ (l : List ℕ). Encodes found.0 l) is found.1) found.2
 
 -- a body that is bad
-pub read_bad : (journal : List ℕ) (old new : Place) (w m : World) (s : HasReplayed journal old w) (body slice : List ℕ) (gate : ℕ) (fault : EngineFault) → HasRead journal new header (s.bodies ++ body ∷ []) → slice ≡ body → gate ≡ old.gate
+pub read_bad : (journal front : List ℕ) (first : World) (old new : Place) (w m : World) (s : HasReplayed journal front first old w) (body slice : List ℕ) (gate : ℕ) (fault : EngineFault) → HasRead journal new front (s.bodies ++ body ∷ []) → slice ≡ body → gate ≡ old.gate
     → ((at : ℕ) → ◌≡◌ {A = Result (Unit {0}) EngineFault} (Err fault) (Err (Damaged at)) → IsBadBody w gate slice at)
     → ((size : ℕ) → ◌≡◌ {A = Result (Unit {0}) EngineFault} (Err fault) (Err (Full size)) → ⊥)
-    → Reads journal new m (Err fault)
-read_bad journal old new w m s body slice gate Store read is here bad full = tt
-read_bad journal old new w m s body slice gate (Damaged at) read is here bad full =
+    → Reads journal front first new m (Err fault)
+read_bad journal front first old new w m s body slice gate Store read is here bad full = tt
+read_bad journal front first old new w m s body slice gate (Damaged at) read is here bad full =
     let there : IsBadBody w old.gate body at = subst (λ n. IsBadBody w n body at) here (subst (λ (l : List ℕ). IsBadBody w gate l at) is (bad at refl)) in
-    damaged_there journal old w s at (inr (body, read.gate ∷ read.rest, frame_there journal old new header s.bodies body s.read read, there))
-read_bad journal old new w m s body slice gate (Full size) read is here bad full = full size refl
-read_bad journal old new w m s body slice gate OutOfMemory read is here bad full = tt
+    damaged_there journal front first old w s at (inr (body, read.gate ∷ read.rest, frame_there journal old new front s.bodies body s.read read, there))
+read_bad journal front first old new w m s body slice gate (Full size) read is here bad full = full size refl
+read_bad journal front first old new w m s body slice gate OutOfMemory read is here bad full = tt
 
 -- no frame more
-pub read_ended : (journal : List ℕ) (old new : Place) (w : World) (s : HasReplayed journal old w) → HasRead journal new header s.bodies → IsShutAfter header journal s.bodies → new.ended ≡ true → HasReadAll journal new w
-read_ended journal old new w s read shut ended = record { replayed = record { bodies = s.bodies; history = s.history; read = read; holds = s.holds; run = s.run }; shut = shut; ended = ended }
+pub read_ended : (journal front : List ℕ) (first : World) (old new : Place) (w : World) (s : HasReplayed journal front first old w) → HasRead journal new front s.bodies → IsShutAfter front journal s.bodies → new.ended ≡ true → HasReadAll journal front first new w
+read_ended journal front first old new w s read shut ended = record { replayed = record { bodies = s.bodies; labels = s.labels; read = read; holds = s.holds; run = s.run }; shut = shut; ended = ended }
 
 -- a frame that is none
-pub read_failed : (journal : List ℕ) (old new : Place) (w m : World) (s : HasReplayed journal old w) (fault : OpenFault)
-    → ((at : ℕ) → ◌≡◌ {A = Result (Option (Vec ℕ Global)) OpenFault} (Err fault) (Err (OpenDamaged at)) → (at ≡ old.gate + 1) × IsDamage (drop old.gate journal)) → Reads journal new m (Err (of_open fault))
-read_failed journal old new w m s OpenStore bad = tt
-read_failed journal old new w m s (OpenDamaged at) bad = let b = bad at refl in damaged_there journal old w s at (inl (b.1, b.0))
-read_failed journal old new w m s OpenOutOfMemory bad = tt
+pub read_failed : (journal front : List ℕ) (first : World) (old new : Place) (w m : World) (s : HasReplayed journal front first old w) (fault : OpenFault)
+    → ((at : ℕ) → ◌≡◌ {A = Result (Option (Vec ℕ Global)) OpenFault} (Err fault) (Err (OpenDamaged at)) → (at ≡ old.gate + 1) × IsDamage (drop old.gate journal)) → Reads journal front first new m (Err (of_open fault))
+read_failed journal front first old new w m s OpenStore bad = tt
+read_failed journal front first old new w m s (OpenDamaged at) bad = let b = bad at refl in damaged_there journal front first old w s at (inl (b.1, b.0))
+read_failed journal front first old new w m s OpenOutOfMemory bad = tt
 
-pub all_failed : (journal : List ℕ) (place : Place) (w : World) (fault : EngineFault) → Reads journal place w (Err fault) → ReadsAll journal (Err fault)
-all_failed journal place w Store r = tt
-all_failed journal place w (Damaged at) r = r
-all_failed journal place w (Full size) r = r
-all_failed journal place w OutOfMemory r = tt
+pub all_failed : (journal front : List ℕ) (first : World) (place : Place) (w : World) (fault : EngineFault) → Reads journal front first place w (Err fault) → ReadsAll journal front first (Err fault)
+all_failed journal front first place w Store r = tt
+all_failed journal front first place w (Damaged at) r = r
+all_failed journal front first place w (Full size) r = r
+all_failed journal front first place w OutOfMemory r = tt
 
 -- damage of what was opened
-pub all_damaged : (image : Image) (r : Result Core EngineFault) (at : ℕ) → ReadsAll (begun image.journal) r → r ≡ Err (Damaged at) → IsDamaged image at
+pub all_damaged : (image : Image) (r : Result Core EngineFault) (at : ℕ) → ReadsAll (begun image.journal) header empty r → r ≡ Err (Damaged at) → IsDamaged image at
 all_damaged image (Ok e) at r is = absurd (cc)
 all_damaged image (Err Store) at r is = absurd (cc)
-all_damaged image (Err (Damaged there)) at r is = let same : there ≡ at = cc in was_damaged image at (subst (λ n. IsFrameDamage (begun image.journal) n) same r)
+all_damaged image (Err (Damaged there)) at r is = let same : there ≡ at = cc in was_damaged image at (subst (λ n. IsFrameDamage (begun image.journal) header empty n) same r)
 all_damaged image (Err (Full size)) at r is = absurd (cc)
 all_damaged image (Err OutOfMemory) at r is = absurd (cc)
 
 module _ {S : Type 0} (moment : S → ℕ) (left_since : S → ℕ → Image → List Piece → Type 0) (said : S → Option (List Piece)) (may_leave : S → Image → Type 0) (seen : S → Option Image) where
   -- the engine of all frames
-  pub all_opened : (image : Image) (new : S) (r : Result Core EngineFault) → seen new ≡ Some (opened image) → Only (opened image) (may_leave new) → ReadsAll (begun image.journal) r
+  pub all_opened : (image : Image) (new : S) (r : Result Core EngineFault) → seen new ≡ Some (opened image) → Only (opened image) (may_leave new) → ReadsAll (begun image.journal) header empty r
       → IfOk r (λ engine. IsOpened moment left_since said may_leave seen image new engine)
   all_opened image new (Ok e) told durable r =
       let all = r.2 in
       let s = all.replayed in
       let ready : IsReady (begun image.journal) r.0.gate header s.bodies = record { holds = all.shut; here = s.read.here } in
       subst (λ (x : Core). IsOpened moment left_since said may_leave seen image new x) (sym r.3) (record {
-        history = s.history;
+        history = s.labels;
         was = history_read image r.0 r.1 s all.shut;
         now = opened image;
         seen_now = told;

@@ -1,5 +1,6 @@
 -- What the calls of an engine answer, and what each answer leaves.
 use Rattle.std.specs.Prelude.{◌≡◌, ℕ, ◌+◌, ◌≤◌, Bool, true, false, List, [], ◌∷◌, ◌++◌, length, Option, Some, None, Result, Ok, Err}
+use Rattle.swf_store.specs.declared.call.Call.{Call}
 use Rattle.swf_store.specs.declared.image.Image.{Image}
 use Rattle.swf_store.specs.declared.said.Piece.{Piece}
 use Rattle.swf_meaning.specs.declared.label.Label.{Label}
@@ -16,7 +17,9 @@ use Rattle.swf_engine.specs.declared.engine.Submitted.{Submitted}
 use Rattle.swf_engine.specs.declared.engine.Submitted.TheVariants.{Accepted, Refused}
 use Rattle.swf_engine.specs.declared.fault.EngineFault.{EngineFault}
 use Rattle.swf_engine.specs.declared.fault.EngineFault.TheVariants.{Store, Damaged, Full, OutOfMemory}
+use Rattle.swf_store.specs.Calls.{Begins}
 use Rattle.swf_engine.specs.Core.{Core, most_bytes}
+use Rattle.swf_engine.specs.EngineCalls.{Appends, AppendsLast, label_calls}
 use Rattle.swf_engine.specs.Moves.{Adds, Breaks, IsStep, AreSteps, IsFull}
 
 -- nothing was changed
@@ -54,15 +57,6 @@ module _ {S : Type 0} (moment : S → ℕ) (left_since : S → ℕ → Image →
   Submits old new before later label (Err (Full size)) = IsFull before (label ∷ []) size × (refusal before.world label ≡ None) × Stays old new before later
   Submits old new before later label (Err OutOfMemory) = Stays old new before later
 
-  -- one step: some strand took it, or none is enabled
-  abbrev pub Steps : S → S → Core → Core → Result Bool EngineFault → Type 0
-  Steps old new before later (Ok true) = (step : Label) × IsStep step × Adds moment left_since said may_leave seen old new before later (step ∷ [])
-  Steps old new before later (Ok false) = (is_quiet before.world ≡ true) × Stays old new before later
-  Steps old new before later (Err Store) = (step : Label) × IsStep step × Breaks moment left_since said may_leave seen old new before (step ∷ [])
-  Steps old new before later (Err (Damaged at)) = ⊥
-  Steps old new before later (Err (Full size)) = (step : Label) × IsStep step × (refusal before.world step ≡ None) × IsFull before (step ∷ []) size × Stays old new before later
-  Steps old new before later (Err OutOfMemory) = Stays old new before later
-
   -- A settling takes steps until no strand is enabled, and at most so many. Those that it took stand also where it was not done.
   abbrev pub Settles : S → S → Core → Core → ℕ → Result Settled EngineFault → Type 0
   Settles old new before later limit (Ok settled) =
@@ -73,6 +67,30 @@ module _ {S : Type 0} (moment : S → ℕ) (left_since : S → ℕ → Image →
   Settles old new before later limit (Err (Full size)) =
       (steps : List Label) × (step : Label) × IsStep step × (refusal later.world step ≡ None) × AreSteps (steps ++ step ∷ []) limit × Adds moment left_since said may_leave seen old new before later steps × IsFull later (step ∷ []) size
   Settles old new before later limit (Err OutOfMemory) = (steps : List Label) × AreSteps steps limit × Adds moment left_since said may_leave seen old new before later steps
+
+  module _ (calls : S → Option (List Call)) where
+    -- one step: some strand took it and it was appended, or none is enabled
+    abbrev pub Steps : S → S → Core → Core → Result Bool EngineFault → Type 0
+    Steps old new before later (Ok true) =
+        (step : Label) × IsStep step × Adds moment left_since said may_leave seen old new before later (step ∷ []) × Appends (calls old) (calls new) before.gate later.gate (step ∷ [])
+    Steps old new before later (Ok false) = (is_quiet before.world ≡ true) × Stays old new before later
+    Steps old new before later (Err Store) =
+        (step : Label) × IsStep step × Breaks moment left_since said may_leave seen old new before (step ∷ []) × Begins (label_calls before.gate step) (calls old) (calls new)
+    Steps old new before later (Err (Damaged at)) = ⊥
+    Steps old new before later (Err (Full size)) = (step : Label) × IsStep step × (refusal before.world step ≡ None) × IsFull before (step ∷ []) size × Stays old new before later
+    Steps old new before later (Err OutOfMemory) = Stays old new before later
+
+    -- the steps of a settling were appended one after the other, where the store failed all but the last
+    abbrev pub StepsCalls : (old new : S) (before later : Core) (limit : ℕ) (result : Result Settled EngineFault) → Settles old new before later limit result → Type 0
+    StepsCalls old new before later limit (Ok settled) s = Appends (calls old) (calls new) before.gate later.gate s.0
+    StepsCalls old new before later limit (Err Store) s = AppendsLast (calls old) (calls new) before.gate s.0
+    StepsCalls old new before later limit (Err (Damaged at)) s = ⊥
+    StepsCalls old new before later limit (Err (Full size)) s = Appends (calls old) (calls new) before.gate later.gate s.0
+    StepsCalls old new before later limit (Err OutOfMemory) s = Appends (calls old) (calls new) before.gate later.gate s.0
+
+    -- a settling makes the calls that append its steps, and no other
+    abbrev pub SettleCalls : S → S → Core → Core → ℕ → Result Settled EngineFault → Type 0
+    SettleCalls old new before later limit result = (settles : Settles old new before later limit result) × StepsCalls old new before later limit result settles
 
 -- what a label is answered whose change was not prepared
 abbrev pub unprepared : PrepareFault → Result Submitted EngineFault

@@ -7,8 +7,8 @@ use Rattle.swf_journal.specs.Opening.{IsFrame, IsDamage}
 use Rattle.swf_journal.specs.Stands.{Fits}
 use Rattle.swf_meaning.specs.declared.label.Label.{Label}
 use Rattle.swf_runs.specs.After.{after}
-use Rattle.swf_runs.specs.Runs.{run, run_from}
-use Rattle.swf_meaning.specs.World.{World}
+use Rattle.swf_runs.specs.Runs.{run_from}
+use Rattle.swf_meaning.specs.World.{World, empty}
 use Rattle.swf_record.specs.Decodes.{decoded}
 use Rattle.swf_record.specs.Encodes.{label_place}
 use Rattle.swf_engine.specs.History.{HoldLabels}
@@ -39,25 +39,27 @@ pub record IsIllegal (world : World) (gate : ℕ) (body : List ℕ) (at : ℕ) :
 abbrev pub IsBadBody : World → ℕ → List ℕ → ℕ → Type 0
 IsBadBody world gate body at = IsMisspelled gate body at ⊎ IsIllegal world gate body at
 
--- Behind the header stand whole frames whose labels are a legal run, and behind them these bytes, which begin a gate.
-pub record IsBehind (journal : List ℕ) (bodies : List (List ℕ)) (world : World) (behind : List ℕ) : Type 0 where
-  pub history : List Label
-  pub laid : journal ≡ header ++ (frames_bytes bodies ++ behind)
+-- Behind this front stand whole frames whose labels lead from the first world to this one, and behind them these bytes, which begin
+-- a gate.
+pub record IsBehind (journal front : List ℕ) (first : World) (bodies : List (List ℕ)) (world : World) (behind : List ℕ) : Type 0 where
+  pub labels : List Label
+  pub laid : journal ≡ front ++ (frames_bytes bodies ++ behind)
   pub fit : AllByRecursion Fits bodies
-  pub holds : HoldLabels bodies history
-  pub run : run history ≡ Some world
+  pub holds : HoldLabels bodies labels
+  pub run : run_from first labels ≡ Some world
 
 -- an open gate whose frame and next gate pass the end, told behind the gate, or a whole frame with a bad body
 abbrev pub IsBadFrame : World → ℕ → List ℕ → ℕ → Type 0
 IsBadFrame world gate behind at = (IsDamage behind × (at ≡ gate + 1)) ⊎ ((body : List ℕ) × (rest : List ℕ) × IsFrame behind body rest × IsBadBody world gate body at)
 
-pub record IsFrameDamage (journal : List ℕ) (at : ℕ) : Type 0 where
+-- the first bad frame behind this front, where its labels are run from that world on
+pub record IsFrameDamage (journal front : List ℕ) (first : World) (at : ℕ) : Type 0 where
   pub bodies : List (List ℕ)
   pub world : World
   pub behind : List ℕ
-  pub front : IsBehind journal bodies world behind
-  pub bad : IsBadFrame world (next_gate header bodies) behind at
+  pub ahead : IsBehind journal front first bodies world behind
+  pub bad : IsBadFrame world (next_gate front bodies) behind at
 
 -- the image's journal is damaged at this place; one that is too short for a frame is not
 abbrev pub IsDamaged : Image → ℕ → Type 0
-IsDamaged image at = IsHeaderDamage image.journal at ⊎ ((25 ≤ length image.journal) × IsFrameDamage image.journal at)
+IsDamaged image at = IsHeaderDamage image.journal at ⊎ ((25 ≤ length image.journal) × IsFrameDamage image.journal header empty at)

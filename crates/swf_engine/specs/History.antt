@@ -1,9 +1,10 @@
--- The history that an image stands for: the labels in the frames of its journal, which are a legal run.
-use Rattle.std.specs.Prelude.{◌≡◌, ℕ, List, [], ◌∷◌, ◌++◌}
+-- The history that an image stands for, the labels in the frames of its journal, which are a legal run; and its rest behind a front.
+use Rattle.std.specs.Prelude.{◌≡◌, ℕ, List, [], ◌∷◌, ◌++◌, Some}
 use Rattle.swf_store.specs.declared.image.Image.{Image}
-use Rattle.swf_journal.specs.Stands.{Stands}
+use Rattle.swf_journal.specs.Stands.{Stands, IsShutAfter}
 use Rattle.swf_meaning.specs.declared.label.Label.{Label}
-use Rattle.swf_runs.specs.Runs.{Legal}
+use Rattle.swf_meaning.specs.World.{World}
+use Rattle.swf_runs.specs.Runs.{Legal, run_from}
 use Rattle.swf_record.specs.Encodes.{Encodes}
 
 -- each body holds some labels, and joined in order they are these
@@ -17,6 +18,13 @@ pub record IsHistory (image : Image) (labels : List Label) : Type 0 where
   pub stands : Stands image bodies
   pub holds : HoldLabels bodies labels
   pub legal : Legal labels
+
+-- Behind this front a journal holds these labels, which lead from the first world to the last one, and then a gate that is not open.
+pub record IsRest (journal front : List ℕ) (first : World) (labels : List Label) (last : World) : Type 0 where
+  pub bodies : List (List ℕ)
+  pub shut : IsShutAfter front journal bodies
+  pub holds : HoldLabels bodies labels
+  pub run : run_from first labels ≡ Some last
 
 -- the second list begins with the first
 pub record Begins (first all : List Label) : Type 0 where

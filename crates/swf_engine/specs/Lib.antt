@@ -2,6 +2,7 @@ pub mod History
 pub mod Core
 pub mod Moves
 pub mod Causes
+pub mod EngineCalls
 pub mod Answers
 pub mod Damage
 pub mod Reading

@@ -1,11 +1,15 @@
 // How a label is added: its change is prepared, its frame appended, and then the change is made.
-ghost use Rattle.std.specs.Prelude.{◌≡◌, ◌<◌, ◌∷◌, [], OnOk, IfOk, length, is_some};
+ghost use Rattle.std.specs.Prelude.{◌≡◌, ◌<◌, ◌∷◌, [], Some, None, OnOk, IfOk, length, is_some};
 ghost use Rattle.swf_store.specs.declared.image.File.TheVariants.{Journal as JournalFile};
 ghost use Rattle.swf_journal.specs.Place.{IsJournalOf};
 ghost use Rattle.swf_record.specs.Encodes.{Nests, Encodes};
+ghost use Rattle.swf_runs.specs.After.{after, taken_by};
+ghost use Rattle.swf_world.specs.Changes.{Suits, changed};
+ghost use Rattle.swf_world.specs.Refusals.{refusal};
 ghost use Rattle.swf_engine.specs.Answers.{Submits, IsSmall, unprepared};
 ghost use Rattle.swf_engine.specs.Causes.{EngineCause, WhereUsable};
 ghost use Rattle.swf_engine.specs.Core.{most_bytes};
+ghost use Rattle.swf_engine.specs.EngineCalls.{SubmitCalls};
 
 use crate::{EngineFault, Submitted};
 use std::alloc::{AllocError, Global};
@@ -44,6 +48,46 @@ fn let_go(_change: Change, fault: EngineFault) -> EngineFault
     fault
 }
 
+// Adds a label that the caller keeps, whose change was prepared.
+fn append_change<S: Store>(
+    alloc: Global,
+    world: &mut World,
+    journal: &mut Journal,
+    store: &mut S,
+    label: &Label,
+    change: Change,
+) -> Result<Submitted, EngineFault>
+    requires place { IsJournalOf (S.seen store.old) journal.old }
+    requires file { journal.old.file ≡ JournalFile }
+    requires limit { journal.old.limit ≡ most_bytes }
+    requires nests { Nests label.now }
+    requires suits { Suits world.old.world change }
+    requires room { 0 < world.old.room }
+    requires leads { after world.old.world label.now ≡ Some (changed world.old.world change) }
+    requires free { refusal world.old.world label.now ≡ None }
+    requires taken { change.taken ≡ taken_by world.old.world label.now }
+    ensures place { WhereUsable result (IsJournalOf (S.seen store.new) journal.new) }
+    ensures file { journal.new.file ≡ JournalFile }
+    ensures limit { journal.new.limit ≡ most_bytes }
+    ensures submits { Submits S.moment S.left_since S.said S.may_leave S.seen store.old store.new
+        (record { world = world.old.world; gate = journal.old.at }) (record { world = world.new.world; gate = journal.new.at }) label.now result }
+    ensures small { IfOk result IsSmall }
+    ensures calls { SubmitCalls (S.calls store.old) (S.calls store.new) journal.old.at journal.new.at label.now result }
+    ensures said { S.said store.new ≡ S.said store.old }
+    ensures beside { S.beside store.new ≡ S.beside store.old }
+    ensures honest { is_some (S.seen store.new) ≡ is_some (S.seen store.old) }
+    ensures cause { EngineCause (S.store_faults store.old) (S.store_faults store.new) result }
+{
+    let frame = match frame_of(alloc, label) {
+        Ok(frame) => frame,
+        Err(_) => return Err(let_go(change, EngineFault::OutOfMemory)),
+    };
+    match journal.append(store, &frame) {
+        Ok(()) => Ok(Submitted::Accepted(world.install(change))),
+        Err(fault) => Err(let_go(change, EngineFault::from(fault))),
+    }
+}
+
 // Adds a label that the caller keeps.
 fn append_label<S: Store>(
     alloc: Global,
@@ -62,6 +106,7 @@ fn append_label<S: Store>(
     ensures submits { Submits S.moment S.left_since S.said S.may_leave S.seen store.old store.new
         (record { world = world.old.world; gate = journal.old.at }) (record { world = world.new.world; gate = journal.new.at }) label.now result }
     ensures small { IfOk result IsSmall }
+    ensures calls { SubmitCalls (S.calls store.old) (S.calls store.new) journal.old.at journal.new.at label.now result }
     ensures said { S.said store.new ≡ S.said store.old }
     ensures beside { S.beside store.new ≡ S.beside store.old }
     ensures honest { is_some (S.seen store.new) ≡ is_some (S.seen store.old) }
@@ -71,14 +116,7 @@ fn append_label<S: Store>(
         Ok(change) => change,
         Err(fault) => return not_prepared(fault),
     };
-    let frame = match frame_of(alloc, label) {
-        Ok(frame) => frame,
-        Err(_) => return Err(let_go(change, EngineFault::OutOfMemory)),
-    };
-    match journal.append(store, &frame) {
-        Ok(()) => Ok(Submitted::Accepted(world.install(change))),
-        Err(fault) => Err(let_go(change, EngineFault::from(fault))),
-    }
+    append_change(alloc, world, journal, store, label, change)
 }
 
 /// Adds a label in a frame of its own, or says why it is not taken. Memory is found before the frame is written.
@@ -99,10 +137,44 @@ pub fn add_label<S: Store>(
     ensures submits { Submits S.moment S.left_since S.said S.may_leave S.seen store.old store.new
         (record { world = world.old.world; gate = journal.old.at }) (record { world = world.new.world; gate = journal.new.at }) label result }
     ensures small { IfOk result IsSmall }
+    ensures calls { SubmitCalls (S.calls store.old) (S.calls store.new) journal.old.at journal.new.at label result }
     ensures said { S.said store.new ≡ S.said store.old }
     ensures beside { S.beside store.new ≡ S.beside store.old }
     ensures honest { is_some (S.seen store.new) ≡ is_some (S.seen store.old) }
     ensures cause { EngineCause (S.store_faults store.old) (S.store_faults store.new) result }
 {
     append_label(alloc, world, journal, store, &label)
+}
+
+/// Adds a label in a frame of its own whose change was prepared, for which the world has room.
+pub fn add_prepared<S: Store>(
+    alloc: Global,
+    world: &mut World,
+    journal: &mut Journal,
+    store: &mut S,
+    label: Label,
+    change: Change,
+) -> Result<Submitted, EngineFault>
+    requires place { IsJournalOf (S.seen store.old) journal.old }
+    requires file { journal.old.file ≡ JournalFile }
+    requires limit { journal.old.limit ≡ most_bytes }
+    requires nests { Nests label }
+    requires suits { Suits world.old.world change }
+    requires room { 0 < world.old.room }
+    requires leads { after world.old.world label ≡ Some (changed world.old.world change) }
+    requires free { refusal world.old.world label ≡ None }
+    requires taken { change.taken ≡ taken_by world.old.world label }
+    ensures place { WhereUsable result (IsJournalOf (S.seen store.new) journal.new) }
+    ensures file { journal.new.file ≡ JournalFile }
+    ensures limit { journal.new.limit ≡ most_bytes }
+    ensures submits { Submits S.moment S.left_since S.said S.may_leave S.seen store.old store.new
+        (record { world = world.old.world; gate = journal.old.at }) (record { world = world.new.world; gate = journal.new.at }) label result }
+    ensures small { IfOk result IsSmall }
+    ensures calls { SubmitCalls (S.calls store.old) (S.calls store.new) journal.old.at journal.new.at label result }
+    ensures said { S.said store.new ≡ S.said store.old }
+    ensures beside { S.beside store.new ≡ S.beside store.old }
+    ensures honest { is_some (S.seen store.new) ≡ is_some (S.seen store.old) }
+    ensures cause { EngineCause (S.store_faults store.old) (S.store_faults store.new) result }
+{
+    append_change(alloc, world, journal, store, &label, change)
 }

@@ -8,16 +8,19 @@ ghost use Rattle.swf_meaning.specs.declared.label.Label.{Label};
 ghost use Rattle.swf_record.specs.Encodes.{Nests};
 ghost use Rattle.swf_world.specs.Answers.{IsOfWorld};
 ghost use Rattle.swf_world.specs.Latest.{label_of};
-ghost use Rattle.swf_engine.specs.Answers.{Submits, Steps, Settles, IsSmall};
+ghost use Rattle.swf_world.specs.Waits.{is_due};
+ghost use Rattle.swf_engine.specs.Answers.{Submits, Steps, Settles, SettleCalls, IsSmall};
 ghost use Rattle.swf_engine.specs.Causes.{EngineCause, WhereUsable};
 ghost use Rattle.swf_engine.specs.Core.{IsEngineOf, StandFor, most_bytes};
+ghost use Rattle.swf_engine.specs.EngineCalls.{SubmitCalls, QueryCalls};
 ghost use Rattle.swf_engine.specs.Retelling.{Queries, AnswersQuery};
 
 use crate::EngineFault;
-use crate::add::add_label;
+use crate::add::{add_label, add_prepared};
 use crate::retelling::retell;
 use std::alloc::Global;
 use std::marker::Model;
+use swf_duration::Moment;
 use swf_journal::Journal;
 use swf_meaning::{Answer, Outcome, Query};
 use swf_store::Store;
@@ -87,7 +90,7 @@ impl Engine {
     }
 
     /// Hands an outcome in. Its label is added in a frame of its own, or refused for the first cause that there is. Want of
-    /// memory comes before the frame, and changes nothing.
+    /// memory comes before the frame, and changes nothing. The calls of the store are those of one append, or none.
     pub fn submit<S: Store>(
         &mut self,
         store: &mut S,
@@ -98,6 +101,7 @@ impl Engine {
         ensures place { WhereUsable result (IsEngineOf (S.seen store.new) self.new) }
         ensures submits { Submits S.moment S.left_since S.said S.may_leave S.seen store.old store.new self.old self.new (label_of self.old.world outcome) result }
         ensures small { IfOk result IsSmall }
+        ensures calls { SubmitCalls (S.calls store.old) (S.calls store.new) self.old.gate self.new.gate (label_of self.old.world outcome) result }
         ensures said { S.said store.new ≡ S.said store.old }
         ensures beside { S.beside store.new ≡ S.beside store.old }
         ensures honest { is_some (S.seen store.new) ≡ is_some (S.seen store.old) }
@@ -111,27 +115,36 @@ impl Engine {
     fn step<S: Store>(&mut self, store: &mut S) -> Result<bool, EngineFault>
         requires place { IsEngineOf (S.seen store.old) self.old }
         ensures place { WhereUsable result (IsEngineOf (S.seen store.new) self.new) }
-        ensures steps { Steps S.moment S.left_since S.said S.may_leave S.seen store.old store.new self.old self.new result }
+        ensures steps { Steps S.moment S.left_since S.said S.may_leave S.seen S.calls store.old store.new self.old self.new result }
         ensures said { S.said store.new ≡ S.said store.old }
         ensures beside { S.beside store.new ≡ S.beside store.old }
         ensures honest { is_some (S.seen store.new) ≡ is_some (S.seen store.old) }
         ensures cause { EngineCause (S.store_faults store.old) (S.store_faults store.new) result }
     {
-        let Some(label) = self.world.next_step()? else {
+        let Some(prepared) = self.world.prepare_next()? else {
             return Ok(false);
         };
-        match add_label(self.alloc, &mut self.world, &mut self.journal, store, label) {
+        let (label, change) = prepared;
+        match add_prepared(
+            self.alloc,
+            &mut self.world,
+            &mut self.journal,
+            store,
+            label,
+            change,
+        ) {
             Ok(_) => Ok(true),
             Err(fault) => Err(fault),
         }
     }
 
     /// Takes steps until no strand is enabled, and at most so many, each in a frame of its own. The steps that were taken before
-    /// memory ran out stand.
+    /// memory ran out stand. The calls of the store are those of one append after the other.
     pub fn settle<S: Store>(&mut self, store: &mut S, limit: u64) -> Result<Settled, EngineFault>
         requires place { IsEngineOf (S.seen store.old) self.old }
         ensures place { WhereUsable result (IsEngineOf (S.seen store.new) self.new) }
         ensures settles { Settles S.moment S.left_since S.said S.may_leave S.seen store.old store.new self.old self.new limit result }
+        ensures calls { SettleCalls S.moment S.left_since S.said S.may_leave S.seen S.calls store.old store.new self.old self.new limit result }
         ensures said { S.said store.new ≡ S.said store.old }
         ensures beside { S.beside store.new ≡ S.beside store.old }
         ensures honest { is_some (S.seen store.new) ≡ is_some (S.seen store.old) }
@@ -161,6 +174,7 @@ impl Engine {
         ensures engine { self.new ≡ self.old }
         ensures queries { ForSome (S.seen store.old) (λ image. Queries image.journal query.now result) }
         ensures answers { ForSome (S.seen store.old) (λ image. (history : List Label) → StandFor image (S.may_leave store.old) self.old history → AnswersQuery history self.old.world query.now result) }
+        ensures calls { QueryCalls query.now (S.calls store.old) (S.calls store.new) result }
         ensures of_world { IsOfWorld query.now → (store.new ≡ store.old) × IsOk result × ((history : List Label) → AnswersQuery history self.old.world query.now result) }
         ensures full { (size : ℕ) → result ≡ Err (EngineFault.Full size) → ⊥ }
         ensures seen { S.seen store.new ≡ S.seen store.old }
@@ -179,6 +193,20 @@ impl Engine {
             Query::Pending => Ok(self.world.answer(query)),
             Query::Outbox(_) => Ok(self.world.answer(query)),
         }
+    }
+
+    /// The moment that was reached last. It takes no memory.
+    pub fn now(&self) -> Moment
+        ensures { result ≡ self.now.world.now }
+    {
+        self.world.now()
+    }
+
+    /// Whether a moment, in milliseconds, is above now, and some strand waits until it, or until one before it. It takes no memory.
+    pub fn due(&self, moment: u64) -> bool
+        ensures { result ≡ is_due self.now.world moment }
+    {
+        self.world.due(moment)
     }
 
     /// The id of the instance of that number, from 0, in start order. It takes no memory.

@@ -12,4 +12,4 @@ mod retelling;
 
 pub use engine::{Engine, Settled, Submitted};
 pub use fault::EngineFault;
-pub use law::history_laws;
+pub use law::{front_laws, history_laws};

@@ -1,15 +1,17 @@
 // How a history is told again: the frames of the journal are read once more, and their labels printed from a place on.
-ghost use Rattle.std.specs.Prelude.{◌≡◌, ◌+◌, ◌<◌, ◌^◌, ◌∷◌, ◌++◌, [], ℕ, List, Ok, Err, OnOk, IfOk, IsErrOf, length};
+ghost use Rattle.std.specs.Prelude.{◌≡◌, ◌+◌, ◌<◌, ◌^◌, ◌∷◌, ◌++◌, [], ℕ, false, List, Ok, Err, OnOk, OnErr, IfOk, IsErrOf, length};
 ghost use Rattle.std.specs.Option.{ForSome};
 ghost use Rattle.swf_store.specs.declared.image.File.TheVariants.{Journal as JournalFile};
 ghost use Rattle.swf_store.specs.Disk.{NothingNew};
 ghost use Rattle.swf_store.specs.Stops.{LeavesOnly};
 ghost use Rattle.swf_journal.specs.Place.{IsReadingOf, HasRead};
 ghost use Rattle.swf_journal.specs.Frames.{header};
+ghost use Rattle.swf_journal.specs.JournalCalls.{header_calls};
 ghost use Rattle.swf_meaning.specs.declared.label.Label.{Label as OneLabel};
 ghost use Rattle.swf_record.specs.Encodes.{Encodes};
 ghost use Rattle.swf_engine.specs.Causes.{EngineCause};
 ghost use Rattle.swf_engine.specs.Damage.{IsMisspelled};
+ghost use Rattle.swf_engine.specs.EngineCalls.{SomeRead, ReadingBegun, FrameCalls};
 ghost use Rattle.swf_engine.specs.Retelling.{IsTold, HasTold, TellsFrame, ListsValues, Retells};
 ghost use Rattle.swf_meaning.specs.Printed.{labels_value};
 
@@ -89,8 +91,9 @@ fn tell_frame<S: Store>(
     requires file { reading.old.file ≡ JournalFile }
     ensures place { IsReadingOf (S.seen store.new) reading.new }
     ensures file { reading.new.file ≡ reading.old.file }
-    ensures tells { ForSome (S.seen store.old) (λ image. (place : ℕ) → HasTold image.journal reading.old place told.old.pass told.old.values.items → length told.old.values.items < 100
-        → TellsFrame image.journal reading.new place told.new.pass told.new.values.items result) }
+    ensures tells { ForSome (S.seen store.old) (λ image. (front : List ℕ) (place : ℕ) → HasTold image.journal front reading.old place told.old.pass told.old.values.items → length told.old.values.items < 100
+        → TellsFrame image.journal front reading.new place told.new.pass told.new.values.items result) }
+    ensures calls { FrameCalls reading.old.gate reading.new.gate (S.calls store.old) (S.calls store.new) result }
     ensures full { (size : ℕ) → result ≡ Err (EngineFault.Full size) → ⊥ }
     ensures seen { S.seen store.new ≡ S.seen store.old }
     ensures stop { NothingNew (S.may_leave store.old) (S.may_leave store.new) }
@@ -139,7 +142,9 @@ fn tell_frames<S: Store>(
 ) -> Result<Json, EngineFault>
     requires place { IsReadingOf (S.seen store.old) reading }
     requires file { reading.file ≡ JournalFile }
-    ensures retells { ForSome (S.seen store.old) (λ image. HasRead image.journal reading header [] → Retells image.journal from result) }
+    ensures retells { ForSome (S.seen store.old) (λ image. (front : List ℕ) → HasRead image.journal reading front [] → Retells image.journal front from result) }
+    ensures some_read { OnOk result (SomeRead [] reading.gate (S.calls store.old) (S.calls store.new)) }
+    ensures begun { OnErr result (ReadingBegun [] reading.gate (S.calls store.old) (S.calls store.new)) }
     ensures full { (size : ℕ) → result ≡ Err (EngineFault.Full size) → ⊥ }
     ensures seen { S.seen store.new ≡ S.seen store.old }
     ensures stop { NothingNew (S.may_leave store.old) (S.may_leave store.new) }
@@ -168,7 +173,9 @@ fn tell_frames<S: Store>(
 
 /// Tells the labels of a journal from a place on, at most a hundred, as its frames hold them. It only reads.
 pub fn retell<S: Store>(alloc: Global, store: &mut S, from: u64) -> Result<Json, EngineFault>
-    ensures retells { ForSome (S.seen store.old) (λ image. Retells image.journal from result) }
+    ensures retells { ForSome (S.seen store.old) (λ image. Retells image.journal header from result) }
+    ensures some_read { OnOk result (SomeRead (header_calls false) 16 (S.calls store.old) (S.calls store.new)) }
+    ensures begun { OnErr result (ReadingBegun (header_calls false) 16 (S.calls store.old) (S.calls store.new)) }
     ensures full { (size : ℕ) → result ≡ Err (EngineFault.Full size) → ⊥ }
     ensures seen { S.seen store.new ≡ S.seen store.old }
     ensures stop { NothingNew (S.may_leave store.old) (S.may_leave store.new) }

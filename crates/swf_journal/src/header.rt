@@ -37,6 +37,7 @@ const NEW_JOURNAL: [u8; 17] = *b"SWFJRNL1\0\0\0\0\0\0\0\0\0";
 pub fn begin<S: Store>(store: &mut S) -> Result<Reading, OpenFault>
     ensures stands { IfOk result (IsReadingOf (S.seen store.new)) }
     ensures format { IfOk result (λ reading. (reading.file ≡ JournalFile) × (reading.limit ≡ 2 ^ 40) × (reading.ended ≡ false)) }
+    ensures gate { IfOk result (λ reading. reading.gate ≡ 16) }
     ensures reading { ForSome (S.seen store.old) (λ image. IfOk result (λ reading. HasRead (begun image.journal) reading header [])) }
     ensures opened { ForSome (S.seen store.old) (λ image. OnOk result (S.seen store.new ≡ Some (opened image))) }
     ensures durable { ForSome (S.seen store.old) (λ image. OnOk result (Only (opened image) (S.may_leave store.new))) }
@@ -65,6 +66,7 @@ pub fn begin<S: Store>(store: &mut S) -> Result<Reading, OpenFault>
 pub fn begin_again<S: Store>(store: &mut S) -> Result<Reading, OpenFault>
     ensures stands { IfOk result (IsReadingOf (S.seen store.new)) }
     ensures format { IfOk result (λ reading. (reading.file ≡ JournalFile) × (reading.limit ≡ 2 ^ 40) × (reading.ended ≡ false)) }
+    ensures gate { IfOk result (λ reading. reading.gate ≡ 16) }
     ensures reading { ForSome (S.seen store.old) (λ image. IfOk result (λ reading. HasRead image.journal reading header [])) }
     ensures damaged { ForSome (S.seen store.old) (λ image. (at : ℕ) → result ≡ Err (OpenFault.Damaged at) → (at ≡ 0) × HasNoHeader image.journal) }
     ensures enough { IsErrOf result OpenFault.OutOfMemory → ⊥ }
@@ -102,6 +104,7 @@ fn begin_synced<S: Store>(store: &mut S) -> Result<Reading, OpenFault>
     requires { ForSome (S.seen store.old) (λ image. Only image (S.may_leave store.old)) }
     ensures stands { IfOk result (IsReadingOf (S.seen store.new)) }
     ensures format { IfOk result (λ reading. (reading.file ≡ JournalFile) × (reading.limit ≡ 2 ^ 40) × (reading.ended ≡ false)) }
+    ensures gate { IfOk result (λ reading. reading.gate ≡ 16) }
     ensures reading { ForSome (S.seen store.old) (λ image. IfOk result (λ reading. HasRead (begun image.journal) reading header [])) }
     ensures opened { ForSome (S.seen store.old) (λ image. OnOk result (S.seen store.new ≡ Some (opened image))) }
     ensures durable { ForSome (S.seen store.old) (λ image. OnOk result (Only (opened image) (S.may_leave store.new))) }

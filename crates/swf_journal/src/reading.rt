@@ -80,6 +80,7 @@ impl Reading {
         // Memory is taken only for a body that is there.
         ensures enough { ForSome (S.seen store.old) (λ image. IsErrOf result OpenFault.OutOfMemory → (body : List ℕ) × (after : List ℕ) × IsFrame (drop self.old.gate (bytes_of image self.old.file)) body after) }
         ensures place { IfOk result (λ next. self.new ≡ record self.old { gate = self.new.gate; ended = is_none next }) }
+        ensures moves { IfOk result (λ next. MatchOption next (self.new.gate ≡ self.old.gate) (λ body. self.new.gate ≡ self.old.gate + 9 + length body.items)) }
         ensures bound { IfOk result (λ next. IfSome next (λ body. self.old.gate + 10 + length body.items < 2 ^ 64)) }
         ensures err { OnErr result (self.new ≡ self.old) }
 

@@ -8,6 +8,8 @@ pub mod Next
 pub mod Lists
 pub mod For
 pub mod Fork
+pub mod Top
+pub mod Put
 pub mod Strands
 pub mod Try
 pub mod Wake

@@ -1,19 +1,19 @@
 -- The rules by which a strand takes one step (DSL, "Concepts", "Flow directives", "Fault tolerance").
-use Rattle.std.specs.Prelude.{◌||◌, ℕ, zero, suc, List, [], ◌∷◌, Bool, true, false, nat_le, Option, Some, None, option_map, Result, Err}
+use Rattle.std.specs.Prelude.{◌||◌, ℕ, List, Bool, true, false, nat_le, Option, Some, None, option_map, option_and_then, Result, Err}
 use Rattle.swf_value.specs.Value.{Value}
 use Rattle.swf_document.specs.Task.{Task}
 use Rattle.swf_document.specs.declared.common.Flow.{Flow}
 use Rattle.swf_document.specs.declared.error.Problem.{Problem}
-use Rattle.swf_meaning.specs.Around.{seen}
 use Rattle.swf_meaning.specs.Complete.{Stepped, step_of}
 use Rattle.swf_meaning.specs.Enter.{enter}
-use Rattle.swf_meaning.specs.Fork.{after_branch}
 use Rattle.swf_meaning.specs.Line.{Line, Site}
 use Rattle.swf_meaning.specs.Listen.{is_heard, heard}
 use Rattle.swf_meaning.specs.Lists.{list_of, goes_to}
 use Rattle.swf_meaning.specs.Next.{next}
 use Rattle.swf_meaning.specs.Node.{Node, Fresh, Live, Done, Fault, Inside, At, Later, Sleep, Hear, Forked, Nodes, no_nodes, branch, Round, Seq, Each, Try, Catch, Running}
 use Rattle.swf_meaning.specs.Parts.{Catching, kind_of, try_in}
+use Rattle.swf_meaning.specs.Put.{put_at}
+use Rattle.swf_meaning.specs.Top.{Top, Begins, Moves, Fails, Retries, Sleeps, Hears, Splits, Ends, Breaks, top_at, line_at}
 use Rattle.swf_meaning.specs.Try.{caught}
 use Rattle.swf_meaning.specs.Wake.{woken, again}
 
@@ -32,38 +32,21 @@ failed s l r (Each items j) p = Err p
 failed s l r (Try n) p = caught_by s l r n p (try_in (kind_of r.task))
 failed s l r (Catch q) p = Err p
 
--- the step of what runs inside, put back in its place
-abbrev pub put_back : Running → Round → ℕ → Option Stepped → Option Stepped
-put_back r round i m = option_map (λ (x : Stepped). record x { node = Live r (At round i x.node) }) m
+-- Enter, Next, Catch and Pass up, and Wake: the rule that applies to the top of a strand; none where it waits on, splits or is over
+abbrev pub rule : Site → Line → Top → Option (Result Stepped Problem)
+rule s l (Begins t v) = Some (enter s l t v)
+rule s l (Moves r round i w f) = Some (moved_on l r round i w f)
+rule s l (Fails r round i p) = Some (failed s l r round p)
+rule s l (Retries r n until) = again s l r n until
+rule s l (Sleeps r until) = woken s l r until
+rule s l (Hears r bound hs) = heard l r hs
+rule s l (Splits r ns) = None
+rule s l (Ends w f) = None
+rule s l (Breaks p) = None
 
--- a strand is named by the numbers of its branches from the outside in: this is a step of the strand that no branch is left of
-abbrev pub here : Line → List ℕ → Option (Result Stepped Problem) → Option Stepped
-here l [] m = option_map (step_of l) m
-here l (b ∷ bs) m = None
-
--- the rule that applies to the innermost node of a strand; none where none does
-abbrev mutual
-  pub local : Site → Line → List ℕ → Node → Option Stepped
-  local s l bs (Fresh t v) = here l bs (Some (enter s l t v))
-  local s l bs (Live r k) = local_inside s l bs r k
-  local s l bs (Done w f) = None
-  local s l bs (Fault p) = None
-
-  -- Next, Catch and Pass up, and Wake; and Settle, behind the step of a branch
-  pub local_inside : Site → Line → List ℕ → Running → Inside → Option Stepped
-  local_inside s l bs r (At round i (Done w f)) = here l bs (Some (moved_on l r round i w f))
-  local_inside s l bs r (At round i (Fault p)) = here l bs (Some (failed s l r round p))
-  local_inside s l bs r (At round i n) = put_back r round i (local s (seen l r.task round) bs n)
-  local_inside s l bs r (Later n until) = here l bs (again s l r n until)
-  local_inside s l bs r (Sleep until) = here l bs (woken s l r until)
-  local_inside s l bs r (Hear bound hs) = here l bs (heard l r hs)
-  local_inside s l [] r (Forked ns) = None
-  local_inside s l (b ∷ bs) r (Forked ns) = option_map (after_branch l r ns b) (local_branch s l b bs ns)
-
-  pub local_branch : Site → Line → ℕ → List ℕ → Nodes → Option Stepped
-  local_branch s l b bs no_nodes = None
-  local_branch s l zero bs (branch n ns) = local s l bs n
-  local_branch s l (suc b) bs (branch n ns) = local_branch s l b bs ns
+-- the step of a strand by the rule of its top, and Settle behind that of a branch; none where no rule applies
+abbrev pub local : Site → Line → List ℕ → Node → Option Stepped
+local s l bs n = let z = line_at l bs n in option_map (λ m. put_at l bs n (step_of z m)) (option_and_then (rule s z) (top_at bs n))
 
 -- some strand can take a step at a moment: its innermost node has not begun, has ended with something around it in its strand,
 -- waits no more, or heard all that it listens for

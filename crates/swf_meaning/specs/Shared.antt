@@ -1,9 +1,9 @@
 -- Steps that need more of the world than the instance itself: that it may wait, or make an activity, an event or strands.
-use Rattle.std.specs.Prelude.{ℕ, zero, suc, List, [], ◌∷◌, Bool, true, false, is_some, Option, Some, None, option_map, if◌then◌else◌}
-use Rattle.swf_document.specs.Task.{Task, Kind, call, do_all, emit, for, fork, listen, raise, run, set, switch, try, wait}
-use Rattle.swf_meaning.specs.Node.{Node, Fresh, Live, Done, Fault, Inside, At, Later, Sleep, Hear, Forked, Nodes, no_nodes, branch, Round, Seq, Each, Try, Catch}
+use Rattle.std.specs.Prelude.{ℕ, zero, suc, List, Bool, true, false, is_some, Option, Some, None, option_map, if◌then◌else◌}
+use Rattle.swf_document.specs.Task.{Kind, call, do_all, emit, for, fork, listen, raise, run, set, switch, try, wait}
+use Rattle.swf_meaning.specs.Node.{Node, Round, Seq, Each, Try, Catch}
 use Rattle.swf_meaning.specs.Parts.{Catching, kind_of, try_in}
-use Rattle.swf_meaning.specs.Strands.{here}
+use Rattle.swf_meaning.specs.Top.{Top, Begins, Moves, Fails, Retries, Sleeps, Hears, Splits, Ends, Breaks, top_at, top_is}
 use Rattle.swf_meaning.specs.World.{Instance, step_at, with_step}
 
 -- entering a task of these kinds
@@ -32,28 +32,21 @@ is_shared_error (Each items j) k = false
 is_shared_error (Try n) k = has_retry (try_in k)
 is_shared_error (Catch p) k = false
 
+-- the step of a top is shared
+abbrev pub is_shared_top : Top → Bool
+is_shared_top (Begins t v) = is_shared_kind (kind_of t)
+is_shared_top (Moves r round i w f) = false
+is_shared_top (Fails r round i p) = is_shared_error round (kind_of r.task)
+is_shared_top (Retries r n until) = false
+is_shared_top (Sleeps r until) = false
+is_shared_top (Hears r bound hs) = false
+is_shared_top (Splits r ns) = false
+is_shared_top (Ends w f) = false
+is_shared_top (Breaks p) = false
+
 -- the next step of a strand is shared
-abbrev mutual
-  pub is_shared : List ℕ → Node → Bool
-  is_shared bs (Fresh t v) = here bs (is_shared_kind (kind_of t))
-  is_shared bs (Live r k) = is_shared_inside bs r.task k
-  is_shared bs (Done w f) = false
-  is_shared bs (Fault p) = false
-
-  pub is_shared_inside : List ℕ → Task → Inside → Bool
-  is_shared_inside bs t (At round i (Done w f)) = false
-  is_shared_inside bs t (At round i (Fault p)) = here bs (is_shared_error round (kind_of t))
-  is_shared_inside bs t (At round i n) = is_shared bs n
-  is_shared_inside bs t (Later n m) = false
-  is_shared_inside bs t (Sleep m) = false
-  is_shared_inside bs t (Hear bound hs) = false
-  is_shared_inside [] t (Forked ns) = false
-  is_shared_inside (b ∷ bs) t (Forked ns) = is_shared_branch b bs ns
-
-  pub is_shared_branch : ℕ → List ℕ → Nodes → Bool
-  is_shared_branch b bs no_nodes = false
-  is_shared_branch zero bs (branch n ns) = is_shared bs n
-  is_shared_branch (suc b) bs (branch n ns) = is_shared_branch b bs ns
+abbrev pub is_shared : List ℕ → Node → Bool
+is_shared bs n = top_is is_shared_top (top_at bs n)
 
 -- one step that is not shared; none where the next one is, or there is none
 abbrev pub unshared : ℕ → List ℕ → Instance → Option Instance

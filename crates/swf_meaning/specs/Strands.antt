@@ -1,9 +1,9 @@
 -- The strands of an instance: its lines of control, each named by the numbers of its branches from the outside in (DSL reference,
 -- "Fork").
-use Rattle.std.specs.Prelude.{◌+◌, ◌++◌, ℕ, zero, suc, List, [], ◌∷◌, Bool, true, false, nat_le, map}
-use Rattle.swf_document.specs.Task.{Task}
+use Rattle.std.specs.Prelude.{◌+◌, ◌++◌, ℕ, zero, List, [], ◌∷◌, Bool, true, false, nat_le, map}
 use Rattle.swf_meaning.specs.Listen.{is_heard}
 use Rattle.swf_meaning.specs.Node.{Node, Fresh, Live, Done, Fault, Inside, At, Later, Sleep, Hear, Forked, Nodes, no_nodes, branch}
+use Rattle.swf_meaning.specs.Top.{Top, Begins, Moves, Fails, Retries, Sleeps, Hears, Splits, Ends, Breaks, top_at, top_is}
 
 -- the strands below that of a node's outermost task, ascending: one before those of its branches
 abbrev mutual
@@ -28,29 +28,19 @@ abbrev mutual
 abbrev pub strands : Node → List (List ℕ)
 strands n = [] ∷ strands_below n
 
--- a strand can take a step at a moment
-abbrev pub here : List ℕ → Bool → Bool
-here [] c = c
-here (b ∷ bs) c = false
+-- the top of a strand can take a step at a moment: it has not begun, has ended with something around it in its strand, waits no more,
+-- or heard all that it listens for
+abbrev pub can_top : ℕ → Top → Bool
+can_top now (Begins t v) = true
+can_top now (Moves r round i w f) = true
+can_top now (Fails r round i p) = true
+can_top now (Retries r n until) = nat_le until now
+can_top now (Sleeps r until) = nat_le until now
+can_top now (Hears r bound hs) = is_heard r.task hs
+can_top now (Splits r ns) = false
+can_top now (Ends w f) = false
+can_top now (Breaks p) = false
 
-abbrev mutual
-  pub can_go : ℕ → List ℕ → Node → Bool
-  can_go now bs (Fresh t v) = here bs true
-  can_go now bs (Live r k) = can_go_inside now bs r.task k
-  can_go now bs (Done w f) = false
-  can_go now bs (Fault p) = false
-
-  pub can_go_inside : ℕ → List ℕ → Task → Inside → Bool
-  can_go_inside now bs t (At round i (Done w f)) = here bs true
-  can_go_inside now bs t (At round i (Fault p)) = here bs true
-  can_go_inside now bs t (At round i n) = can_go now bs n
-  can_go_inside now bs t (Later n until) = here bs (nat_le until now)
-  can_go_inside now bs t (Sleep until) = here bs (nat_le until now)
-  can_go_inside now bs t (Hear bound hs) = here bs (is_heard t hs)
-  can_go_inside now [] t (Forked ns) = false
-  can_go_inside now (b ∷ bs) t (Forked ns) = can_go_branch now b bs ns
-
-  pub can_go_branch : ℕ → ℕ → List ℕ → Nodes → Bool
-  can_go_branch now b bs no_nodes = false
-  can_go_branch now zero bs (branch n ns) = can_go now bs n
-  can_go_branch now (suc b) bs (branch n ns) = can_go_branch now b bs ns
+-- a strand can where its top can
+abbrev pub can_go : ℕ → List ℕ → Node → Bool
+can_go now bs n = top_is (can_top now) (top_at bs n)

@@ -50,10 +50,3 @@ pub bound_by-ended : (t : Task) (vars : List Variable) (u : Value) (fs : List Fi
 bound_by-ended t vars u fs i f bound all h r p e before here same =
     Gives-same _ all r (sym (bound_by-filter t vars u fs i f bound p e) ∙ before)
     (Gives-passed (bound_by t vars u f.correlate bound) (bound_by t vars u (correlations (drop (i + 1) fs))) r h same here)
-
--- a filter that has an event is passed over
-pub met-passed : (fs : List Filter) (n : ℕ) (bound : Members) (hs : List Heard) (e : Event) → n < length fs → is_met n hs ≡ true → taken_from n (drop n fs) bound hs e ≡ taken_from (n + 1) (drop (n + 1) fs) bound hs e
-met-passed [] n bound hs e p m = absurd (omega arith)
-met-passed (x ∷ xs) n bound hs e p m =
-    ap (λ l. taken_from n l bound hs e) (drop_more (x ∷ xs) n x p)
-    ∙ ap (λ b. or_else (if b then None else hears n e hs (correlated (get_or (x ∷ xs) n x) bound e)) (taken_from (n + 1) (drop (n + 1) (x ∷ xs)) bound hs e)) m

@@ -6,12 +6,12 @@ use Rattle.swf_document.specs.declared.error.Problem.{Problem}
 use Rattle.swf_meaning.specs.Complete.{Stepped, becomes, complete}
 use Rattle.swf_meaning.specs.Line.{Line}
 use Rattle.swf_meaning.specs.Node.{Done, Running}
-use Rattle.swf_scene.specs.Stack.{stepped_of}
+use Rattle.swf_stack.specs.Stack.{stepped_of}
 use Rattle.swf_scene.specs.declared.halt.Halt.{Halt}
 use Rattle.swf_scene.specs.declared.halt.Halt.TheVariants as halts
-use Rattle.swf_scene.specs.declared.made.Made.{Made}
-use Rattle.swf_scene.specs.declared.made.Top.{Top}
-use Rattle.swf_scene.specs.declared.made.Top.TheVariants as tops
+use Rattle.swf_stack.specs.declared.made.Made.{Made}
+use Rattle.swf_stack.specs.declared.made.Top.{Top}
+use Rattle.swf_stack.specs.declared.made.Top.TheVariants as tops
 
 -- what ends the `fork`, where it ends
 abbrev pub ending : Line → Running → Bool → Option Value → Top → Option (Result Stepped Problem)

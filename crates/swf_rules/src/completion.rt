@@ -5,12 +5,14 @@ ghost use Rattle.swf_meaning.specs.Complete.{Stepped, input_of, output_of, expor
 ghost use Rattle.swf_meaning.specs.Parts.{common_of};
 ghost use Rattle.swf_rules.specs.Rules.{line_in};
 ghost use Rattle.swf_scene.specs.Halts.{Gives, Makes};
-ghost use Rattle.swf_scene.specs.Stack.{line_of, made_node, stepped_of};
+ghost use Rattle.swf_stack.specs.Stack.{made_node, stepped_of};
+ghost use Rattle.swf_scene.specs.Setting.{line_of};
 
 use crate::rule::Rule;
 use std::alloc::{AllocError, Global};
 use swf_document::{ErrorKind, Flow};
-use swf_scene::{Halt, Made, Scene, TaskRef, Top, before, behind, value_of};
+use swf_scene::{Halt, Scene, before, behind, value_of};
+use swf_stack::{Made, TaskRef, Top};
 use swf_transform::{fill, is_within};
 use swf_value::Json;
 

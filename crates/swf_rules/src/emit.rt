@@ -4,14 +4,15 @@ ghost use Rattle.swf_meaning.specs.Emit.{next_id, with_own, sending, emits, emit
 ghost use Rattle.swf_cloudevents.specs.Event.{event_of};
 ghost use Rattle.swf_rules.specs.Rules.{line_in, site_in};
 ghost use Rattle.swf_scene.specs.Halts.{Makes};
-ghost use Rattle.swf_scene.specs.Stack.{stepped_of};
+ghost use Rattle.swf_stack.specs.Stack.{stepped_of};
 
 use crate::completion::step_of;
 use crate::rule::Rule;
 use std::alloc::{AllocError, Global};
 use swf_cloudevents::{EventFault, read_event};
 use swf_document::{ErrorKind, Template};
-use swf_scene::{Halt, Made, SentEvent};
+use swf_scene::Halt;
+use swf_stack::{Made, SentEvent};
 use swf_text::{Text, TextBuilder, word};
 use swf_value::{Json, JsonNode};
 

@@ -2,11 +2,12 @@
 ghost use Rattle.swf_meaning.specs.For.{looping, over};
 ghost use Rattle.swf_rules.specs.Rules.{line_in};
 ghost use Rattle.swf_scene.specs.Halts.{Makes};
-ghost use Rattle.swf_scene.specs.TaskRef.{loop_of};
+ghost use Rattle.swf_stack.specs.TaskRef.{loop_of};
 
 use crate::rule::Rule;
 use swf_document::{ErrorKind, ForSpec};
-use swf_scene::{Halt, Made};
+use swf_scene::Halt;
+use swf_stack::Made;
 use swf_transform::first;
 use swf_value::{Json, JsonNode};
 

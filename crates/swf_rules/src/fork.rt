@@ -11,7 +11,8 @@ ghost use Rattle.swf_scene.specs.Halts.{Makes};
 use crate::completion::{becoming, finished};
 use crate::rule::Rule;
 use swf_document::{ErrorKind, Flow, ForkSpec, Named};
-use swf_scene::{Halt, Made, Top};
+use swf_scene::Halt;
+use swf_stack::{Made, Top};
 use swf_value::Json;
 
 /// How many branches an instance may have.

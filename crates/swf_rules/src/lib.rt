@@ -15,6 +15,5 @@ mod try_;
 mod wait;
 
 pub use completion::{input_of, step_of};
-pub use listen::takes;
 pub use next::{failed, moved_on};
 pub use rule::Rule;

@@ -1,9 +1,9 @@
 // A `listen` (DSL 1.0.0, reference, "Listen", "Event Consumption Strategy" and "Correlation").
-ghost use Rattle.std.specs.Prelude.{◌≡◌, ◌++◌, ◌∷◌, [], IfOk, codes, option_map, Ok, if◌then◌else◌};
+ghost use Rattle.std.specs.Prelude.{◌≡◌, codes, Ok, if◌then◌else◌};
 ghost use Rattle.swf_document.specs.declared.error.ErrorKind.TheVariants as kinds;
 ghost use Rattle.swf_jq_builtins.specs.Operations.{is_same};
 ghost use Rattle.swf_meaning.specs.Complete.{complete};
-ghost use Rattle.swf_meaning.specs.Listen.{bound_with, expecting, bound_by, correlations, listening, is_met, takes, data_of, read_as, events_of};
+ghost use Rattle.swf_meaning.specs.Listen.{bound_with, expecting, bound_by, correlations, listening, events_of};
 ghost use Rattle.swf_meaning.specs.Rule.{fails};
 ghost use Rattle.swf_rules.specs.Rules.{line_in};
 ghost use Rattle.swf_scene.specs.Halts.{Gives, Makes};
@@ -12,14 +12,14 @@ ghost use Rattle.swf_value.specs.Value.{no_members};
 
 use crate::completion::becoming;
 use crate::rule::Rule;
-use std::alloc::{AllocError, Global};
-use swf_cloudevents::{Event, NamedValues, Payload, event_json};
+use swf_cloudevents::NamedValues;
 use swf_document::{Correlation, ErrorKind, Filter, ListenSpec, Listing};
 use swf_jq_eval::Vars;
 use swf_meaning::Heard;
-use swf_scene::{Halt, Made, Top, is_satisfied};
+use swf_scene::Halt;
+use swf_stack::{Made, Top, events_of};
 use swf_text::Text;
-use swf_transform::{correlate, fill};
+use swf_transform::fill;
 use swf_value::Json;
 
 // Whether two values are equal.
@@ -27,83 +27,6 @@ fn is_same(left: &Json, right: &Json) -> bool
     ensures { result ≡ is_same left.now right.now }
 {
     left.is(right)
-}
-
-// Whether the filter of a place has an event.
-fn is_met(place: usize, heard: &[Heard]) -> bool
-    ensures { result ≡ is_met place heard.now }
-{
-    for one in heard {
-        if place == one.filter {
-            return true;
-        }
-    }
-    false
-}
-
-/// What a `listen` has bound after an event that it takes, and the event with the place of its filter; none where it takes it not.
-pub fn takes(
-    alloc: Global,
-    spec: &ListenSpec,
-    bound: &NamedValues,
-    heard: &[Heard],
-    event: &Event,
-) -> Result<Option<(NamedValues, Heard)>, AllocError>
-    ensures { IfOk result (λ o. option_map (λ p. (p.0, heard.now ++ p.1 ∷ [])) o ≡ takes spec.now bound.now heard.now event.now) }
-{
-    if is_satisfied(spec, heard) {
-        return Ok(None);
-    }
-    let filters = spec.filters.as_slice();
-    for place in 0..filters.len() {
-        if is_met(place, heard) {
-            continue;
-        }
-        if let Some(bound) = correlate(alloc, &filters[place], bound, event)? {
-            let event = event.copy()?;
-            return Ok(Some((
-                bound,
-                Heard {
-                    filter: place,
-                    event,
-                },
-            )));
-        }
-    }
-    Ok(None)
-}
-
-// The data of an event.
-fn data_of(payload: &Payload) -> Result<Json, AllocError>
-    ensures { IfOk result (λ v. v ≡ data_of payload.now) }
-{
-    match payload {
-        Payload::Absent => Ok(Json::null()),
-        Payload::Value(value) => value.copy(),
-        Payload::Base64(text) => Ok(Json::text(text.copy()?)),
-    }
-}
-
-// An event whole, or its data.
-fn read_as(alloc: Global, envelope: bool, event: &Event) -> Result<Json, AllocError>
-    ensures { IfOk result (λ v. v ≡ read_as envelope event.now) }
-{
-    if envelope {
-        event_json(alloc, event)
-    } else {
-        data_of(&event.payload)
-    }
-}
-
-// The events in the order in which they were taken.
-fn events_of(alloc: Global, spec: &ListenSpec, heard: &[Heard]) -> Result<Json, AllocError>
-    ensures { IfOk result (λ v. v ≡ events_of spec.now heard.now) }
-{
-    let mut events = Vec::new(alloc);
-    for one in heard {
-        events.push(read_as(alloc, spec.envelope, &one.event)?)?;
-    }
-    Json::list(alloc, events)
 }
 
 impl Rule<'_> {

@@ -7,13 +7,14 @@ ghost use Rattle.swf_meaning.specs.Lists.{comes_to, list_ended, turn, turn_guard
 ghost use Rattle.swf_meaning.specs.Node.{Live, At};
 ghost use Rattle.swf_rules.specs.Rules.{line_in};
 ghost use Rattle.swf_scene.specs.Halts.{Gives, Makes};
-ghost use Rattle.swf_scene.specs.Stack.{round_of, made_node, stepped_of};
+ghost use Rattle.swf_stack.specs.Stack.{round_of, made_node, stepped_of};
 
 use crate::rule::Rule;
 use std::alloc::AllocError;
 use swf_document::Flow;
 use swf_expr::Expr;
-use swf_scene::{Frame, Halt, Made, Round, SharedFrame, TaskRef, Top, Turn, within};
+use swf_scene::{Halt, within};
+use swf_stack::{Frame, Made, Round, SharedFrame, TaskRef, Top, Turn};
 use swf_value::{Json, JsonList};
 
 // So many turns have numbers.

@@ -13,7 +13,8 @@ use swf_document::{ErrorKind, Template};
 use swf_expr::Expr;
 use swf_jq_builtins::is_true;
 use swf_jq_eval::Vars;
-use swf_scene::{Halt, Running, Scene, fails, value_of, within};
+use swf_scene::{Halt, Scene, fails, value_of, within};
+use swf_stack::Running;
 use swf_transform::{Got, fill, first};
 use swf_value::Json;
 

@@ -8,7 +8,8 @@ ghost use Rattle.swf_scene.specs.Halts.{Gives, Makes};
 use crate::rule::Rule;
 use std::alloc::AllocError;
 use swf_document::{Case, Flow};
-use swf_scene::{Halt, Made};
+use swf_scene::Halt;
+use swf_stack::Made;
 
 // The first case without `when`.
 fn default_of(cases: &[Case]) -> Option<&Case>

@@ -7,11 +7,12 @@ ghost use Rattle.swf_meaning.specs.Node.{Live, Later};
 ghost use Rattle.swf_rules.specs.Rules.{line_in, site_in};
 ghost use Rattle.swf_rules.specs.Woken.{woken_to};
 ghost use Rattle.swf_scene.specs.Halts.{Makes};
-ghost use Rattle.swf_scene.specs.Stack.{waiting};
+ghost use Rattle.swf_stack.specs.Stack.{waiting};
 
 use crate::completion::becoming;
 use crate::rule::Rule;
-use swf_scene::{Halt, Made, Round, Top};
+use swf_scene::Halt;
+use swf_stack::{Made, Round, Top};
 
 impl Rule<'_> {
     // The task waits for so long from now, a `try` for the retry of this number.

@@ -13,16 +13,12 @@ use Rattle.swf_document.specs.declared.common.Flow.TheVariants as flows
 use Rattle.swf_document.specs.declared.error.Problem.{Problem}
 use Rattle.swf_meaning.specs.Around.{seen}
 use Rattle.swf_meaning.specs.Complete.{Stepped, step_of, complete}
-use Rattle.swf_meaning.specs.Enter.{enter}
 use Rattle.swf_meaning.specs.Fork.{count, branches_in, branches_inside, branches_among, most_branches, put, outputs, joined, settled, after_branch, competes}
 use Rattle.swf_meaning.specs.Line.{Line, Site}
-use Rattle.swf_meaning.specs.Listen.{heard}
-use Rattle.swf_meaning.specs.Lists.{comes_to}
-use Rattle.swf_meaning.specs.Local.{here, local, local_inside, local_branch, put_back, moved_on, failed}
-use Rattle.swf_meaning.specs.Node.{Node, Fresh, Live, Done, Fault, Inside, At, Later, Sleep, Hear, Forked, Nodes, no_nodes, branch, Round, Try, Running}
+use Rattle.swf_meaning.specs.Node.{Node, Fresh, Live, Done, Fault, Inside, At, Later, Sleep, Hear, Forked, Nodes, no_nodes, branch, Running}
 use Rattle.swf_meaning.specs.Offer.{or_same, takes_by, offered, offered_inside, offered_among, offered_one}
 use Rattle.swf_meaning.specs.Parts.{kind_of, listen_in}
-use Rattle.swf_meaning.specs.Wake.{woken, again}
+use Rattle.swf_meaning.specs.Put.{put_at, put_inside, put_branch}
 use Rattle.swf_meaning.specs.World.{World, Instance, empty, step_at, with_step, new_instance, site_of, line_of}
 use Rattle.swf_meaning.specs.declared.heard.Heard.{Heard}
 use Rattle.swf_meaning.specs.declared.key.Key.TheVariants.{Document as OfDocument, Instance as OfInstance, Event as OfEvent, Moment as OfMoment}
@@ -34,7 +30,7 @@ use Rattle.swf_runs.specs.Within.{IsWithin}
 use Rattle.swf_runs.specs.Runs.{world_at, Legal}
 use Rattle.swf_runs.proofs.KeepLemmas.{IdsAfter, ids_after}
 use Rattle.swf_runs.proofs.OnceLemmas.{mapped_some, refused_some}
-use Rattle.swf_runs.proofs.RuleLemmas.{AreFresh, IsMade, IsMadeInside, Yields, MayYield, if_some, completes, comes, moves_on, fails_on, hears, steps, enters}
+use Rattle.swf_runs.proofs.RuleLemmas.{AreFresh, IsMade, IsMadeInside, Yields, completes, local_put}
 use Rattle.swf_runs.proofs.WorldLemmas.{Change, change, change_all, legal_keeps}
 
 -- branches that have not begun have none inside
@@ -71,10 +67,6 @@ abbrev Gives : Site → ℕ → Result Stepped Problem → Type 0
 Gives s k (Ok m) = Fits s k m.node
 Gives s k (Err p) = Unit {0}
 
-abbrev Bounds : Site → ℕ → Option Stepped → Type 0
-Bounds s k None = Unit {0}
-Bounds s k (Some m) = Fits s k m.node
-
 yields_few : (s : Site) (k : ℕ) (o : Result Stepped Problem) → s.branches ≤ most_branches → Yields s o → Gives s k o
 yields_few s k (Ok m) few h = let f = made_few s m.node few h in omega (arith, f)
 yields_few s k (Err p) few h = tt
@@ -83,32 +75,20 @@ gives_on : (s : Site) (k : ℕ) (l : Line) (o : Result Stepped Problem) → s.br
 gives_on s k l (Ok m) few h = h
 gives_on s k l (Err p) few h = omega (arith, few)
 
-here_bounds : (s : Site) (k : ℕ) (l : Line) (bs : List ℕ) (o : Option (Result Stepped Problem)) → s.branches ≤ most_branches → MayYield s o → Bounds s k (here l bs o)
-here_bounds s k l [] None few h = tt
-here_bounds s k l [] (Some r) few h = let f = made_few s (step_of l r).node few (steps s l r h) in omega (arith, f)
-here_bounds s k l (b ∷ bs) o few h = tt
-
-put_bounds : (s : Site) (k : ℕ) (r : Running) (round : Round) (i : ℕ) (o : Option Stepped) → Bounds s k o → Bounds s k (put_back r round i o)
-put_bounds s k r round i None h = tt
-put_bounds s k r round i (Some m) h = h
-
 count_put : (ns : Nodes) (b : ℕ) (m : Node) → count (put ns b m) ≡ count ns
 count_put no_nodes b m = refl
 count_put (branch n ns) zero m = refl
 count_put (branch n ns) (suc b) m = ap suc (count_put ns b m)
 
--- what a branch comes to, in its place
-abbrev BoundsAmong : Site → Nodes → ℕ → Option Stepped → Type 0
-BoundsAmong s ns b None = Unit {0}
-BoundsAmong s ns b (Some m) = s.branches + branches_among (put ns b m.node) ≤ most_branches + branches_among ns
+-- with another branch in the place of one
+abbrev FitsAmong : Site → Nodes → ℕ → Node → Type 0
+FitsAmong s ns b m = s.branches + branches_among (put ns b m) ≤ most_branches + branches_among ns
 
-first_among : (s : Site) (n : Node) (ns : Nodes) (o : Option Stepped) → Bounds s (branches_in n) o → BoundsAmong s (branch n ns) zero o
-first_among s n ns None h = tt
-first_among s n ns (Some m) h = omega (arith, h)
+first_among : (s : Site) (n m : Node) (ns : Nodes) → Fits s (branches_in n) m → FitsAmong s (branch n ns) zero m
+first_among s n m ns h = omega (arith, h)
 
-later_among : (s : Site) (n : Node) (ns : Nodes) (b : ℕ) (o : Option Stepped) → BoundsAmong s ns b o → BoundsAmong s (branch n ns) (suc b) o
-later_among s n ns b None h = tt
-later_among s n ns b (Some m) h = omega (arith, h)
+later_among : (s : Site) (n m : Node) (ns : Nodes) (b : ℕ) → FitsAmong s ns b m → FitsAmong s (branch n ns) (suc b) m
+later_among s n m ns b h = omega (arith, h)
 
 either_few : (s : Site) (k : ℕ) (b : Bool) (x y : Result Stepped Problem) → Gives s k x → Gives s k y → Gives s k (cond b x y)
 either_few s k true x y h g = h
@@ -133,36 +113,36 @@ settles_few s k l r compete ns (Done w f) few h = by f
     by (flows.Task n) = done
 settles_few s k l r compete ns (Fault p) few h = tt
 
-branch_bounds : (s : Site) (l : Line) (r : Running) (ns : Nodes) (b : ℕ) (o : Option Stepped) → s.branches ≤ most_branches → BoundsAmong s ns b o → Bounds s (count ns + branches_among ns) (option_map (after_branch l r ns b) o)
-branch_bounds s l r ns b None few h = tt
-branch_bounds s l r ns b (Some m) few h =
+branch_few : (s : Site) (l : Line) (r : Running) (ns : Nodes) (b : ℕ) (m : Stepped) → s.branches ≤ most_branches → FitsAmong s ns b m.node → Fits s (count ns + branches_among ns) (after_branch l r ns b m).node
+branch_few s l r ns b m few h =
     let x = record l { context = m.context } in
     let k = count ns + branches_among ns in
     gives_on s k x (settled x r (competes r.task) (put ns b m.node) m.node) few
     (settles_few s k x r (competes r.task) (put ns b m.node) m.node few (omega (arith, h, count_put ns b m.node)))
 
+-- with a node of none in the place of the top
 mutual
-  local_bounds : (s : Site) (l : Line) (bs : List ℕ) (n : Node) → s.branches ≤ most_branches → Bounds s (branches_in n) (local s l bs n)
-  local_bounds s l bs (Fresh t v) few = here_bounds s zero l bs (Some (enter s l t v)) few (enters s l t v)
-  local_bounds s l bs (Live r k) few = inside_bounds s l bs r k few
-  local_bounds s l bs (Done w f) few = tt
-  local_bounds s l bs (Fault p) few = tt
+  put_few : (s : Site) (l : Line) (bs : List ℕ) (n : Node) (m : Stepped) → s.branches ≤ most_branches → Fits s zero m.node → Fits s (branches_in n) (put_at l bs n m).node
+  put_few s l bs (Fresh t v) m few h = h
+  put_few s l bs (Live r k) m few h = inside_few s l bs r k m few h
+  put_few s l bs (Done w f) m few h = h
+  put_few s l bs (Fault p) m few h = h
 
-  inside_bounds : (s : Site) (l : Line) (bs : List ℕ) (r : Running) (k : Inside) → s.branches ≤ most_branches → Bounds s (branches_inside k) (local_inside s l bs r k)
-  inside_bounds s l bs r (At round i (Fresh t v)) few = put_bounds s zero r round i (local s (seen l r.task round) bs (Fresh t v)) (local_bounds s (seen l r.task round) bs (Fresh t v) few)
-  inside_bounds s l bs r (At round i (Live q k)) few = put_bounds s (branches_inside k) r round i (local s (seen l r.task round) bs (Live q k)) (local_bounds s (seen l r.task round) bs (Live q k) few)
-  inside_bounds s l bs r (At round i (Done w f)) few = here_bounds s zero l bs (Some (moved_on l r round i w f)) few (moves_on s l r round i w f)
-  inside_bounds s l bs r (At round i (Fault p)) few = here_bounds s zero l bs (Some (failed s l r round p)) few (fails_on s l r round p)
-  inside_bounds s l bs r (Later n until) few = here_bounds s zero l bs (again s l r n until) few (if_some s (nat_le until s.now) (comes_to l r (Try n) zero r.input) (comes s l r (Try n) zero r.input))
-  inside_bounds s l bs r (Sleep until) few = here_bounds s zero l bs (woken s l r until) few (if_some s (nat_le until s.now) (complete l r r.input) (completes s l r r.input))
-  inside_bounds s l bs r (Hear bound hs) few = here_bounds s zero l bs (heard l r hs) few (hears s l r hs (listen_in (kind_of r.task)))
-  inside_bounds s l [] r (Forked ns) few = tt
-  inside_bounds s l (b ∷ bs) r (Forked ns) few = branch_bounds s l r ns b (local_branch s l b bs ns) few (among_bounds s l b bs ns few)
+  inside_few : (s : Site) (l : Line) (bs : List ℕ) (r : Running) (k : Inside) (m : Stepped) → s.branches ≤ most_branches → Fits s zero m.node → Fits s (branches_inside k) (put_inside l bs r k m).node
+  inside_few s l bs r (At round i (Fresh t v)) m few h = h
+  inside_few s l bs r (At round i (Live q k)) m few h = inside_few s (seen l r.task round) bs q k m few h
+  inside_few s l bs r (At round i (Done w f)) m few h = h
+  inside_few s l bs r (At round i (Fault p)) m few h = h
+  inside_few s l bs r (Later n until) m few h = h
+  inside_few s l bs r (Sleep until) m few h = h
+  inside_few s l bs r (Hear bound hs) m few h = h
+  inside_few s l [] r (Forked ns) m few h = omega (arith, h)
+  inside_few s l (b ∷ bs) r (Forked ns) m few h = branch_few s l r ns b (put_branch l b bs ns m) few (among_few s l b bs ns m few h)
 
-  among_bounds : (s : Site) (l : Line) (b : ℕ) (bs : List ℕ) (ns : Nodes) → s.branches ≤ most_branches → BoundsAmong s ns b (local_branch s l b bs ns)
-  among_bounds s l b bs no_nodes few = tt
-  among_bounds s l zero bs (branch n ns) few = first_among s n ns (local s l bs n) (local_bounds s l bs n few)
-  among_bounds s l (suc b) bs (branch n ns) few = later_among s n ns b (local_branch s l b bs ns) (among_bounds s l b bs ns few)
+  among_few : (s : Site) (l : Line) (b : ℕ) (bs : List ℕ) (ns : Nodes) (m : Stepped) → s.branches ≤ most_branches → Fits s zero m.node → FitsAmong s ns b (put_branch l b bs ns m).node
+  among_few s l b bs no_nodes m few h = omega (arith, few)
+  among_few s l zero bs (branch n ns) m few h = first_among s n (put_at l bs n m).node ns (put_few s l bs n m few h)
+  among_few s l (suc b) bs (branch n ns) m few h = later_among s n (put_branch l b bs ns m).node ns b (among_few s l b bs ns m few h)
 
 -- an offer changes no number of branches
 or_same_few : (bound : Members) (hs : List Heard) (o : Option (Members × List Heard)) → branches_inside (or_same bound hs o).0 ≡ zero
@@ -197,7 +177,11 @@ IsFew i = branches_in i.node ≤ most_branches
 
 step_few : (now : ℕ) (strand : List ℕ) (i : Instance) (m : Stepped) → step_at now strand i ≡ Some m → IsFew i → IsFew (with_step i m)
 step_few now strand i m e few =
-    let h : branches_in i.node + branches_in m.node ≤ most_branches + branches_in i.node = subst (Bounds (site_of now i) (branches_in i.node)) e (local_bounds (site_of now i) (line_of i) strand i.node few) in
+    let s = site_of now i in
+    let l = line_of i in
+    let p = local_put s l strand i.node m e in
+    let made = made_few s p.0.node few p.1 in
+    let h : branches_in i.node + branches_in m.node ≤ most_branches + branches_in i.node = subst (λ (x : Stepped). Fits s (branches_in i.node) x.node) (sym p.2) (put_few s l strand i.node p.0 few (omega (arith, made))) in
     omega (arith, h)
 
 offer_few : (e : Event) (i : Instance) → IsFew i → IsFew (offered_one e i)

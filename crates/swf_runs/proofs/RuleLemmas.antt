@@ -1,6 +1,8 @@
 -- What kinds of node the rules make.
-use Rattle.std.proofs.Common.{◌≡◌, refl, cond, ℕ, zero, ◌+◌, ◌≤◌, List, [], nat_le, nat_lt, length, Bool, true, false, Option, Some, None, Result, Ok, Err, codes}
+use Rattle.std.proofs.Common.{◌≡◌, refl, sym, subst, cond, ℕ, zero, ◌+◌, ◌≤◌, List, [], nat_le, nat_lt, length, Bool, true, false, Option, Some, None, Result, Ok, Err, codes}
 use Rattle.std.proofs.lemmas.Bool.{leb-true}
+use Rattle.std.proofs.lemmas.Option.{option_and_then_some}
+use Rattle.std.specs.Prelude.{option_and_then}
 use Rattle.swf_expr.specs.Expr.{Tree}
 use Rattle.swf_value.specs.Value.{Value, list}
 use Rattle.swf_value.specs.Members.{values_of}
@@ -25,15 +27,18 @@ use Rattle.swf_meaning.specs.Fork.{fresh, split, forking, count, most_branches}
 use Rattle.swf_meaning.specs.Line.{Line, Site, within, is_workflow}
 use Rattle.swf_meaning.specs.Listen.{bound_by, correlations, heard_by, is_satisfied, events_of}
 use Rattle.swf_meaning.specs.Lists.{list_of, guard_of, begins_with, turn_decided, turn_guarded, turn, list_ended, arrives, comes_to, goes_to}
-use Rattle.swf_meaning.specs.Local.{moved_on, caught_by, failed}
+use Rattle.swf_meaning.specs.Local.{moved_on, caught_by, failed, rule, local}
 use Rattle.swf_meaning.specs.Next.{Goal, Place, ListEnd, WorkflowEnd, task_at, ended, next}
 use Rattle.swf_meaning.specs.Node.{Node, Fresh, Live, Done, Fault, Inside, At, Later, Sleep, Hear, Forked, Nodes, no_nodes, branch, Round, Seq, Each, Try, Catch, Running}
-use Rattle.swf_meaning.specs.Parts.{Catching, kind_of, common_of, try_in}
+use Rattle.swf_meaning.specs.Parts.{Catching, kind_of, common_of, listen_in, try_in}
+use Rattle.swf_meaning.specs.Put.{put_at}
 use Rattle.swf_meaning.specs.Raise.{raised_by}
 use Rattle.swf_meaning.specs.Rule.{◌>>=◌, fails, value_of}
 use Rattle.swf_meaning.specs.Switch.{taken, default_of, flow_by}
+use Rattle.swf_meaning.specs.Top.{Top, Begins, Moves, Fails, Retries, Sleeps, Hears, Splits, Ends, Breaks, top_at, line_at}
 use Rattle.swf_meaning.specs.Try.{Verdict, Pass, Again, Handle, Stay, Give, verdict, by_verdict}
 use Rattle.swf_meaning.specs.declared.heard.Heard.{Heard}
+use Rattle.swf_runs.proofs.OnceLemmas.{mapped_some}
 
 -- where a list stands that begins or goes on
 abbrev pub IsBeginning : Node → Type 0
@@ -89,7 +94,7 @@ by_either : (s : Site) (b : Bool) (x y : Result Stepped Problem) → Yields s x 
 by_either s true x y h k = h
 by_either s false x y h k = k
 
-pub if_some : (s : Site) (b : Bool) (r : Result Stepped Problem) → Yields s r → MayYield s (cond b (Some r) None)
+if_some : (s : Site) (b : Bool) (r : Result Stepped Problem) → Yields s r → MayYield s (cond b (Some r) None)
 if_some s true r h = h
 if_some s false r h = tt
 
@@ -131,7 +136,7 @@ arrival : (s : Site) (l : Line) (r : Running) (round : Round) (i : ℕ) (w : Val
 arrival s l r round i w None = list_ends s l r round w
 arrival s l r round i w (Some t) = tt
 
-pub comes : (s : Site) (l : Line) (r : Running) (round : Round) (i : ℕ) (w : Value) → Yields s (comes_to l r round i w)
+comes : (s : Site) (l : Line) (r : Running) (round : Round) (i : ℕ) (w : Value) → Yields s (comes_to l r round i w)
 comes s l r round i w = arrival s l r round i w (task_at (list_of r.task round) i)
 
 ends : (s : Site) (l : Line) (r : Running) (w : Value) → Yields s (ended l r w)
@@ -144,7 +149,7 @@ goes s l r round w (Place i) = comes s l r round i w
 goes s l r round w ListEnd = list_ends s l r round w
 goes s l r round w WorkflowEnd = ends s l r w
 
-pub moves_on : (s : Site) (l : Line) (r : Running) (round : Round) (i : ℕ) (w : Value) (f : Flow) → Yields s (moved_on l r round i w f)
+moves_on : (s : Site) (l : Line) (r : Running) (round : Round) (i : ℕ) (w : Value) (f : Flow) → Yields s (moved_on l r round i w f)
 moves_on s l r round i w f = goes s l r round w (next (list_of r.task round) i f)
 
 decides : (s : Site) (l : Line) (r : Running) (n : ℕ) (p : Problem) (v : Verdict) → Yields s (by_verdict s l r n p v)
@@ -158,17 +163,17 @@ catches : (s : Site) (l : Line) (r : Running) (n : ℕ) (p : Problem) (o : Optio
 catches s l r n p None = tt
 catches s l r n p (Some c) = after_part s (verdict l r n p c.errors c.handler) (by_verdict s l r n p) (decides s l r n p)
 
-pub fails_on : (s : Site) (l : Line) (r : Running) (round : Round) (p : Problem) → Yields s (failed s l r round p)
+fails_on : (s : Site) (l : Line) (r : Running) (round : Round) (p : Problem) → Yields s (failed s l r round p)
 fails_on s l r Seq p = tt
 fails_on s l r (Each items j) p = tt
 fails_on s l r (Try n) p = catches s l r n p (try_in (kind_of r.task))
 fails_on s l r (Catch q) p = tt
 
-pub hears : (s : Site) (l : Line) (r : Running) (hs : List Heard) (o : Option ListenSpec) → MayYield s (heard_by l r hs o)
+hears : (s : Site) (l : Line) (r : Running) (hs : List Heard) (o : Option ListenSpec) → MayYield s (heard_by l r hs o)
 hears s l r hs None = tt
 hears s l r hs (Some spec) = if_some s (is_satisfied spec hs) (complete l r (events_of spec hs)) (completes s l r (events_of spec hs))
 
-pub steps : (s : Site) (l : Line) (o : Result Stepped Problem) → Yields s o → IsMade s (step_of l o).node
+steps : (s : Site) (l : Line) (o : Result Stepped Problem) → Yields s o → IsMade s (step_of l o).node
 steps s l (Ok m) h = h
 steps s l (Err p) h = tt
 
@@ -218,5 +223,27 @@ guards : (s : Site) (l : Line) (r : Running) (o : Option Tree) → Yields s (gua
 guards s l r None = begins_as s l r (kind_of r.task)
 guards s l r (Some e) = after_part s (asked r.task (within l r) r.input e) (begun_if s l r) (begins_if s l r)
 
-pub enters : (s : Site) (l : Line) (t : Task) (v : Value) → Yields s (enter s l t v)
+enters : (s : Site) (l : Line) (t : Task) (v : Value) → Yields s (enter s l t v)
 enters s l t v = after_part s (input_of l t v) (λ u. guarded s l (record { task = t; raw = v; input = u }) (common_of t).cond) (λ u. guards s l (record { task = t; raw = v; input = u }) (common_of t).cond)
+
+-- the rule of a top
+rules : (s : Site) (l : Line) (t : Top) → MayYield s (rule s l t)
+rules s l (Begins t v) = enters s l t v
+rules s l (Moves r round i w f) = moves_on s l r round i w f
+rules s l (Fails r round i p) = fails_on s l r round p
+rules s l (Retries r n until) = if_some s (nat_le until s.now) (comes_to l r (Try n) zero r.input) (comes s l r (Try n) zero r.input)
+rules s l (Sleeps r until) = if_some s (nat_le until s.now) (complete l r r.input) (completes s l r r.input)
+rules s l (Hears r bound hs) = hears s l r hs (listen_in (kind_of r.task))
+rules s l (Splits r ns) = tt
+rules s l (Ends w f) = tt
+rules s l (Breaks p) = tt
+
+-- a step of a strand puts such a node in the place of its top
+abbrev pub IsPut : Site → Line → List ℕ → Node → Stepped → Type 0
+IsPut s l bs n m = (x : Stepped) × IsMade s x.node × (m ≡ put_at l bs n x)
+
+pub local_put : (s : Site) (l : Line) (bs : List ℕ) (n : Node) (m : Stepped) → local s l bs n ≡ Some m → IsPut s l bs n m
+local_put s l bs n m e =
+    let z = line_at l bs n in
+    mapped_some (λ x. put_at l bs n (step_of z x)) (option_and_then (rule s z) (top_at bs n)) m e
+    (λ x p q. option_and_then_some (rule s z) (top_at bs n) x p (λ t a b. (step_of z x, steps s z x (subst (MayYield s) b (rules s z t)), sym q)))

@@ -48,8 +48,10 @@ ended_sent id (Some e) is i h p = ended_heard id e is i h p
 ended_still : (s : Site) (l : Line) (bs : List ℕ) (n : Node) → has_ended n ≡ true → local s l bs n ≡ None
 ended_still s l bs (Fresh t v) h = cc
 ended_still s l bs (Live r k) h = cc
-ended_still s l bs (Done w f) h = refl
-ended_still s l bs (Fault p) h = refl
+ended_still s l [] (Done w f) h = refl
+ended_still s l (b ∷ bs) (Done w f) h = refl
+ended_still s l [] (Fault p) h = refl
+ended_still s l (b ∷ bs) (Fault p) h = refl
 
 -- the one that takes a step has not ended
 stepped_ended : (now : ℕ) (strand : List ℕ) (x i : Instance) (m : Stepped) → has_ended i.node ≡ true → step_at now strand x ≡ Some m → Some x ≡ Some i → ⊥

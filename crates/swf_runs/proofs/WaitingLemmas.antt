@@ -19,13 +19,13 @@ use Rattle.swf_runs.specs.After.{after}
 use Rattle.swf_runs.specs.Alive.{has_ended, some_goes_on, IsAlive, IsAliveInside, AreAlive, IsAllAlive}
 use Rattle.swf_runs.specs.Waiting.{IsListed, IsWaitListed}
 use Rattle.swf_runs.specs.Runs.{world_at, Legal}
-use Rattle.swf_runs.proofs.AliveLemmas.{Leads, local_alive}
+use Rattle.swf_runs.proofs.AliveLemmas.{local_alive}
 use Rattle.swf_runs.proofs.OfferLemmas.{alive_offered}
 use Rattle.swf_runs.proofs.WorldLemmas.{change, change_all, legal_keeps}
 
 -- each step and each offer leaves an instance alive
 step_alive : (now : ℕ) (strand : List ℕ) (i : Instance) (m : Stepped) → step_at now strand i ≡ Some m → IsAlive i.node → IsAlive (with_step i m).node
-step_alive now strand i m s a = subst Leads s (local_alive (site_of now i) (line_of i) strand i.node a)
+step_alive now strand i m s a = local_alive (site_of now i) (line_of i) strand i.node m s a
 
 alive_after : (w m : World) (l : Label) → IsAllAlive w → after w l ≡ Some m → IsAllAlive m
 alive_after w m l all e = change_all (λ i. IsAlive i.node) w m (λ id input d. tt) step_alive (λ x i a. alive_offered x i.node a) all (change w m l e)

@@ -16,7 +16,7 @@ use Rattle.swf_meaning.specs.Rule.{◌>>=◌, fails, value_of}
 use Rattle.swf_scene.specs.Halts.{Gives, Makes, IsFault}
 use Rattle.swf_scene.specs.declared.halt.Halt.{Halt}
 use Rattle.swf_scene.specs.declared.halt.Halt.TheVariants as halts
-use Rattle.swf_scene.specs.declared.made.Made.{Made}
+use Rattle.swf_stack.specs.declared.made.Made.{Made}
 
 -- without memory
 pub Gives-memory : {A : Type 0} (m : Result A Problem) (e : Halt) → e ≡ halts.OutOfMemory → Gives m (Err e)

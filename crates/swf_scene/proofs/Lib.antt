@@ -1,6 +1,3 @@
-pub mod TaskLemmas
 pub mod SightLemmas
-pub mod RoundLemmas
 pub mod SettingLemmas
 pub mod HaltLemmas
-pub mod LayerLemmas

@@ -6,10 +6,10 @@ use Rattle.swf_document.specs.declared.error.ErrorKind.{ErrorKind}
 use Rattle.swf_document.specs.declared.error.Problem.{Problem}
 use Rattle.swf_meaning.specs.Complete.{Stepped}
 use Rattle.swf_meaning.specs.Parts.{place_of}
-use Rattle.swf_scene.specs.Stack.{stepped_of}
+use Rattle.swf_stack.specs.Stack.{stepped_of}
 use Rattle.swf_scene.specs.declared.halt.Halt.{Halt}
 use Rattle.swf_scene.specs.declared.halt.Halt.TheVariants as halts
-use Rattle.swf_scene.specs.declared.made.Made.{Made}
+use Rattle.swf_stack.specs.declared.made.Made.{Made}
 
 -- a standard error of the task
 abbrev pub IsFault : Task → ErrorKind → List ℕ → Halt → Type 0

@@ -1,7 +1,3 @@
 pub mod Words
-pub mod Source
-pub mod TaskRef
-pub mod Stack
+pub mod Setting
 pub mod Halts
-pub mod FrameCode
-pub mod Layers

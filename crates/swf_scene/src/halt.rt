@@ -7,9 +7,9 @@ ghost use Rattle.swf_scene.specs.declared.halt.Halt.TheVariants.{OutOfMemory};
 ghost use Rattle.swf_meaning.specs.Rule.{value_of};
 ghost use Rattle.swf_scene.specs.Halts.{IsFault, Gives};
 
-use crate::task::TaskRef;
 use std::alloc::{AllocError, AllocFailed, Global};
 use swf_document::{ErrorKind, Problem, standard_error};
+use swf_stack::TaskRef;
 use swf_transform::{Got, message};
 use swf_value::Json;
 

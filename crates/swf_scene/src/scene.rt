@@ -1,18 +1,18 @@
 // What the tasks of an instance go by.
 ghost use Rattle.std.specs.Prelude.{◌≡◌, ◌++◌, [], IfOk};
 ghost use Rattle.swf_meaning.specs.Around.{seen};
-ghost use Rattle.swf_scene.specs.Layers.{frames_of};
-ghost use Rattle.swf_scene.specs.Stack.{line_of, site_of, setting_line, seen_in, round_of, alone};
+ghost use Rattle.swf_stack.specs.Layers.{frames_of};
+ghost use Rattle.swf_stack.specs.Stack.{seen_in, round_of};
+ghost use Rattle.swf_scene.specs.Setting.{line_of, site_of, setting_line, alone};
 
-use crate::made::{Layer, Round};
 use crate::setting::Setting;
 use crate::sight::{copy_variables, push_seen};
 use crate::site::Site;
-use crate::task::TaskRef;
 use crate::words::Words;
 use std::alloc::{AllocError, Global};
 use swf_duration::Moment;
 use swf_jq_eval::Variable;
+use swf_stack::{Layer, Round, TaskRef};
 use swf_value::Json;
 
 /// What a step goes by: the instance's setting, its context, how many branches it has, the moment, the variables around the task

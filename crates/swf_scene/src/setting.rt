@@ -4,11 +4,11 @@ ghost use Rattle.std.specs.Coded.{Coded-set};
 ghost use Rattle.swf_value.specs.ValueCode.{value_code};
 ghost use Rattle.swf_meaning.specs.Line.{epoch, workflow_value};
 
-use crate::shared::SharedDocument;
 use crate::site::Site;
 use crate::words::Words;
 use std::alloc::{AllocError, Global};
 use swf_duration::Moment;
+use swf_stack::SharedDocument;
 use swf_text::Text;
 use swf_value::{Json, Member};
 
@@ -29,7 +29,7 @@ pub struct Setting {
 impl Setting {
     ghost use Rattle.swf_value.specs.Value.{null};
     ghost use Rattle.swf_meaning.specs.Node.{Node};
-    ghost use Rattle.swf_scene.specs.Stack.{instance_of};
+    ghost use Rattle.swf_scene.specs.Setting.{instance_of};
 
     /// That of an instance that has just begun.
     pub fn new(

@@ -7,18 +7,17 @@ ghost use Rattle.swf_meaning.specs.Line.{variable, last_part, task_value, of_wor
 ghost use Rattle.swf_meaning.specs.Around.{round_variables};
 ghost use Rattle.swf_meaning.specs.Parts.{kind_of};
 ghost use Rattle.swf_meaning.specs.Try.{catching, retrying};
-ghost use Rattle.swf_scene.specs.Stack.{line_of, round_of};
-ghost use Rattle.swf_scene.specs.TaskRef.{loop_variables};
+ghost use Rattle.swf_stack.specs.Stack.{round_of};
+ghost use Rattle.swf_scene.specs.Setting.{line_of};
+ghost use Rattle.swf_stack.specs.TaskRef.{loop_variables};
 
-use crate::made::{Round, Turn};
-use crate::running::Running;
 use crate::scene::Scene;
 use crate::setting::push_named;
-use crate::task::{TaskRef, Work};
 use crate::words::Words;
 use std::alloc::{AllocError, Global};
 use swf_document::{ForSpec, Problem, problem_value};
 use swf_jq_eval::{Variable, Vars};
+use swf_stack::{Round, Running, TaskRef, Turn, Work};
 use swf_text::{Place, Text, pointer_text, word};
 use swf_value::Json;
 

@@ -6,11 +6,11 @@ use Rattle.swf_frames.specs.Tree.{Tree, Branch, find, numbers}
 use Rattle.swf_frames.specs.Paths.{nth}
 use Rattle.swf_meaning.specs.Node.{Node, Fresh, Live, Done, Fault, Inside, At, Later, Sleep, Hear, Forked, Nodes, no_nodes, branch, Running}
 use Rattle.swf_meaning.specs.Wake.{waits, waits_inside, waits_among}
-use Rattle.swf_scene.specs.Layers.{frames_of, top_of}
-use Rattle.swf_scene.specs.Stack.{top_node, forked}
-use Rattle.swf_scene.specs.declared.made.Layer.{Layer}
-use Rattle.swf_scene.specs.declared.made.Top.{Top}
-use Rattle.swf_scene.specs.declared.made.Top.TheVariants as tops
+use Rattle.swf_stack.specs.Layers.{frames_of, top_of}
+use Rattle.swf_stack.specs.Stack.{top_node, forked}
+use Rattle.swf_stack.specs.declared.made.Layer.{Layer}
+use Rattle.swf_stack.specs.declared.made.Top.{Top}
+use Rattle.swf_stack.specs.declared.made.Top.TheVariants as tops
 use Rattle.swf_strands.specs.Alarm.{alarm_of, earlier, until_in, until_in_top}
 use Rattle.swf_strands.specs.Forks.{layers_node}
 use Rattle.swf_strands.specs.Strands.{nodes_of, node_of, root_node, is_fork, IsGrown, IsGrownAt, IsHeld}

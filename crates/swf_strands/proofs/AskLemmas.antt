@@ -14,21 +14,23 @@ use Rattle.swf_frames.specs.Tree.{Tree, Strands, no_strands, strand, Branch, fin
 use Rattle.swf_frames.specs.Paths.{Found, nth}
 use Rattle.swf_meaning.specs.Listen.{is_heard}
 use Rattle.swf_meaning.specs.Local.{is_enabled, is_enabled_inside, is_some_enabled}
-use Rattle.swf_meaning.specs.Node.{Node, Fresh, Live, Done, Fault, Inside, Hear, Forked, Nodes, no_nodes, branch, Running}
-use Rattle.swf_meaning.specs.Strands.{can_go, can_go_inside}
+use Rattle.swf_meaning.specs.Node.{Node, Live, Done, Fault, Inside, Hear, Forked, Nodes, no_nodes, branch, Running}
+use Rattle.swf_meaning.specs.Strands.{can_go, can_top}
+use Rattle.swf_meaning.specs.Top.{top_is}
 use Rattle.swf_meaning.specs.Wake.{waits, waits_among}
 use Rattle.swf_meaning.specs.declared.heard.Heard.{Heard}
-use Rattle.swf_scene.specs.Layers.{frames_of, top_of}
-use Rattle.swf_scene.specs.Stack.{plug, top_node, forked, waiting}
-use Rattle.swf_scene.specs.declared.made.Frame.{Frame}
-use Rattle.swf_scene.specs.declared.made.Layer.{Layer}
-use Rattle.swf_scene.specs.declared.made.Top.{Top}
-use Rattle.swf_scene.specs.declared.made.Top.TheVariants as tops
+use Rattle.swf_stack.specs.Layers.{frames_of, top_of}
+use Rattle.swf_stack.specs.Stack.{plug, top_node, forked, waiting}
+use Rattle.swf_stack.specs.declared.made.Frame.{Frame}
+use Rattle.swf_stack.specs.declared.made.Layer.{Layer}
+use Rattle.swf_stack.specs.declared.made.Top.{Top}
+use Rattle.swf_stack.specs.declared.made.Top.TheVariants as tops
 use Rattle.swf_strands.specs.Asked.{is_by, holds_here, holds, holds_among}
 use Rattle.swf_strands.specs.declared.ask.Question.{Question}
 use Rattle.swf_strands.specs.declared.ask.Question.TheVariants.{CanGo, IsDue}
 use Rattle.swf_strands.specs.Strands.{nodes_of, node_of, is_fork, IsGrownAt, IsHeld, most_beside}
 use Rattle.swf_strands.specs.Ways.{own_until, own_until_inside}
+use Rattle.swf_strands.proofs.TopLemmas.{top-live, top-fresh}
 use Rattle.swf_strands.proofs.TreeLemmas.{nothing, nth_node, nth_node-of, nth_node-none, fork-node, plain-node, waiting-forked, held-is, IsChild}
 
 -- ---- how many strands stand below another
@@ -101,15 +103,8 @@ from-end b i e = nodes_from-none (nodes_of b.below) i (nth_node-none b.below i e
 
 -- ---- what stands innermost decides for the strand
 
-pub can_go-live : (now : ℕ) (fs : List Frame) (r : Running) (k : Inside) → can_go now [] (plug fs (Live r k)) ≡ can_go_inside now [] r.task k
-can_go-live now [] r k = refl
-can_go-live now (f ∷ []) r k = refl
-can_go-live now (f ∷ g ∷ gs) r k = can_go-live now (g ∷ gs) r k
-
-can_go-fresh : (now : ℕ) (fs : List Frame) (t : Task) (v : Value) → can_go now [] (plug fs (Fresh t v)) ≡ true
-can_go-fresh now [] t v = refl
-can_go-fresh now (f ∷ []) t v = refl
-can_go-fresh now (f ∷ g ∷ gs) t v = can_go-fresh now (g ∷ gs) t v
+pub can_go-live : (now : ℕ) (fs : List Frame) (r : Running) (k : Inside) → can_go now [] (plug fs (Live r k)) ≡ can_go now [] (Live r k)
+can_go-live now fs r k = ap (top_is (can_top now)) (top-live [] fs r k)
 
 can_go-done : (now : ℕ) (fs : List Frame) (w : Value) (d : Flow) → can_go now [] (plug fs (Done w d)) ≡ not (length fs == 0)
 can_go-done now [] w d = refl
@@ -121,9 +116,9 @@ can_go-fault now [] p = refl
 can_go-fault now (f ∷ []) p = refl
 can_go-fault now (f ∷ g ∷ gs) p = can_go-fault now (g ∷ gs) p ∙ ap not (eqb-suc-zero (length gs)) ∙ sym (ap not (eqb-suc-zero (suc (length gs))))
 
-pub can_go-until : (now : ℕ) (t : Task) (n : Option ℕ) (m : ℕ) → can_go_inside now [] t (waiting n m) ≡ nat_le m now
-can_go-until now t None m = refl
-can_go-until now t (Some n) m = refl
+pub can_go-until : (now : ℕ) (r : Running) (n : Option ℕ) (m : ℕ) → can_go now [] (Live r (waiting n m)) ≡ nat_le m now
+can_go-until now r None m = refl
+can_go-until now r (Some n) m = refl
 
 -- a top with these branches below it
 abbrev pub goes : ℕ → List Frame → Top → Nodes → Bool
@@ -133,7 +128,7 @@ goes-is : (now : ℕ) (fs : List Frame) (t x : Top) (ns : Nodes) (b : Bool) → 
 goes-is now fs t x ns b e h = sym (ap (λ y. goes now fs y ns) e ∙ h)
 
 pub goes-fresh : (now : ℕ) (fs : List Frame) (t : Top) (ns : Nodes) (r : Task) (v : Value) → t ≡ tops.Fresh r v → true ≡ goes now fs t ns
-goes-fresh now fs t ns r v e = goes-is now fs t (tops.Fresh r v) ns true e (can_go-fresh now fs r v)
+goes-fresh now fs t ns r v e = goes-is now fs t (tops.Fresh r v) ns true e (ap (top_is (can_top now)) (top-fresh [] fs r v))
 
 pub goes-done : (now : ℕ) (fs : List Frame) (t : Top) (ns : Nodes) (w : Value) (d : Flow) (n : ℕ) (b : Bool) → t ≡ tops.Done w d → n ≡ length fs → b ≡ (n == 0) → not b ≡ goes now fs t ns
 goes-done now fs t ns w d n b e l h = goes-is now fs t (tops.Done w d) ns (not b) e (can_go-done now fs w d ∙ ap (λ m. not (m == 0)) (sym l) ∙ ap not (sym h))
@@ -144,7 +139,7 @@ goes-fault now fs t ns p n b e l h = goes-is now fs t (tops.Fault p) ns (not b) 
 pub goes-waiting : (now : ℕ) (fs : List Frame) (t : Top) (ns : Nodes) (r : Running) (n : Option ℕ) (m : ℕ) → t ≡ tops.Waiting r n m → nat_le m now ≡ goes now fs t ns
 goes-waiting now fs t ns r n m e =
     goes-is now fs t (tops.Waiting r n m) ns (nat_le m now) e
-    (ap (λ x. can_go now [] (plug fs x)) (waiting-forked r n m ns) ∙ can_go-live now fs r (waiting n m) ∙ can_go-until now r.task n m)
+    (ap (λ x. can_go now [] (plug fs x)) (waiting-forked r n m ns) ∙ can_go-live now fs r (waiting n m) ∙ can_go-until now r n m)
 
 pub goes-hearing : (now : ℕ) (fs : List Frame) (t : Top) (ns : Nodes) (r : Running) (bound : Members) (hs : List Heard) → t ≡ tops.Hearing r bound hs → is_heard r.task hs ≡ goes now fs t ns
 goes-hearing now fs t ns r bound hs e = goes-is now fs t (tops.Hearing r bound hs) ns (is_heard r.task hs) e (can_go-live now fs r (Hear bound hs))

@@ -12,12 +12,12 @@ use Rattle.swf_frames.proofs.PathLemmas.{edit-edit, edit-same, edit-walk, find-e
 use Rattle.swf_meaning.specs.Fork.{branches_of, fresh as fresh_nodes}
 use Rattle.swf_meaning.specs.Next.{task_at}
 use Rattle.swf_meaning.specs.Node.{Node, Live, Fresh, Forked, branch, Running}
-use Rattle.swf_scene.specs.Layers.{frames_of, top_of, running}
-use Rattle.swf_scene.specs.Stack.{plug, top_node, forked, made_node}
-use Rattle.swf_scene.specs.declared.made.Layer.{Layer}
-use Rattle.swf_scene.specs.declared.made.Layer.TheVariants as layers
-use Rattle.swf_scene.specs.declared.made.Top.{Top}
-use Rattle.swf_scene.specs.declared.made.Top.TheVariants as tops
+use Rattle.swf_stack.specs.Layers.{frames_of, top_of, running}
+use Rattle.swf_stack.specs.Stack.{plug, top_node, forked, made_node}
+use Rattle.swf_stack.specs.declared.made.Layer.{Layer}
+use Rattle.swf_stack.specs.declared.made.Layer.TheVariants as layers
+use Rattle.swf_stack.specs.declared.made.Top.{Top}
+use Rattle.swf_stack.specs.declared.made.Top.TheVariants as tops
 use Rattle.swf_strands.specs.Forks.{branches_in, fresh_layers, layers_node, IsPutAnew}
 use Rattle.swf_strands.specs.Strands.{node_of, nodes_of, root_node, is_fork, made_layers, most_beside, IsStack, IsGrown, IsGrownAt, IsHeld}
 use Rattle.swf_strands.specs.Ways.{has_strand, replaced}

@@ -1,5 +1,6 @@
 pub mod StrandLemmas
 pub mod TreeLemmas
+pub mod TopLemmas
 pub mod AskLemmas
 pub mod NameLemmas
 pub mod OrderLemmas

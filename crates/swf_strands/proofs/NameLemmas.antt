@@ -5,12 +5,12 @@ use Rattle.swf_frames.specs.Tree.{Tree, Branch, find}
 use Rattle.swf_frames.specs.Paths.{nth}
 use Rattle.swf_meaning.specs.Node.{Node, Live, Forked}
 use Rattle.swf_meaning.specs.Strands.{strands, strands_below, strands_from}
-use Rattle.swf_scene.specs.Layers.{frames_of, top_of}
-use Rattle.swf_scene.specs.Stack.{plug, top_node}
-use Rattle.swf_scene.specs.declared.made.Frame.{Frame}
-use Rattle.swf_scene.specs.declared.made.Layer.{Layer}
-use Rattle.swf_scene.specs.declared.made.Top.{Top}
-use Rattle.swf_scene.specs.declared.made.Top.TheVariants as tops
+use Rattle.swf_stack.specs.Layers.{frames_of, top_of}
+use Rattle.swf_stack.specs.Stack.{plug, top_node}
+use Rattle.swf_stack.specs.declared.made.Frame.{Frame}
+use Rattle.swf_stack.specs.declared.made.Layer.{Layer}
+use Rattle.swf_stack.specs.declared.made.Top.{Top}
+use Rattle.swf_stack.specs.declared.made.Top.TheVariants as tops
 use Rattle.swf_strands.specs.Strands.{nodes_of, node_of, is_fork, IsGrownAt, IsHeld}
 use Rattle.swf_strands.proofs.AskLemmas.{nodes_from, from-child, from-end}
 use Rattle.swf_strands.proofs.TreeLemmas.{fork-node, plain-node, held-is, IsChild}

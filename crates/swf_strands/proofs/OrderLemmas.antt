@@ -1,38 +1,22 @@
 -- The way to a strand that can take a step.
-use Rattle.std.proofs.Common.{◌≡◌, ◌∙◌, refl, sym, ap, subst, ℕ, zero, suc, Bool, true, false, List, [], ◌∷◌, ◌++◌, Some, Ok, Err, append_assoc, append-nil}
+use Rattle.std.proofs.Common.{◌≡◌, ◌∙◌, sym, ap, subst, ℕ, Bool, true, false, List, [], ◌∷◌, ◌++◌, Some, Ok, Err, append_assoc, append-nil}
 use Rattle.std.specs.Prelude.{Result, OnOk}
-use Rattle.std.proofs.lemmas.Option.{same_Some}
 use Rattle.swf_frames.specs.Tree.{Tree, Branch, find}
 use Rattle.swf_frames.specs.Paths.{Found, nth}
 use Rattle.swf_meaning.specs.Local.{is_enabled}
-use Rattle.swf_meaning.specs.Node.{Node, Live, Forked, Nodes, no_nodes, branch, Running}
-use Rattle.swf_meaning.specs.Strands.{can_go, can_go_branch}
-use Rattle.swf_scene.specs.Layers.{frames_of}
-use Rattle.swf_scene.specs.Stack.{plug}
-use Rattle.swf_scene.specs.declared.made.Frame.{Frame}
-use Rattle.swf_scene.specs.declared.made.Layer.{Layer}
+use Rattle.swf_meaning.specs.Node.{Node}
+use Rattle.swf_meaning.specs.Strands.{can_go, can_top}
+use Rattle.swf_meaning.specs.Top.{top_is}
+use Rattle.swf_stack.specs.declared.made.Layer.{Layer}
 use Rattle.swf_strands.specs.Asked.{holds}
 use Rattle.swf_strands.specs.declared.ask.Question.TheVariants.{CanGo}
 use Rattle.swf_strands.specs.Order.{Leads, LeadsOn}
-use Rattle.swf_strands.specs.Strands.{nodes_of, node_of, IsGrownAt, IsHeld}
-use Rattle.swf_strands.proofs.TreeLemmas.{nothing, yes-no, nth_node, nth_node-of, fork-node, has-fork, held-is, IsChild}
-
-can_go-plug : (now i : ℕ) (is : List ℕ) (fs : List Frame) (r : Running) (ns : Nodes) → can_go now (i ∷ is) (plug fs (Live r (Forked ns))) ≡ can_go_branch now i is ns
-can_go-plug now i is [] r ns = refl
-can_go-plug now i is (f ∷ []) r ns = refl
-can_go-plug now i is (f ∷ g ∷ gs) r ns = can_go-plug now i is (g ∷ gs) r ns
-
-can_go-nth : (now i : ℕ) (is : List ℕ) (ns : Nodes) (n : Node) → nth_node ns i ≡ Some n → can_go_branch now i is ns ≡ can_go now is n
-can_go-nth now i is no_nodes n e = absurd (nothing n e)
-can_go-nth now zero is (branch m ns) n e = ap (can_go now is) (same_Some m n e)
-can_go-nth now (suc i) is (branch m ns) n e = can_go-nth now i is ns n e
+use Rattle.swf_strands.specs.Strands.{node_of, IsGrownAt, IsHeld}
+use Rattle.swf_strands.proofs.TopLemmas.{top-child}
+use Rattle.swf_strands.proofs.TreeLemmas.{yes-no, held-is, IsChild}
 
 pub can_go-child : (now i : ℕ) (is : List ℕ) (b : Branch Layer) (c : Found Layer) → IsGrownAt b → nth b.below i ≡ Some c → can_go now (i ∷ is) (node_of b) ≡ can_go now is (node_of c.held)
-can_go-child now i is b c g e =
-    let f = fork-node b.frames (nodes_of b.below) (has-fork b i c g e) in
-    ap (can_go now (i ∷ is)) f.1.1
-    ∙ can_go-plug now i is (frames_of b.frames) f.0 (nodes_of b.below)
-    ∙ can_go-nth now i is (nodes_of b.below) (node_of c.held) (nth_node-of b.below i c e)
+can_go-child now i is b c g e = ap (top_is (can_top now)) (top-child b i is c g e)
 
 -- ---- what was found
 

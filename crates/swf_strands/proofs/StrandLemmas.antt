@@ -8,15 +8,15 @@ use Rattle.swf_document.specs.declared.common.Flow.{Flow}
 use Rattle.swf_document.specs.declared.error.Problem.{Problem}
 use Rattle.swf_meaning.specs.Node.{Running}
 use Rattle.swf_meaning.specs.Strands.{can_go}
-use Rattle.swf_scene.specs.Layers.{frames_of, running_in, running, stacked}
-use Rattle.swf_scene.specs.Stack.{plug, top_node}
-use Rattle.swf_scene.proofs.LayerLemmas.{frames_of-append, frames_of-running}
-use Rattle.swf_scene.specs.declared.made.Frame.{Frame}
-use Rattle.swf_scene.specs.declared.made.Layer.{Layer}
-use Rattle.swf_scene.specs.declared.made.Layer.TheVariants as layers
-use Rattle.swf_scene.specs.declared.made.Made.{Made}
-use Rattle.swf_scene.specs.declared.made.Top.{Top}
-use Rattle.swf_scene.specs.declared.made.Top.TheVariants as tops
+use Rattle.swf_stack.specs.Layers.{frames_of, running_in, running, stacked}
+use Rattle.swf_stack.specs.Stack.{plug, top_node}
+use Rattle.swf_stack.proofs.LayerLemmas.{frames_of-append, frames_of-running}
+use Rattle.swf_stack.specs.declared.made.Frame.{Frame}
+use Rattle.swf_stack.specs.declared.made.Layer.{Layer}
+use Rattle.swf_stack.specs.declared.made.Layer.TheVariants as layers
+use Rattle.swf_stack.specs.declared.made.Made.{Made}
+use Rattle.swf_stack.specs.declared.made.Top.{Top}
+use Rattle.swf_stack.specs.declared.made.Top.TheVariants as tops
 
 pub frames-are : (fs : List Frame) (ls : List Layer) → ls ≡ running fs → frames_of ls ≡ fs
 frames-are fs ls e = ap frames_of e ∙ frames_of-running fs

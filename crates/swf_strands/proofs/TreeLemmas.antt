@@ -8,12 +8,12 @@ use Rattle.swf_frames.specs.Paths.{Found, nth, walk, edit_nth, along, AreDistinc
 use Rattle.swf_frames.proofs.PathLemmas.{child-nth, find-child}
 use Rattle.swf_meaning.specs.Fork.{put}
 use Rattle.swf_meaning.specs.Node.{Node, Live, Forked, Nodes, no_nodes, branch, Running}
-use Rattle.swf_scene.specs.Layers.{frames_of, top_of}
-use Rattle.swf_scene.specs.Stack.{plug, top_node, forked, waiting}
-use Rattle.swf_scene.specs.declared.made.Frame.{Frame}
-use Rattle.swf_scene.specs.declared.made.Layer.{Layer}
-use Rattle.swf_scene.specs.declared.made.Top.{Top}
-use Rattle.swf_scene.specs.declared.made.Top.TheVariants as tops
+use Rattle.swf_stack.specs.Layers.{frames_of, top_of}
+use Rattle.swf_stack.specs.Stack.{plug, top_node, forked, waiting}
+use Rattle.swf_stack.specs.declared.made.Frame.{Frame}
+use Rattle.swf_stack.specs.declared.made.Layer.{Layer}
+use Rattle.swf_stack.specs.declared.made.Top.{Top}
+use Rattle.swf_stack.specs.declared.made.Top.TheVariants as tops
 use Rattle.swf_strands.specs.Strands.{strand_node, nodes_of, node_of, root_node, is_fork, IsGrown, IsGrownAt, IsHeld, most_beside}
 use Rattle.swf_strands.specs.Ways.{at, at_among, replaced, replaced_among}
 

@@ -3,10 +3,10 @@ use Rattle.std.specs.List.{reduce}
 use Rattle.std.specs.Prelude.{ℕ, List, Option, Some, None, min}
 use Rattle.swf_meaning.specs.Node.{Node}
 use Rattle.swf_meaning.specs.Wake.{waits}
-use Rattle.swf_scene.specs.Layers.{top_of}
-use Rattle.swf_scene.specs.declared.made.Layer.{Layer}
-use Rattle.swf_scene.specs.declared.made.Top.{Top}
-use Rattle.swf_scene.specs.declared.made.Top.TheVariants as tops
+use Rattle.swf_stack.specs.Layers.{top_of}
+use Rattle.swf_stack.specs.declared.made.Layer.{Layer}
+use Rattle.swf_stack.specs.declared.made.Top.{Top}
+use Rattle.swf_stack.specs.declared.made.Top.TheVariants as tops
 
 -- of all strands of a node; none where no strand waits
 abbrev pub alarm_of : Node → Option ℕ

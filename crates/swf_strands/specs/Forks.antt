@@ -6,10 +6,10 @@ use Rattle.swf_frames.specs.Paths.{edit}
 use Rattle.swf_frames.specs.Tree.{Tree, no_strands}
 use Rattle.swf_meaning.specs.Fork.{branches_of}
 use Rattle.swf_meaning.specs.Node.{Node, no_nodes}
-use Rattle.swf_scene.specs.declared.made.Layer.{Layer}
-use Rattle.swf_scene.specs.declared.made.Layer.TheVariants as layers
-use Rattle.swf_scene.specs.declared.made.Top.{Top}
-use Rattle.swf_scene.specs.declared.made.Top.TheVariants as tops
+use Rattle.swf_stack.specs.declared.made.Layer.{Layer}
+use Rattle.swf_stack.specs.declared.made.Layer.TheVariants as layers
+use Rattle.swf_stack.specs.declared.made.Top.{Top}
+use Rattle.swf_stack.specs.declared.made.Top.TheVariants as tops
 use Rattle.swf_strands.specs.Strands.{strand_node}
 
 -- with none below it

@@ -5,11 +5,11 @@ use Rattle.swf_document.specs.declared.common.Flow.TheVariants.{Continue}
 use Rattle.swf_frames.specs.Tree.{Tree, Strands, no_strands, strand, Branch, find, numbers}
 use Rattle.swf_frames.specs.Paths.{AreDistinct}
 use Rattle.swf_meaning.specs.Node.{Node, Done, Nodes, no_nodes, branch}
-use Rattle.swf_scene.specs.Layers.{frames_of, top_of, stacked}
-use Rattle.swf_scene.specs.Stack.{plug, top_node, made_node, forked}
-use Rattle.swf_scene.specs.declared.made.Layer.{Layer}
-use Rattle.swf_scene.specs.declared.made.Top.{Top}
-use Rattle.swf_scene.specs.declared.made.Top.TheVariants as tops
+use Rattle.swf_stack.specs.Layers.{frames_of, top_of, stacked}
+use Rattle.swf_stack.specs.Stack.{plug, top_node, made_node, forked}
+use Rattle.swf_stack.specs.declared.made.Layer.{Layer}
+use Rattle.swf_stack.specs.declared.made.Top.{Top}
+use Rattle.swf_stack.specs.declared.made.Top.TheVariants as tops
 
 -- a strand that holds these, with these branches below it
 abbrev pub strand_node : List Layer → Nodes → Node

@@ -2,7 +2,7 @@
 ghost use Rattle.std.specs.Prelude.{◌≡◌, ℕ, Option, Some, true};
 ghost use Rattle.swf_frames.specs.Tree.{Branch, find};
 ghost use Rattle.swf_meaning.specs.Node.{Node};
-ghost use Rattle.swf_scene.specs.declared.made.Layer.{Layer as TheLayer};
+ghost use Rattle.swf_stack.specs.declared.made.Layer.{Layer as TheLayer};
 ghost use Rattle.swf_strands.specs.Alarm.{alarm_of, earlier, until_in};
 ghost use Rattle.swf_strands.specs.Forks.{layers_node};
 ghost use Rattle.swf_strands.specs.Strands.{IsGrown, IsHeld, IsStack, node_of, root_node};
@@ -11,7 +11,7 @@ ghost use Rattle.swf_strands.specs.Ways.{at, has_strand, own_until, replaced};
 use crate::fork::put_at;
 use crate::stack::{child_of, stack_of, strand_at};
 use swf_frames::{Forest, StrandId};
-use swf_scene::{Layer, Top};
+use swf_stack::{Layer, Top};
 
 // The lesser of two moments; the other, where there is one alone.
 fn earlier(one: Option<u64>, other: Option<u64>) -> Option<u64>

@@ -3,17 +3,17 @@ ghost use Rattle.std.specs.Prelude.{◌≡◌, List, [], Some};
 ghost use Rattle.swf_frames.specs.Tree.{Branch, find};
 ghost use Rattle.swf_meaning.specs.Node.{Nodes};
 ghost use Rattle.swf_meaning.specs.Strands.{can_go};
-ghost use Rattle.swf_scene.specs.Layers.{running};
-ghost use Rattle.swf_scene.specs.Stack.{plug, top_node, forked};
-ghost use Rattle.swf_scene.specs.declared.made.Frame.{Frame as TheFrame};
-ghost use Rattle.swf_scene.specs.declared.made.Layer.{Layer as TheLayer};
+ghost use Rattle.swf_stack.specs.Layers.{running};
+ghost use Rattle.swf_stack.specs.Stack.{plug, top_node, forked};
+ghost use Rattle.swf_stack.specs.declared.made.Frame.{Frame as TheFrame};
+ghost use Rattle.swf_stack.specs.declared.made.Layer.{Layer as TheLayer};
 ghost use Rattle.swf_strands.specs.Asked.{holds, holds_here};
 ghost use Rattle.swf_strands.specs.Strands.{IsHeld, node_of};
 
 use crate::stack::{Standing, child_of, stack_of};
 use swf_duration::Moment;
 use swf_frames::{Forest, StrandId};
-use swf_scene::{Layer, Top, is_heard};
+use swf_stack::{Layer, Top, is_heard};
 
 /// What may hold of a strand.
 #[derive(Drop)]

@@ -1,6 +1,6 @@
 // How a strand is put anew, and how a `fork` begins on it (DSL 1.0.0, reference, "Fork").
 ghost use Rattle.std.specs.Prelude.{◌≡◌, ◌≤◌, IfOk, IfSome, length, option_map, Some, true};
-ghost use Rattle.swf_scene.specs.Layers.{top_of};
+ghost use Rattle.swf_stack.specs.Layers.{top_of};
 ghost use Rattle.swf_strands.specs.Forks.{branches_in, IsPutAnew, layers_node};
 ghost use Rattle.swf_strands.specs.Strands.{IsStack, IsHeld, made_layers, root_node, IsGrown, most_beside};
 ghost use Rattle.swf_strands.specs.Ways.{has_strand, replaced};
@@ -8,7 +8,7 @@ ghost use Rattle.swf_strands.specs.Ways.{has_strand, replaced};
 use crate::stack::strand_at;
 use std::alloc::{AllocError, Global};
 use swf_frames::{Forest, StrandId};
-use swf_scene::{Layer, Top};
+use swf_stack::{Layer, Top};
 
 /// How many strands stand beside each other at most.
 const MOST_BESIDE: usize = 65_536;

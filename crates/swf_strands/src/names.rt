@@ -2,13 +2,13 @@
 ghost use Rattle.std.specs.Prelude.{◌≡◌, ◌++◌, IfOk, OnOk, Some, map};
 ghost use Rattle.swf_frames.specs.Tree.{Branch, find};
 ghost use Rattle.swf_meaning.specs.Strands.{strands};
-ghost use Rattle.swf_scene.specs.declared.made.Layer.{Layer as TheLayer};
+ghost use Rattle.swf_stack.specs.declared.made.Layer.{Layer as TheLayer};
 ghost use Rattle.swf_strands.specs.Strands.{IsHeld, node_of};
 
 use crate::stack::child_of;
 use std::alloc::{AllocError, Global};
 use swf_frames::{Forest, StrandId};
-use swf_scene::Layer;
+use swf_stack::Layer;
 use swf_text::Strand;
 
 /// A strand of these branch numbers.

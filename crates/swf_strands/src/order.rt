@@ -2,7 +2,7 @@
 ghost use Rattle.std.specs.Prelude.{◌≡◌, OnOk, IfOk, Some, true, false};
 ghost use Rattle.swf_frames.specs.Tree.{Branch, find};
 ghost use Rattle.swf_meaning.specs.Local.{is_enabled};
-ghost use Rattle.swf_scene.specs.declared.made.Layer.{Layer as TheLayer};
+ghost use Rattle.swf_stack.specs.declared.made.Layer.{Layer as TheLayer};
 ghost use Rattle.swf_strands.specs.Order.{LeadsOn, Leads};
 ghost use Rattle.swf_strands.specs.Strands.{IsHeld, node_of};
 
@@ -11,7 +11,7 @@ use crate::stack::child_of;
 use std::alloc::{AllocError, Global};
 use swf_duration::Moment;
 use swf_frames::{Forest, StrandId};
-use swf_scene::Layer;
+use swf_stack::Layer;
 
 /// Leads to the first strand, of that one and those below it, that can take a step.
 pub fn lead_in(

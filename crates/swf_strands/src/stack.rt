@@ -2,14 +2,14 @@
 ghost use Rattle.std.specs.Prelude.{◌≡◌, ◌<◌, ◌++◌, ◌∷◌, [], List, IfOk, IfSome, IfNone, length, option_to_list, Some, None};
 ghost use Rattle.swf_frames.specs.Tree.{Branch, find};
 ghost use Rattle.swf_frames.specs.Paths.{nth, walk};
-ghost use Rattle.swf_scene.specs.Layers.{frames_of, top_of, running, stacked};
-ghost use Rattle.swf_scene.specs.declared.made.Frame.{Frame as TheFrame};
-ghost use Rattle.swf_scene.specs.declared.made.Layer.{Layer as TheLayer};
+ghost use Rattle.swf_stack.specs.Layers.{frames_of, top_of, running, stacked};
+ghost use Rattle.swf_stack.specs.declared.made.Frame.{Frame as TheFrame};
+ghost use Rattle.swf_stack.specs.declared.made.Layer.{Layer as TheLayer};
 ghost use Rattle.swf_strands.specs.Strands.{IsHeld, IsGrownAt};
 
 use std::alloc::{AllocError, Global};
 use swf_frames::{CopyFrame, Forest, StrandId};
-use swf_scene::{Frame, Layer, SharedFrame, Top};
+use swf_stack::{Frame, Layer, SharedFrame, Top};
 
 /// The tasks that run on a strand, and what stands innermost.
 #[derive(Drop)]

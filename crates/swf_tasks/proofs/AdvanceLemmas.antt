@@ -1,25 +1,22 @@
 -- Steps of a strand that are not shared, one after another.
-use Rattle.std.proofs.Common.{◌≡◌, ◌∙◌, ℕ, zero, suc, ◌+◌, ◌-◌, ◌≤◌, List, [], ◌∷◌, Ok, Err, true, false, Option, Some, None, refl, ap, sym, arith}
-use Rattle.std.specs.Prelude.{if◌then◌else◌, option_map, Result, OnErr}
+use Rattle.std.proofs.Common.{◌≡◌, ◌∙◌, ℕ, zero, suc, ◌+◌, ◌-◌, ◌≤◌, List, Ok, Err, true, false, Option, Some, None, refl, ap, sym, arith}
+use Rattle.std.specs.Prelude.{if◌then◌else◌, option_map, option_and_then, Result, OnErr}
 use Rattle.swf_cloudevents.specs.declared.event.Event.{Event}
 use Rattle.swf_document.specs.declared.event.ListenSpec.{ListenSpec}
-use Rattle.swf_meaning.specs.Around.{seen}
 use Rattle.swf_meaning.specs.Complete.{Stepped, complete, step_of}
-use Rattle.swf_meaning.specs.Fork.{after_branch}
 use Rattle.swf_meaning.specs.Line.{Line, Site}
 use Rattle.swf_meaning.specs.Listen.{is_heard_by, heard_by, events_of}
 use Rattle.swf_meaning.specs.Lists.{comes_to}
-use Rattle.swf_meaning.specs.Local.{local, local_inside, local_branch, put_back}
-use Rattle.swf_meaning.specs.Node.{Node, Fresh, Live, Done, Fault, Inside, At, Later, Sleep, Hear, Forked, Nodes, no_nodes, branch, Round, Try, Running}
+use Rattle.swf_meaning.specs.Local.{local, rule}
+use Rattle.swf_meaning.specs.Node.{Node, Try, Running}
 use Rattle.swf_meaning.specs.Parts.{kind_of, listen_in}
+use Rattle.swf_meaning.specs.Put.{put_at}
 use Rattle.swf_meaning.specs.Shared.{is_shared, unshared, after_one, advanced}
-use Rattle.swf_meaning.specs.Strands.{can_go, can_go_inside, can_go_branch}
+use Rattle.swf_meaning.specs.Strands.{can_go, can_top}
+use Rattle.swf_meaning.specs.Top.{Top, Begins, Moves, Fails, Retries, Sleeps, Hears, Splits, Ends, Breaks, top_at, top_is, line_at}
 use Rattle.swf_meaning.specs.World.{Instance, line_of, site_of, step_at, with_step}
 use Rattle.swf_meaning.specs.declared.heard.Heard.{Heard}
 use Rattle.swf_tasks.specs.Taken.{taken}
-
-none_back : (r : Running) (round : Round) (i : ℕ) (o : Option Stepped) → o ≡ None → put_back r round i o ≡ None
-none_back r round i o e = ap (put_back r round i) e
 
 -- a task that has not heard all takes none
 unheard : (l : Line) (r : Running) (hs : List Heard) (o : Option ListenSpec) → is_heard_by hs o ≡ false → heard_by l r hs o ≡ None
@@ -27,36 +24,23 @@ unheard l r hs None e = refl
 unheard l r hs (Some spec) e = ap (λ b. if b then Some (complete l r (events_of spec hs)) else None) e
 
 -- what can take no step takes none
-mutual
-  pub no_step : (s : Site) (l : Line) (bs : List ℕ) (n : Node) → can_go s.now bs n ≡ false → local s l bs n ≡ None
-  no_step s l [] (Fresh t v) e = cc
-  no_step s l (b ∷ bs) (Fresh t v) e = refl
-  no_step s l bs (Live r k) e = no_step_inside s l bs r k e
-  no_step s l bs (Done w f) e = refl
-  no_step s l bs (Fault p) e = refl
+no_rule : (s : Site) (l : Line) (t : Top) → can_top s.now t ≡ false → rule s l t ≡ None
+no_rule s l (Begins t v) e = cc
+no_rule s l (Moves r round i w f) e = cc
+no_rule s l (Fails r round i p) e = cc
+no_rule s l (Retries r n until) e = ap (λ x. if x then Some (comes_to l r (Try n) zero r.input) else None) e
+no_rule s l (Sleeps r until) e = ap (λ x. if x then Some (complete l r r.input) else None) e
+no_rule s l (Hears r bound hs) e = unheard l r hs (listen_in (kind_of r.task)) e
+no_rule s l (Splits r ns) e = refl
+no_rule s l (Ends w f) e = refl
+no_rule s l (Breaks p) e = refl
 
-  no_step_inside : (s : Site) (l : Line) (bs : List ℕ) (r : Running) (k : Inside) → can_go_inside s.now bs r.task k ≡ false → local_inside s l bs r k ≡ None
-  no_step_inside s l [] r (At round i (Fresh t v)) e = cc
-  no_step_inside s l (b ∷ bs) r (At round i (Fresh t v)) e = refl
-  no_step_inside s l bs r (At round i (Live q k)) e = none_back r round i (local s (seen l r.task round) bs (Live q k)) (no_step_inside s (seen l r.task round) bs q k e)
-  no_step_inside s l [] r (At round i (Done w f)) e = cc
-  no_step_inside s l (b ∷ bs) r (At round i (Done w f)) e = refl
-  no_step_inside s l [] r (At round i (Fault p)) e = cc
-  no_step_inside s l (b ∷ bs) r (At round i (Fault p)) e = refl
-  no_step_inside s l [] r (Later n until) e = ap (λ x. option_map (step_of l) (if x then Some (comes_to l r (Try n) zero r.input) else None)) e
-  no_step_inside s l (b ∷ bs) r (Later n until) e = refl
-  no_step_inside s l [] r (Sleep until) e = ap (λ x. option_map (step_of l) (if x then Some (complete l r r.input) else None)) e
-  no_step_inside s l (b ∷ bs) r (Sleep until) e = refl
-  no_step_inside s l [] r (Hear bound hs) e = ap (option_map (step_of l)) (unheard l r hs (listen_in (kind_of r.task)) e)
-  no_step_inside s l (b ∷ bs) r (Hear bound hs) e = refl
-  no_step_inside s l [] r (Forked ns) e = refl
-  no_step_inside s l (b ∷ bs) r (Forked ns) e = ap (option_map (after_branch l r ns b)) (no_step_branch s l b bs ns e)
-
-  no_step_branch : (s : Site) (l : Line) (b : ℕ) (bs : List ℕ) (ns : Nodes) → can_go_branch s.now b bs ns ≡ false → local_branch s l b bs ns ≡ None
-  no_step_branch s l zero bs no_nodes e = refl
-  no_step_branch s l (suc b) bs no_nodes e = refl
-  no_step_branch s l zero bs (branch n ns) e = no_step s l bs n e
-  no_step_branch s l (suc b) bs (branch n ns) e = no_step_branch s l b bs ns e
+no_step : (s : Site) (l : Line) (bs : List ℕ) (n : Node) → can_go s.now bs n ≡ false → local s l bs n ≡ None
+no_step s l bs n e = ap (option_map (λ x. put_at l bs n (step_of (line_at l bs n) x))) (by (top_at bs n) e)
+  where
+    by : (o : Option Top) → top_is (can_top s.now) o ≡ false → option_and_then (rule s (line_at l bs n)) o ≡ None
+    by None e = refl
+    by (Some t) e = no_rule s (line_at l bs n) t e
 
 -- where no step is taken, none is more
 pub stands_still : (now : ℕ) (bs : List ℕ) (n : ℕ) (i : Instance) → unshared now bs i ≡ None → advanced now bs n i ≡ (i, 0)

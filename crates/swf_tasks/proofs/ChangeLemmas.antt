@@ -1,6 +1,6 @@
 -- A step changes one strand of a node.
 use Rattle.std.proofs.Common.{◌≡◌, ◌∙◌, refl, sym, ap, subst, ℕ, zero, suc, ◌+◌, ◌≤◌, Bool, true, false, List, [], ◌∷◌, ◌++◌, length, take, Option, Some, None, Ok, Err, is_some, add-one, arith}
-use Rattle.std.specs.Prelude.{option_map, option_to_list, if◌then◌else◌, Result, IfOk}
+use Rattle.std.specs.Prelude.{option_map, option_and_then, option_to_list, if◌then◌else◌, Result, IfOk}
 use Rattle.std.proofs.lemmas.Option.{same_Some}
 use Rattle.swf_value.specs.Value.{Value}
 use Rattle.swf_document.specs.declared.common.Flow.TheVariants as flows
@@ -10,30 +10,33 @@ use Rattle.swf_frames.specs.Paths.{Found, nth}
 use Rattle.swf_meaning.specs.Complete.{Stepped, becomes, complete, step_of}
 use Rattle.swf_meaning.specs.Fork.{after_branch, competes, joined, outputs, put, settled}
 use Rattle.swf_meaning.specs.Line.{Line, Site}
-use Rattle.swf_meaning.specs.Local.{local, local_branch}
-use Rattle.swf_meaning.specs.Strands.{can_go, can_go_branch}
+use Rattle.swf_meaning.specs.Local.{local, rule}
+use Rattle.swf_meaning.specs.Put.{put_branch}
+use Rattle.swf_meaning.specs.Strands.{can_go, can_top}
+use Rattle.swf_meaning.specs.Top.{top_branch, top_is, line_branch}
 use Rattle.swf_meaning.specs.Node.{Node, Fresh, Live, Done, Fault, Forked, Nodes, no_nodes, branch, Running}
 use Rattle.swf_rules.specs.Settles.{ending, MakesSome}
-use Rattle.swf_scene.specs.Layers.{frames_of, top_of, running, stacked}
-use Rattle.swf_scene.specs.Stack.{plug, top_node, made_node, stepped_of, used_by, seen_in, forked, waiting}
-use Rattle.swf_scene.proofs.LayerLemmas.{frames_of-running, frames_of-stacked, top_of-stacked}
+use Rattle.swf_stack.specs.Layers.{frames_of, top_of, running, stacked}
+use Rattle.swf_stack.specs.Stack.{plug, top_node, made_node, stepped_of, used_by, seen_in}
+use Rattle.swf_stack.proofs.LayerLemmas.{frames_of-running, frames_of-stacked, top_of-stacked}
 use Rattle.swf_scene.specs.Halts.{Makes}
 use Rattle.swf_scene.specs.declared.halt.Halt.{Halt}
 use Rattle.swf_scene.specs.declared.halt.Halt.TheVariants as halts
-use Rattle.swf_scene.specs.declared.made.Frame.{Frame}
-use Rattle.swf_scene.specs.declared.made.Layer.{Layer}
-use Rattle.swf_scene.specs.declared.made.Layer.TheVariants as layers
-use Rattle.swf_scene.specs.declared.made.Made.{Made}
-use Rattle.swf_scene.specs.declared.made.Top.{Top}
-use Rattle.swf_scene.specs.declared.made.Top.TheVariants as tops
+use Rattle.swf_stack.specs.declared.made.Frame.{Frame}
+use Rattle.swf_stack.specs.declared.made.Layer.{Layer}
+use Rattle.swf_stack.specs.declared.made.Layer.TheVariants as layers
+use Rattle.swf_stack.specs.declared.made.Made.{Made}
+use Rattle.swf_stack.specs.declared.made.Top.{Top}
+use Rattle.swf_stack.specs.declared.made.Top.TheVariants as tops
 use Rattle.swf_tasks.specs.Installed.{put_in, IsStep, AreAround}
 use Rattle.swf_tasks.specs.Stepped.{IsChange, IsChangeOf, IsForkOf, change_at, ended_of, if_ended, has_ended, listed}
 use Rattle.swf_strands.specs.Strands.{IsStack, made_layers, node_of, nodes_of, is_fork, IsGrownAt, IsHeld}
 use Rattle.swf_strands.specs.Ways.{has_strand, replaced}
 use Rattle.swf_tasks.specs.declared.step.Change.{Change}
-use Rattle.swf_tasks.proofs.StepLemmas.{plug-append, is_open, local-plug}
+use Rattle.swf_tasks.proofs.StepLemmas.{plug-append, is_open, local-put, local-plug}
 use Rattle.swf_strands.proofs.AskLemmas.{can_go-live}
-use Rattle.swf_strands.proofs.TreeLemmas.{nth_node, nth_node-of, nth_node-none, nothing, yes-no, has-fork, fork-node, at-child, replaced-fork, plain-node, held-is, IsChild}
+use Rattle.swf_strands.proofs.TopLemmas.{top-no-child}
+use Rattle.swf_strands.proofs.TreeLemmas.{nth_node, nth_node-of, nothing, yes-no, has-fork, fork-node, at-child, replaced-fork, plain-node, held-is, IsChild}
 use Rattle.swf_strands.proofs.OrderLemmas.{can_go-child}
 
 -- ---- a stack of running tasks and a top
@@ -66,17 +69,18 @@ own-change s l fs os t m c around step d ls x e = record {
 
 -- ---- a branch takes its step
 
-local_branch-nth : (s : Site) (l : Line) (i : ℕ) (bs : List ℕ) (ns : Nodes) (n : Node) → nth_node ns i ≡ Some n → local_branch s l i bs ns ≡ local s l bs n
-local_branch-nth s l i bs no_nodes n e = absurd (nothing n e)
-local_branch-nth s l zero bs (branch m ns) n e = ap (local s l bs) (same_Some m n e)
-local_branch-nth s l (suc i) bs (branch m ns) n e = local_branch-nth s l i bs ns n e
+local-among : (s : Site) (l : Line) (i : ℕ) (bs : List ℕ) (ns : Nodes) (n : Node) (f : Stepped → Stepped) → nth_node ns i ≡ Some n →
+    option_map (λ x. f (put_branch l i bs ns (step_of (line_branch l i bs ns) x))) (option_and_then (rule s (line_branch l i bs ns)) (top_branch i bs ns)) ≡ option_map f (local s l bs n)
+local-among s l i bs no_nodes n f e = absurd (nothing n e)
+local-among s l zero bs (branch m ns) n f e = local-put s l bs m f ∙ ap (λ k. option_map f (local s l bs k)) (same_Some m n e)
+local-among s l (suc i) bs (branch m ns) n f e = local-among s l i bs ns n f e
 
 -- inside running tasks a branch of a `fork` takes its step
 local-fork : (s : Site) (l : Line) (fs : List Frame) (r : Running) (ns : Nodes) (i : ℕ) (bs : List ℕ) (n : Node) (m : Stepped) → nth_node ns i ≡ Some n → local s (seen_in l fs) bs n ≡ Some m →
     local s l (i ∷ bs) (plug fs (Live r (Forked ns))) ≡ Some (put_in fs (after_branch (seen_in l fs) r ns i m))
 local-fork s l fs r ns i bs n m e h =
     let z = seen_in l fs in
-    local-plug s l (i ∷ bs) fs (Live r (Forked ns)) (after_branch z r ns i m) refl (ap (option_map (after_branch z r ns i)) (local_branch-nth s z i bs ns n e ∙ h))
+    local-plug s l (i ∷ bs) fs (Live r (Forked ns)) (after_branch z r ns i m) refl (local-among s z i bs ns n (after_branch z r ns i) e ∙ ap (option_map (after_branch z r ns i)) h)
 
 -- the `fork` goes on with what the branch became
 abbrev pub goes_with : Running → Nodes → ℕ → Stepped → Stepped
@@ -324,36 +328,8 @@ own-fork now b can = by (is_fork (top_of b.frames)) refl
         let f = fork-node b.frames (nodes_of b.below) e in
         absurd (yes-no (sym can ∙ ap (can_go now []) f.1.1 ∙ can_go-live now (frames_of b.frames) f.0 (Forked (nodes_of b.below))))
 
-module _ (now : ℕ) (is : List ℕ) where
-  can_go-among : (i : ℕ) (ns : Nodes) → nth_node ns i ≡ None → can_go_branch now i is ns ≡ false
-  can_go-among zero no_nodes e = refl
-  can_go-among (suc i) no_nodes e = refl
-  can_go-among zero (branch m ns) e = absurd (nothing m (sym e))
-  can_go-among (suc i) (branch m ns) e = can_go-among i ns e
-
-  can_go-waiting : (i : ℕ) (r : Running) (n : Option ℕ) (m : ℕ) (ns : Nodes) → can_go now (i ∷ is) (forked (Live r (waiting n m)) ns) ≡ false
-  can_go-waiting i r None m ns = refl
-  can_go-waiting i r (Some k) m ns = refl
-
-  can_go-top : (i : ℕ) (t : Top) (ns : Nodes) → nth_node ns i ≡ None → can_go now (i ∷ is) (forked (top_node t) ns) ≡ false
-  can_go-top i (tops.Fresh r v) ns e = refl
-  can_go-top i (tops.Done w f) ns e = refl
-  can_go-top i (tops.Fault p) ns e = refl
-  can_go-top i (tops.Waiting r n m) ns e = can_go-waiting i r n m ns
-  can_go-top i (tops.Hearing r b hs) ns e = refl
-  can_go-top i (tops.Forked r) ns e = can_go-among i ns e
-
-  can_go-plug : (i : ℕ) (fs : List Frame) (n : Node) → can_go now (i ∷ is) n ≡ false → can_go now (i ∷ is) (plug fs n) ≡ false
-  can_go-plug i [] n e = e
-  can_go-plug i (f ∷ []) (Fresh a v) e = refl
-  can_go-plug i (f ∷ []) (Live a k) e = e
-  can_go-plug i (f ∷ []) (Done w d) e = refl
-  can_go-plug i (f ∷ []) (Fault p) e = refl
-  can_go-plug i (f ∷ g ∷ fs) n e = can_go-plug i (g ∷ fs) n e
-
-  pub nowhere-goes : (i : ℕ) (b : Branch Layer) → nth b.below i ≡ None → can_go now (i ∷ is) (node_of b) ≡ true → ⊥
-  nowhere-goes i b none can =
-      yes-no (sym can ∙ can_go-plug i (frames_of b.frames) (forked (top_node (top_of b.frames)) (nodes_of b.below)) (can_go-top i (top_of b.frames) (nodes_of b.below) (nth_node-none b.below i none)))
+pub nowhere-goes : (now : ℕ) (is : List ℕ) (i : ℕ) (b : Branch Layer) → nth b.below i ≡ None → can_go now (i ∷ is) (node_of b) ≡ true → ⊥
+nowhere-goes now is i b none can = yes-no (sym can ∙ ap (top_is (can_top now)) (top-no-child b i is none))
 
 pub no-numbers : (bs : List ℕ) → length bs ≡ 0 → bs ≡ []
 no-numbers [] e = refl

@@ -6,10 +6,10 @@ use Rattle.swf_meaning.specs.Node.{Node, Live, Hear, Running}
 use Rattle.swf_meaning.specs.Offer.{offered, or_same, takes_by}
 use Rattle.swf_meaning.specs.Parts.{kind_of, listen_in}
 use Rattle.swf_meaning.specs.declared.heard.Heard.{Heard}
-use Rattle.swf_scene.specs.Stack.{plug, top_node}
-use Rattle.swf_scene.specs.declared.made.Frame.{Frame}
-use Rattle.swf_scene.specs.declared.made.Top.{Top}
-use Rattle.swf_scene.specs.declared.made.Top.TheVariants as tops
+use Rattle.swf_stack.specs.Stack.{plug, top_node}
+use Rattle.swf_stack.specs.declared.made.Frame.{Frame}
+use Rattle.swf_stack.specs.declared.made.Top.{Top}
+use Rattle.swf_stack.specs.declared.made.Top.TheVariants as tops
 use Rattle.swf_tasks.specs.Offers.{heard_by, offered_top}
 use Rattle.swf_tasks.specs.Taken.{IsOffered}
 

@@ -13,13 +13,13 @@ use Rattle.swf_meaning.specs.Node.{Node, Live, Forked, Nodes, branch, Running}
 use Rattle.swf_meaning.specs.Offer.{offered, offered_among, or_same, takes_by}
 use Rattle.swf_meaning.specs.Parts.{kind_of, listen_in}
 use Rattle.swf_meaning.specs.declared.heard.Heard.{Heard}
-use Rattle.swf_scene.specs.Layers.{frames_of, top_of, stacked}
-use Rattle.swf_scene.specs.Stack.{plug, top_node, forked}
-use Rattle.swf_scene.proofs.LayerLemmas.{frames_of-stacked, top_of-stacked}
-use Rattle.swf_scene.specs.declared.made.Frame.{Frame}
-use Rattle.swf_scene.specs.declared.made.Layer.{Layer}
-use Rattle.swf_scene.specs.declared.made.Top.{Top}
-use Rattle.swf_scene.specs.declared.made.Top.TheVariants as tops
+use Rattle.swf_stack.specs.Layers.{frames_of, top_of, stacked}
+use Rattle.swf_stack.specs.Stack.{plug, top_node, forked}
+use Rattle.swf_stack.proofs.LayerLemmas.{frames_of-stacked, top_of-stacked}
+use Rattle.swf_stack.specs.declared.made.Frame.{Frame}
+use Rattle.swf_stack.specs.declared.made.Layer.{Layer}
+use Rattle.swf_stack.specs.declared.made.Top.{Top}
+use Rattle.swf_stack.specs.declared.made.Top.TheVariants as tops
 use Rattle.swf_tasks.specs.Offers.{heard_by, offered_top, offered_layers, offered_strands, offered_first, offered_here, offered_to, offered_held, IsOfferHere, IsOfferIn}
 use Rattle.swf_strands.specs.Strands.{strand_node, nodes_of, node_of, root_node, is_fork, IsStack, Stands, IsGrown, IsGrownAt, IsHeld, most_beside}
 use Rattle.swf_tasks.specs.Taken.{IsOffered}

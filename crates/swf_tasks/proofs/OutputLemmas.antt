@@ -7,12 +7,12 @@ use Rattle.swf_frames.specs.Tree.{Branch, numbers}
 use Rattle.swf_frames.specs.Paths.{Found, nth}
 use Rattle.swf_meaning.specs.Fork.{outputs, put}
 use Rattle.swf_meaning.specs.Node.{Node, Fresh, Live, Done, Fault, Nodes, no_nodes, branch}
-use Rattle.swf_scene.specs.Layers.{frames_of, top_of, running}
-use Rattle.swf_scene.specs.Stack.{plug, top_node, forked}
-use Rattle.swf_scene.specs.declared.made.Frame.{Frame}
-use Rattle.swf_scene.specs.declared.made.Layer.{Layer}
-use Rattle.swf_scene.specs.declared.made.Top.{Top}
-use Rattle.swf_scene.specs.declared.made.Top.TheVariants as tops
+use Rattle.swf_stack.specs.Layers.{frames_of, top_of, running}
+use Rattle.swf_stack.specs.Stack.{plug, top_node, forked}
+use Rattle.swf_stack.specs.declared.made.Frame.{Frame}
+use Rattle.swf_stack.specs.declared.made.Layer.{Layer}
+use Rattle.swf_stack.specs.declared.made.Top.{Top}
+use Rattle.swf_stack.specs.declared.made.Top.TheVariants as tops
 use Rattle.swf_tasks.specs.Installed.{output_in}
 use Rattle.swf_tasks.specs.Stepped.{listed, output_on}
 use Rattle.swf_strands.specs.Strands.{node_of, nodes_of, IsGrownAt}

@@ -14,12 +14,13 @@ use Rattle.swf_meaning.specs.Line.{Line, Site}
 use Rattle.swf_meaning.specs.Strands.{can_go}
 use Rattle.swf_meaning.specs.Wake.{waits, waits_inside, waits_among}
 use Rattle.swf_meaning.specs.World.{Instance, line_of, site_of, with_step}
-use Rattle.swf_scene.specs.Layers.{frames_of, top_of}
-use Rattle.swf_scene.specs.Stack.{plug, top_node, made_node, setting_line, instance_of, used_by}
-use Rattle.swf_scene.specs.declared.made.Frame.{Frame}
-use Rattle.swf_scene.specs.declared.made.Layer.{Layer}
-use Rattle.swf_scene.specs.declared.made.Top.{Top}
-use Rattle.swf_scene.specs.declared.made.Top.TheVariants as tops
+use Rattle.swf_stack.specs.Layers.{frames_of, top_of}
+use Rattle.swf_stack.specs.Stack.{plug, top_node, made_node, used_by}
+use Rattle.swf_scene.specs.Setting.{setting_line, instance_of}
+use Rattle.swf_stack.specs.declared.made.Frame.{Frame}
+use Rattle.swf_stack.specs.declared.made.Layer.{Layer}
+use Rattle.swf_stack.specs.declared.made.Top.{Top}
+use Rattle.swf_stack.specs.declared.made.Top.TheVariants as tops
 use Rattle.swf_scene.specs.declared.setting.Setting.{Setting}
 use Rattle.swf_tasks.specs.Prepares.{applied, changed, Fits, IsPrepared, Puts, waits_for, is_at}
 use Rattle.swf_tasks.specs.Stepped.{IsChange, change_at}

@@ -1,7 +1,7 @@
 -- A step of what stands innermost is the step of the whole strand.
 use Rattle.std.proofs.Common.{◌≡◌, ℕ, ◌+◌, ◌-◌, Bool, true, false, List, [], ◌∷◌, ◌++◌, length, take, Option, Some, None, Ok, Err, refl, ap, sym, ◌∙◌, subst, arith, length-append}
 use Rattle.std.proofs.Math.Seq.{take-append_seam}
-use Rattle.std.specs.Prelude.{nat_le, if◌then◌else◌, option_map, Result, IfOk}
+use Rattle.std.specs.Prelude.{nat_le, if◌then◌else◌, option_map, option_and_then, Result, IfOk}
 use Rattle.swf_value.specs.Value.{Value, Members}
 use Rattle.swf_document.specs.Task.{Task}
 use Rattle.swf_document.specs.declared.common.Flow.{Flow}
@@ -12,19 +12,21 @@ use Rattle.swf_meaning.specs.Enter.{enter}
 use Rattle.swf_meaning.specs.Around.{seen}
 use Rattle.swf_meaning.specs.Line.{Line, Site}
 use Rattle.swf_meaning.specs.Listen.{is_heard, is_heard_by, heard, heard_by, events_of}
-use Rattle.swf_meaning.specs.Local.{local, put_back, moved_on, failed}
+use Rattle.swf_meaning.specs.Local.{local, rule, moved_on, failed}
 use Rattle.swf_meaning.specs.Node.{Node, Fresh, Live, Done, Fault, At, Hear, Round, Running}
 use Rattle.swf_meaning.specs.Parts.{kind_of, listen_in}
+use Rattle.swf_meaning.specs.Put.{put_at, put_back}
 use Rattle.swf_meaning.specs.Strands.{can_go}
+use Rattle.swf_meaning.specs.Top.{top_at, line_at}
 use Rattle.swf_meaning.specs.declared.heard.Heard.{Heard}
 use Rattle.swf_rules.specs.Woken.{woken_to}
 use Rattle.swf_scene.specs.Halts.{Makes}
-use Rattle.swf_scene.specs.Stack.{plug, top_node, stepped_of, round_of, seen_in, waiting}
+use Rattle.swf_stack.specs.Stack.{plug, top_node, stepped_of, round_of, seen_in, waiting}
 use Rattle.swf_scene.specs.declared.halt.Halt.{Halt}
-use Rattle.swf_scene.specs.declared.made.Frame.{Frame}
-use Rattle.swf_scene.specs.declared.made.Made.{Made}
-use Rattle.swf_scene.specs.declared.made.Top.{Top}
-use Rattle.swf_scene.specs.declared.made.Top.TheVariants as tops
+use Rattle.swf_stack.specs.declared.made.Frame.{Frame}
+use Rattle.swf_stack.specs.declared.made.Made.{Made}
+use Rattle.swf_stack.specs.declared.made.Top.{Top}
+use Rattle.swf_stack.specs.declared.made.Top.TheVariants as tops
 use Rattle.swf_strands.proofs.AskLemmas.{can_go-live, can_go-until}
 use Rattle.swf_strands.proofs.StrandLemmas.{no-fork, split-last}
 use Rattle.swf_tasks.specs.Installed.{put_in, IsStep, AreAround}
@@ -45,10 +47,18 @@ open-plug : (fs : List Frame) (n : Node) → is_open n ≡ true → is_open (plu
 open-plug [] n p = p
 open-plug (f ∷ fs) n p = refl
 
+-- the step of a node, put further
+pub local-put : (s : Site) (l : Line) (bs : List ℕ) (n : Node) (f : Stepped → Stepped) → option_map (λ x. f (put_at l bs n (step_of (line_at l bs n) x))) (option_and_then (rule s (line_at l bs n)) (top_at bs n)) ≡ option_map f (local s l bs n)
+local-put s l bs n f = by (option_and_then (rule s (line_at l bs n)) (top_at bs n))
+  where
+    by : (o : Option (Result Stepped Problem)) → option_map (λ x. f (put_at l bs n (step_of (line_at l bs n) x))) o ≡ option_map f (option_map (λ x. put_at l bs n (step_of (line_at l bs n) x)) o)
+    by None = refl
+    by (Some x) = refl
+
 -- what has not ended takes its step inside a task
-local-inside : (s : Site) (l : Line) (bs : List ℕ) (r : Running) (round : Round) (i : ℕ) (n : Node) → is_open n ≡ true → local s l bs (Live r (At round i n)) ≡ put_back r round i (local s (seen l r.task round) bs n)
-local-inside s l bs r round i (Fresh t v) p = refl
-local-inside s l bs r round i (Live q k) p = refl
+local-inside : (s : Site) (l : Line) (bs : List ℕ) (r : Running) (round : Round) (i : ℕ) (n : Node) → is_open n ≡ true → local s l bs (Live r (At round i n)) ≡ option_map (put_back r round i) (local s (seen l r.task round) bs n)
+local-inside s l bs r round i (Fresh t v) p = local-put s (seen l r.task round) bs (Fresh t v) (put_back r round i)
+local-inside s l bs r round i (Live q k) p = local-put s (seen l r.task round) bs (Live q k) (put_back r round i)
 local-inside s l bs r round i (Done w f) p = cc
 local-inside s l bs r round i (Fault q) p = cc
 
@@ -57,7 +67,7 @@ pub local-plug : (s : Site) (l : Line) (bs : List ℕ) (fs : List Frame) (n : No
 local-plug s l bs [] n m p e = e
 local-plug s l bs (f ∷ fs) n m p e =
     local-inside s l bs f.running (round_of f.round) f.place (plug fs n) (open-plug fs n p)
-    ∙ ap (put_back f.running (round_of f.round) f.place) (local-plug s (seen l f.running.task (round_of f.round)) bs fs n m p e)
+    ∙ ap (option_map (put_back f.running (round_of f.round) f.place)) (local-plug s (seen l f.running.task (round_of f.round)) bs fs n m p e)
 
 -- ---- the tasks around a part that is enabled
 
@@ -111,7 +121,7 @@ made-fresh s l z fs top t v g r e =
 
 -- Wake
 pub enabled-until : (now : ℕ) (fs : List Frame) (t : Top) (r : Running) (n : Option ℕ) (m : ℕ) → t ≡ tops.Waiting r n m → nat_le m now ≡ can_go now [] (plug fs (top_node t))
-enabled-until now fs t r n m e = sym (ap (λ x. can_go now [] (plug fs (top_node x))) e ∙ can_go-live now fs r (waiting n m) ∙ can_go-until now r.task n m)
+enabled-until now fs t r n m e = sym (ap (λ x. can_go now [] (plug fs (top_node x))) e ∙ can_go-live now fs r (waiting n m) ∙ can_go-until now r n m)
 
 woken : (s : Site) (l : Line) (r : Running) (n : Option ℕ) (m : ℕ) → nat_le m s.now ≡ true → local s l [] (Live r (waiting n m)) ≡ Some (step_of l (woken_to l r n))
 woken s l r None m h = ap (λ b. option_map (step_of l) (if b then Some (woken_to l r None) else None)) h

@@ -1,5 +1,5 @@
 -- What stands on the strand that branch numbers lead to decides for it.
-use Rattle.std.proofs.Common.{◌≡◌, ◌∙◌, refl, sym, ap, subst, ℕ, zero, suc, Bool, true, false, not, List, [], ◌∷◌, ◌++◌, length, Option, Some, None, Ok, Err}
+use Rattle.std.proofs.Common.{◌≡◌, ◌∙◌, refl, sym, ap, subst, ℕ, Bool, true, false, not, List, [], ◌∷◌, ◌++◌, length, Option, Some, None, Ok, Err}
 use Rattle.std.proofs.Math.Dec.{eqb-suc-zero}
 use Rattle.std.specs.Prelude.{◌==◌, Result, IfOk}
 use Rattle.swf_value.specs.Value.{Value, Members}
@@ -8,23 +8,25 @@ use Rattle.swf_document.specs.declared.common.Flow.{Flow}
 use Rattle.swf_document.specs.declared.error.Problem.{Problem}
 use Rattle.swf_frames.specs.Tree.{Tree, Branch, find, numbers}
 use Rattle.swf_meaning.specs.Listen.{is_heard}
-use Rattle.swf_meaning.specs.Node.{Node, Fresh, Live, Done, Fault, Inside, At, Later, Sleep, Hear, Forked, Nodes, no_nodes, branch, Running}
+use Rattle.swf_meaning.specs.Node.{Node, Live, Done, Fault, Inside, At, Hear, Forked, Nodes, Running}
 use Rattle.swf_meaning.specs.Parts.{kind_of}
-use Rattle.swf_meaning.specs.Shared.{is_shared, is_shared_inside, is_shared_branch, is_shared_kind, is_shared_error}
-use Rattle.swf_meaning.specs.Strands.{can_go, can_go_inside, can_go_branch}
+use Rattle.swf_meaning.specs.Shared.{is_shared, is_shared_top, is_shared_kind, is_shared_error}
+use Rattle.swf_meaning.specs.Top.{top_is}
 use Rattle.swf_meaning.specs.World.{Instance}
 use Rattle.swf_meaning.specs.declared.heard.Heard.{Heard}
-use Rattle.swf_scene.specs.Layers.{frames_of, top_of}
-use Rattle.swf_scene.specs.Stack.{plug, top_node, forked, waiting, round_of, instance_of}
-use Rattle.swf_scene.specs.declared.made.Frame.{Frame}
-use Rattle.swf_scene.specs.declared.made.Layer.{Layer}
-use Rattle.swf_scene.specs.declared.made.Top.{Top}
-use Rattle.swf_scene.specs.declared.made.Top.TheVariants as tops
+use Rattle.swf_stack.specs.Layers.{frames_of, top_of}
+use Rattle.swf_stack.specs.Stack.{plug, top_node, forked, waiting, round_of}
+use Rattle.swf_scene.specs.Setting.{instance_of}
+use Rattle.swf_stack.specs.declared.made.Frame.{Frame}
+use Rattle.swf_stack.specs.declared.made.Layer.{Layer}
+use Rattle.swf_stack.specs.declared.made.Top.{Top}
+use Rattle.swf_stack.specs.declared.made.Top.TheVariants as tops
 use Rattle.swf_scene.specs.declared.setting.Setting.{Setting}
 use Rattle.swf_tasks.specs.Installed.{output_in, problem_in}
 use Rattle.swf_strands.specs.Strands.{nodes_of, node_of, root_node, IsGrown, IsHeld}
-use Rattle.swf_strands.specs.Ways.{at, at_inside, at_among, own_listens}
+use Rattle.swf_strands.specs.Ways.{at, own_listens}
 use Rattle.swf_tasks.proofs.StepLemmas.{plug-append}
+use Rattle.swf_strands.proofs.TopLemmas.{top-live, top-fresh}
 use Rattle.swf_strands.proofs.TreeLemmas.{root-holds, at-walk, at-nowhere, waiting-forked, IsAt, IsNowhere}
 
 -- ---- the tree of an instance
@@ -61,84 +63,19 @@ no-strand P s t r way bs i view e g same is h =
 pub way-held : (t : Tree Layer) (r c : ℕ) (bs : List ℕ) → IsHeld t r → IsAt t r bs c → IsHeld t c
 way-held t r c bs held is = let y = is held.1.0 held.1.1.0 in (held.0, (y.0, y.1.1))
 
--- ---- it can take a step
-
-abbrev pub can_go_there : ℕ → Option Node → Bool
-can_go_there now None = false
-can_go_there now (Some n) = can_go now [] n
-
-mutual
-  pub can_go-at : (now : ℕ) (bs : List ℕ) (n : Node) → can_go now bs n ≡ can_go_there now (at bs n)
-  can_go-at now [] n = refl
-  can_go-at now (b ∷ bs) (Fresh t v) = refl
-  can_go-at now (b ∷ bs) (Live r k) = can_go-inside now b bs r.task k
-  can_go-at now (b ∷ bs) (Done w f) = refl
-  can_go-at now (b ∷ bs) (Fault p) = refl
-
-  can_go-inside : (now b : ℕ) (bs : List ℕ) (t : Task) (k : Inside) → can_go_inside now (b ∷ bs) t k ≡ can_go_there now (at_inside b bs k)
-  can_go-inside now b bs t (At round i (Fresh x y)) = refl
-  can_go-inside now b bs t (At round i (Live r k)) = can_go-inside now b bs r.task k
-  can_go-inside now b bs t (At round i (Done w f)) = refl
-  can_go-inside now b bs t (At round i (Fault p)) = refl
-  can_go-inside now b bs t (Later n m) = refl
-  can_go-inside now b bs t (Sleep m) = refl
-  can_go-inside now b bs t (Hear bound hs) = refl
-  can_go-inside now b bs t (Forked ns) = can_go-among now b bs ns
-
-  can_go-among : (now b : ℕ) (bs : List ℕ) (ns : Nodes) → can_go_branch now b bs ns ≡ can_go_there now (at_among b bs ns)
-  can_go-among now zero bs no_nodes = refl
-  can_go-among now (suc b) bs no_nodes = refl
-  can_go-among now zero bs (branch n ns) = can_go-at now bs n
-  can_go-among now (suc b) bs (branch n ns) = can_go-among now b bs ns
-
 -- ---- its next step is shared
-
-abbrev pub is_shared_there : Option Node → Bool
-is_shared_there None = false
-is_shared_there (Some n) = is_shared [] n
-
-mutual
-  pub is_shared-at : (bs : List ℕ) (n : Node) → is_shared bs n ≡ is_shared_there (at bs n)
-  is_shared-at [] n = refl
-  is_shared-at (b ∷ bs) (Fresh t v) = refl
-  is_shared-at (b ∷ bs) (Live r k) = is_shared-inside b bs r.task k
-  is_shared-at (b ∷ bs) (Done w f) = refl
-  is_shared-at (b ∷ bs) (Fault p) = refl
-
-  is_shared-inside : (b : ℕ) (bs : List ℕ) (t : Task) (k : Inside) → is_shared_inside (b ∷ bs) t k ≡ is_shared_there (at_inside b bs k)
-  is_shared-inside b bs t (At round i (Fresh x y)) = refl
-  is_shared-inside b bs t (At round i (Live r k)) = is_shared-inside b bs r.task k
-  is_shared-inside b bs t (At round i (Done w f)) = refl
-  is_shared-inside b bs t (At round i (Fault p)) = refl
-  is_shared-inside b bs t (Later n m) = refl
-  is_shared-inside b bs t (Sleep m) = refl
-  is_shared-inside b bs t (Hear bound hs) = refl
-  is_shared-inside b bs t (Forked ns) = is_shared-among b bs ns
-
-  is_shared-among : (b : ℕ) (bs : List ℕ) (ns : Nodes) → is_shared_branch b bs ns ≡ is_shared_there (at_among b bs ns)
-  is_shared-among zero bs no_nodes = refl
-  is_shared-among (suc b) bs no_nodes = refl
-  is_shared-among zero bs (branch n ns) = is_shared-at bs n
-  is_shared-among (suc b) bs (branch n ns) = is_shared-among b bs ns
 
 is_shared-done : (fs : List Frame) (w : Value) (d : Flow) → is_shared [] (plug fs (Done w d)) ≡ false
 is_shared-done [] w d = refl
 is_shared-done (f ∷ []) w d = refl
 is_shared-done (f ∷ g ∷ gs) w d = is_shared-done (g ∷ gs) w d
 
-is_shared-live : (fs : List Frame) (r : Running) (k : Inside) → is_shared [] (plug fs (Live r k)) ≡ is_shared_inside [] r.task k
-is_shared-live [] r k = refl
-is_shared-live (f ∷ []) r k = refl
-is_shared-live (f ∷ g ∷ gs) r k = is_shared-live (g ∷ gs) r k
+is_shared-live : (fs : List Frame) (r : Running) (k : Inside) → is_shared [] (plug fs (Live r k)) ≡ is_shared [] (Live r k)
+is_shared-live fs r k = ap (top_is is_shared_top) (top-live [] fs r k)
 
-is_shared-fresh : (fs : List Frame) (t : Task) (v : Value) → is_shared [] (plug fs (Fresh t v)) ≡ is_shared_kind (kind_of t)
-is_shared-fresh [] t v = refl
-is_shared-fresh (f ∷ []) t v = refl
-is_shared-fresh (f ∷ g ∷ gs) t v = is_shared-fresh (g ∷ gs) t v
-
-waiting-alone : (t : Task) (n : Option ℕ) (m : ℕ) → is_shared_inside [] t (waiting n m) ≡ false
-waiting-alone t None m = refl
-waiting-alone t (Some n) m = refl
+waiting-alone : (r : Running) (n : Option ℕ) (m : ℕ) → is_shared [] (Live r (waiting n m)) ≡ false
+waiting-alone r None m = refl
+waiting-alone r (Some n) m = refl
 
 -- what stands innermost decides
 abbrev pub shares_with : Branch Layer → Top → Bool
@@ -148,7 +85,7 @@ shares-is : (b : Branch Layer) (t x : Top) (y : Bool) → t ≡ top_of b.frames 
 shares-is b t x y s e h = sym (ap (shares_with b) (sym s ∙ e) ∙ h)
 
 pub shared-fresh : (b : Branch Layer) (t : Top) (r : Task) (v : Value) → t ≡ top_of b.frames → t ≡ tops.Fresh r v → is_shared_kind (kind_of r) ≡ is_shared [] (node_of b)
-shared-fresh b t r v s e = shares-is b t (tops.Fresh r v) (is_shared_kind (kind_of r)) s e (is_shared-fresh (frames_of b.frames) r v)
+shared-fresh b t r v s e = shares-is b t (tops.Fresh r v) (is_shared_kind (kind_of r)) s e (ap (top_is is_shared_top) (top-fresh [] (frames_of b.frames) r v))
 
 pub shared-fault : (b : Branch Layer) (t : Top) (p : Problem) (y : Bool) → t ≡ top_of b.frames → t ≡ tops.Fault p → y ≡ is_shared [] (plug (frames_of b.frames) (Fault p)) → y ≡ is_shared [] (node_of b)
 shared-fault b t p y s e h = shares-is b t (tops.Fault p) y s e (sym h)
@@ -164,7 +101,7 @@ shared-not b t s fresh fault = shares-is b t t false s refl (by t fresh fault)
     by (tops.Fresh r v) fresh fault = absurd (fresh r v refl)
     by (tops.Done w d) fresh fault = is_shared-done fs w d
     by (tops.Fault p) fresh fault = absurd (fault p refl)
-    by (tops.Waiting r n m) fresh fault = ap (λ x. is_shared [] (plug fs x)) (waiting-forked r n m (nodes_of b.below)) ∙ is_shared-live fs r (waiting n m) ∙ waiting-alone r.task n m
+    by (tops.Waiting r n m) fresh fault = ap (λ x. is_shared [] (plug fs x)) (waiting-forked r n m (nodes_of b.below)) ∙ is_shared-live fs r (waiting n m) ∙ waiting-alone r n m
     by (tops.Hearing r bound hs) fresh fault = is_shared-live fs r (Hear bound hs)
     by (tops.Forked r) fresh fault = is_shared-live fs r (Forked (nodes_of b.below))
 

@@ -6,10 +6,10 @@ use Rattle.swf_meaning.specs.Complete.{Stepped}
 use Rattle.swf_meaning.specs.Local.{local}
 use Rattle.swf_meaning.specs.Node.{Node, Fresh, Live, Done, Fault}
 use Rattle.swf_meaning.specs.Line.{Line, Site}
-use Rattle.swf_scene.specs.Stack.{plug, top_node}
-use Rattle.swf_scene.specs.declared.made.Frame.{Frame}
-use Rattle.swf_scene.specs.declared.made.Top.{Top}
-use Rattle.swf_scene.specs.declared.made.Top.TheVariants as tops
+use Rattle.swf_stack.specs.Stack.{plug, top_node}
+use Rattle.swf_stack.specs.declared.made.Frame.{Frame}
+use Rattle.swf_stack.specs.declared.made.Top.{Top}
+use Rattle.swf_stack.specs.declared.made.Top.TheVariants as tops
 
 -- the tasks around: all where the innermost has not begun or waits, and else all but the last
 abbrev pub AreAround : List Frame → Top → List Frame → Type 0

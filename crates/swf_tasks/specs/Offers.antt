@@ -8,11 +8,11 @@ use Rattle.swf_meaning.specs.Node.{Running}
 use Rattle.swf_meaning.specs.Offer.{offered, takes_by}
 use Rattle.swf_meaning.specs.Parts.{kind_of, listen_in}
 use Rattle.swf_meaning.specs.declared.heard.Heard.{Heard}
-use Rattle.swf_scene.specs.Layers.{frames_of, top_of, stacked}
-use Rattle.swf_scene.specs.Stack.{top_node}
-use Rattle.swf_scene.specs.declared.made.Layer.{Layer}
-use Rattle.swf_scene.specs.declared.made.Top.{Top}
-use Rattle.swf_scene.specs.declared.made.Top.TheVariants as tops
+use Rattle.swf_stack.specs.Layers.{frames_of, top_of, stacked}
+use Rattle.swf_stack.specs.Stack.{top_node}
+use Rattle.swf_stack.specs.declared.made.Layer.{Layer}
+use Rattle.swf_stack.specs.declared.made.Top.{Top}
+use Rattle.swf_stack.specs.declared.made.Top.TheVariants as tops
 use Rattle.swf_strands.specs.Strands.{node_of}
 
 -- what stands innermost after the offer

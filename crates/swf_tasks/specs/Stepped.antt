@@ -8,12 +8,12 @@ use Rattle.swf_meaning.specs.Complete.{Stepped}
 use Rattle.swf_meaning.specs.Local.{local}
 use Rattle.swf_meaning.specs.Node.{Node}
 use Rattle.swf_meaning.specs.Line.{Line, Site}
-use Rattle.swf_scene.specs.Layers.{top_of}
-use Rattle.swf_scene.specs.Stack.{used_by}
-use Rattle.swf_scene.specs.declared.made.Layer.{Layer}
-use Rattle.swf_scene.specs.declared.made.Layer.TheVariants as layers
-use Rattle.swf_scene.specs.declared.made.Top.{Top}
-use Rattle.swf_scene.specs.declared.made.Top.TheVariants as tops
+use Rattle.swf_stack.specs.Layers.{top_of}
+use Rattle.swf_stack.specs.Stack.{used_by}
+use Rattle.swf_stack.specs.declared.made.Layer.{Layer}
+use Rattle.swf_stack.specs.declared.made.Layer.TheVariants as layers
+use Rattle.swf_stack.specs.declared.made.Top.{Top}
+use Rattle.swf_stack.specs.declared.made.Top.TheVariants as tops
 use Rattle.swf_strands.specs.Strands.{IsStack, is_fork, made_layers, node_of}
 use Rattle.swf_strands.specs.Ways.{has_strand, replaced}
 use Rattle.swf_tasks.specs.declared.step.Change.{Change}

@@ -10,12 +10,12 @@ use Rattle.swf_meaning.specs.Node.{Running}
 use Rattle.swf_meaning.specs.World.{Instance, with_step}
 use Rattle.swf_meaning.specs.declared.heard.Heard.{Heard}
 use Rattle.swf_scene.specs.Halts.{Makes}
-use Rattle.swf_scene.specs.Stack.{top_node}
+use Rattle.swf_stack.specs.Stack.{top_node}
 use Rattle.swf_scene.specs.declared.halt.Halt.{Halt}
-use Rattle.swf_scene.specs.declared.made.Frame.{Frame}
-use Rattle.swf_scene.specs.declared.made.Made.{Made}
+use Rattle.swf_stack.specs.declared.made.Frame.{Frame}
+use Rattle.swf_stack.specs.declared.made.Made.{Made}
 use Rattle.swf_tasks.specs.Installed.{AreAround}
-use Rattle.swf_scene.specs.declared.made.Top.{Top}
+use Rattle.swf_stack.specs.declared.made.Top.{Top}
 use Rattle.swf_tasks.specs.declared.machine.StepResult.{StepResult}
 use Rattle.swf_tasks.specs.declared.machine.StepResult.TheVariants.{Quiet, Emitted}
 

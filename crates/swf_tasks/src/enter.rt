@@ -8,12 +8,13 @@ ghost use Rattle.swf_meaning.specs.Complete.{becomes};
 ghost use Rattle.swf_meaning.specs.Enter.{begun, guarded, enter};
 ghost use Rattle.swf_rules.specs.Rules.{line_in, site_in};
 ghost use Rattle.swf_scene.specs.Halts.{Makes};
-ghost use Rattle.swf_scene.specs.Stack.{line_of, site_of};
+ghost use Rattle.swf_scene.specs.Setting.{line_of, site_of};
 
 use std::alloc::Global;
 use swf_document::{Flow, Template};
 use swf_rules::{Rule, input_of};
-use swf_scene::{Halt, Made, Round, Running, Scene, TaskRef, Top, Work, within};
+use swf_scene::{Halt, Scene, within};
+use swf_stack::{Made, Round, Running, TaskRef, Top, Work};
 use swf_value::Json;
 
 // A `set` gives what its template is filled to.

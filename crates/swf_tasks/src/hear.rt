@@ -5,14 +5,15 @@ ghost use Rattle.swf_meaning.specs.Offer.{offered, takes_by};
 ghost use Rattle.swf_meaning.specs.Parts.{kind_of, listen_in};
 ghost use Rattle.swf_rules.specs.Rules.{line_in};
 ghost use Rattle.swf_tasks.specs.Taken.{IsListened, IsOffered};
-ghost use Rattle.swf_scene.specs.Stack.{top_node};
+ghost use Rattle.swf_stack.specs.Stack.{top_node};
 
 use std::alloc::{AllocError, Global};
 use swf_cloudevents::{Event, NamedValues};
 use swf_document::Listing;
 use swf_meaning::Heard;
-use swf_rules::{Rule, takes};
-use swf_scene::{Halt, Made, TaskRef, Top, Work};
+use swf_rules::Rule;
+use swf_scene::Halt;
+use swf_stack::{Made, TaskRef, Top, Work, takes};
 
 // What a task has bound after an event that it takes, and the event with the place of its filter.
 fn taken(

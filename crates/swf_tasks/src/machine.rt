@@ -9,9 +9,9 @@ ghost use Rattle.swf_meaning.specs.Shared.{advanced, is_shared, is_shared_error}
 ghost use Rattle.swf_meaning.specs.Strands.{can_go, strands};
 ghost use Rattle.swf_meaning.specs.Wake.{is_due};
 ghost use Rattle.swf_meaning.specs.World.{new_instance, step_at};
-ghost use Rattle.swf_scene.specs.Layers.{running};
-ghost use Rattle.swf_scene.specs.Stack.{plug, round_of, used_by};
-ghost use Rattle.swf_scene.specs.declared.made.Frame.{Frame as TheFrame};
+ghost use Rattle.swf_stack.specs.Layers.{running};
+ghost use Rattle.swf_stack.specs.Stack.{plug, round_of, used_by};
+ghost use Rattle.swf_stack.specs.declared.made.Frame.{Frame as TheFrame};
 ghost use Rattle.swf_tasks.specs.Installed.{output_in, problem_in};
 ghost use Rattle.swf_strands.specs.Alarm.{alarm_of};
 ghost use Rattle.swf_strands.specs.Order.{IsNext};
@@ -32,10 +32,8 @@ use swf_cloudevents::Event;
 use swf_document::Problem;
 use swf_duration::Moment;
 use swf_frames::Forest;
-use swf_scene::{
-    Frame, Layer, Round, Scene, SentEvent, Setting, SharedDocument, Site, TaskRef, Top, Work,
-    is_heard,
-};
+use swf_scene::{Scene, Setting, Site};
+use swf_stack::{Frame, Layer, Round, SentEvent, SharedDocument, TaskRef, Top, Work, is_heard};
 use swf_strands::{
     Question, Standing, alarm_in, branches_of, forked, holds_here, holds_in, lead_in, lead_on,
     list_strands, named, own_until, put_kept, stack_of, strand_at, until_of,
@@ -114,7 +112,7 @@ impl Model for Machine {
 
     ghost coded = { instance_code };
 
-    ghost use Rattle.swf_scene.specs.Stack.{instance_of};
+    ghost use Rattle.swf_scene.specs.Setting.{instance_of};
     ghost use Rattle.std.specs.Prelude.{◌≡◌};
     ghost use Rattle.swf_strands.specs.Alarm.{alarm_of};
     ghost use Rattle.swf_strands.specs.Strands.{root_node, IsGrown};

@@ -2,7 +2,7 @@
 ghost use Rattle.std.specs.Prelude.{◌≡◌, IfOk, Some, nat_lt};
 ghost use Rattle.swf_frames.specs.Tree.{Branch, find};
 ghost use Rattle.swf_meaning.specs.Offer.{offered};
-ghost use Rattle.swf_scene.specs.declared.made.Layer.{Layer as TheLayer};
+ghost use Rattle.swf_stack.specs.declared.made.Layer.{Layer as TheLayer};
 ghost use Rattle.swf_tasks.specs.Offers.{IsOfferIn, IsOfferHere};
 ghost use Rattle.swf_strands.specs.Strands.{IsHeld, node_of};
 
@@ -10,7 +10,7 @@ use crate::hear::{hears, offered};
 use std::alloc::{AllocError, Global};
 use swf_cloudevents::Event;
 use swf_frames::{Forest, StrandId};
-use swf_scene::Layer;
+use swf_stack::Layer;
 use swf_strands::{Standing, child_of, layers_of, stack_of};
 
 /// Whether a strand, or one below it, takes an event.

@@ -6,7 +6,7 @@ use std::marker::Model;
 use swf_document::DocKey;
 use swf_duration::Moment;
 use swf_frames::Forest;
-use swf_scene::Layer;
+use swf_stack::Layer;
 use swf_text::Text;
 use swf_value::Json;
 

@@ -19,15 +19,24 @@ use swf_value::{Json, depth, read_json, read_json_within};
 /// What comes of a row on labels.
 pub(crate) fn told(alloc: Global, word: &str, rest: &str) -> io::Result<String> {
     match word {
-        "load" => spelled(alloc, Label::Load(value_of(alloc, rest)?)),
-        "start" => spelled(alloc, start(alloc, rest)?),
-        "event" => spelled(alloc, event(alloc, rest)?),
-        "reply" => spelled(alloc, reply(alloc, rest)?),
-        "moment" => spelled(alloc, moment(rest)?),
-        "step" => spelled(alloc, step(alloc, rest)?),
         "again" => again(alloc, &bytes_of(alloc, rest)?),
         "decode" => Ok(decoded(alloc, &bytes_of(alloc, rest)?)?),
         "levels" => levels(alloc, number_of(rest)?),
+        _ => spelled(alloc, label_of(alloc, word, rest)?),
+    }
+}
+
+/// The label of a row.
+pub(crate) fn label_of(alloc: Global, word: &str, rest: &str) -> io::Result<Label>
+    ensures { IfOk result Nests }
+{
+    match word {
+        "load" => Ok(Label::Load(value_of(alloc, rest)?)),
+        "start" => start(alloc, rest),
+        "event" => event(alloc, rest),
+        "reply" => reply(alloc, rest),
+        "moment" => moment(rest),
+        "step" => step(alloc, rest),
         _ => Err(no_meaning()),
     }
 }

@@ -1,9 +1,11 @@
 //! Reads the rows of two tables, and prints each with what came of it: what every order of the steps of a workflow's strands
-//! comes to (orders.txt, `src/orders.rt`), and values and labels (values.txt, `src/rows.rt`).
+//! comes to (orders.txt, `src/orders.rt`), and values, labels and instances (values.txt, `src/rows.rt`).
 //!
 //! A row that begins with `#` names what follows, and stands in the transcript as it is.
 #![tactic(auto)]
 
+mod instances;
+mod keys;
 mod labels;
 mod orders;
 mod rows;

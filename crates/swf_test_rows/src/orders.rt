@@ -46,8 +46,8 @@ fn document_of(alloc: Global, tasks: &str) -> io::Result<Accepted> {
     }
 }
 
-// The text of what an instance gave.
-fn output_of(alloc: Global, machine: &Machine) -> io::Result<String> {
+/// The text of what an instance gave.
+pub(crate) fn output_of(alloc: Global, machine: &Machine) -> io::Result<String> {
     let Some(output) = machine.output() else {
         return Ok(format!(in alloc; "none")?);
     };
@@ -115,8 +115,8 @@ fn explored(alloc: Global, machine: Machine, site: &Site) -> io::Result<Outcome>
     }
 }
 
-// An instance of the workflow of these tasks, which has not begun.
-fn begun(alloc: Global, tasks: &str, site: &Site) -> io::Result<Machine> {
+/// An instance of the workflow of these tasks, which has not begun.
+pub(crate) fn begun(alloc: Global, tasks: &str, site: &Site) -> io::Result<Machine> {
     let id = Text::copy_of(alloc, "i")?;
     let document = document_of(alloc, tasks)?;
     Ok(Machine::begin(alloc, id, document, Json::null(), site)?)

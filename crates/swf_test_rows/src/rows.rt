@@ -1,8 +1,9 @@
-// Rows of a table, each told with what came of it: values and their text, and labels and their bytes.
+// Rows of a table, each told with what came of it: values and their text, labels and their bytes, and instances.
 //
-// A row is a word and what it is asked of; `src/values.rt` and `src/labels.rt` have the words. A row that begins with `#` names
+// A row is a word and what it is asked of; `src/values.rt`, `src/labels.rt`,
+// `src/keys.rt` and `src/instances.rt` have the words. A row that begins with `#` names
 // what follows, and stands in the transcript as it is.
-use crate::{labels, values};
+use crate::{instances, keys, labels, values};
 use std::alloc::Global;
 use std::io;
 use std::thread::{self, Threads};
@@ -27,6 +28,8 @@ fn told(alloc: Global, rt: &impl Threads, row: &str) -> io::Result<String> {
         "threads" => depths(alloc, rt, rest),
         "load" | "start" | "event" | "reply" | "moment" | "step" => labels::told(alloc, word, rest),
         "decode" | "again" | "levels" => labels::told(alloc, word, rest),
+        "key" => keys::told(alloc, rest),
+        "advance" | "forest" => instances::told(alloc, word, rest),
         _ => values::told(alloc, word, rest),
     }
 }

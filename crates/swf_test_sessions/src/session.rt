@@ -4,12 +4,14 @@
 // `! journal A5` a journal of these bytes, and `! fail say 1` a call that fails. Some are inputs: `! too-long`, `! bytes 3 FF`
 // of a line of three such bytes, `! long 9 start i t a 1.0.0 "@"` of a line with nine `a` for the `@`, and
 // `! many 9 start i@ t a 1.0.0 {}` of nine lines with their numbers for it, of which the last three replies are told. The others
-// tell what came of the run: `! inputs`, `! replies`, `! calls`, `! sizes`, and `! said`, all that was said.
+// tell what came of the run: `! inputs`, `! replies`, `! calls`, `! sizes`, `! said`, all that was said, and `! due 7`, the moment
+// that an engine opened over its files tells, and whether 7 is due.
 use crate::{Failing, REOPEN, Ran, add_status, ask, run};
 use std::alloc::{AllocError, Global};
 use std::io;
+use swf_engine::Engine;
 use swf_host::{Input, Said, Turn};
-use swf_store::{File, Image};
+use swf_store::{File, Image, MemoryStore};
 use swf_test_tables::{add_line, bytes_of, no_meaning, number_of, split};
 use swf_text::Bytes;
 
@@ -126,6 +128,27 @@ fn add_many(alloc: Global, script: &mut Vec<Turn>, order: &str) -> io::Result<()
     Ok(())
 }
 
+// The moment that an engine over these files tells, and whether that one is due.
+fn due(alloc: Global, image: Image, moment: u64) -> Result<Option<String>, AllocError> {
+    let mut store = MemoryStore::new(alloc, image, Vec::new(alloc));
+    match Engine::open_on(alloc, &mut store) {
+        Ok(engine) => {
+            let now = engine.now().milliseconds();
+            Ok(Some(format!(in alloc; "{now} {}", engine.due(moment))?))
+        }
+        Err(_) => Ok(None),
+    }
+}
+
+// What a line that ends with a moment tells of a run, if it does.
+fn told_due(alloc: Global, ran: &Ran, line: &str) -> io::Result<Option<String>> {
+    let Some(moment) = line.strip_prefix("! due ") else {
+        return Ok(None);
+    };
+    let image = ran.host.store().image().copy(alloc)?;
+    Ok(due(alloc, image, number_of(moment)?)?)
+}
+
 // What a line tells of a run, if it does.
 fn told(alloc: Global, ran: &Ran, line: &str) -> Result<Option<String>, AllocError> {
     let host = &ran.host;
@@ -182,7 +205,7 @@ fn add_shown(
     transcript: &mut Vec<u8>,
     ran: &Ran,
     lines: &[Shown<'_>],
-) -> Result<(), AllocError> {
+) -> io::Result<()> {
     let mut place = 0usize;
     for shown in lines {
         let before = if shown.line.starts_with('!') {
@@ -200,16 +223,19 @@ fn add_shown(
         if let Some(told) = told(alloc, ran, shown.line)? {
             add_line(transcript, "", told.as_str())?;
         }
+        if let Some(told) = told_due(alloc, ran, shown.line)? {
+            add_line(transcript, "", told.as_str())?;
+        }
     }
     Ok(())
 }
 
 // Adds what comes of one part of a session. Answers the files that it left.
-fn add_part(alloc: Global, transcript: &mut Vec<u8>, part: Part<'_>) -> Result<Image, AllocError> {
+fn add_part(alloc: Global, transcript: &mut Vec<u8>, part: Part<'_>) -> io::Result<Image> {
     let ran = run(alloc, part.words, part.image, part.failing, part.script)?;
     add_shown(alloc, transcript, &ran, &part.shown)?;
     add_status(alloc, transcript, ran.status, 0)?;
-    ran.host.store().image().copy(alloc)
+    Ok(ran.host.store().image().copy(alloc)?)
 }
 
 // Adds the names among some lines, and the other lines to a part.
@@ -238,7 +264,7 @@ fn add_lines(
 ) -> io::Result<Image> {
     let mut part = Part::new(alloc, image);
     read_lines(alloc, transcript, text, &mut part)?;
-    Ok(add_part(alloc, transcript, part)?)
+    add_part(alloc, transcript, part)
 }
 
 /// Adds a session: its name and its lines, which fall into parts between which it is opened again.

@@ -6,7 +6,7 @@ use Rattle.std.proofs.lemmas.List.{get_or-set_other, get_or-set_same, length-set
 use Rattle.std.proofs.lemmas.List.Folds.{list_any-append, list_any_at}
 use Rattle.std.specs.List.{list_any}
 use Rattle.std.specs.Prelude.{min}
-use Rattle.swf_turns.specs.Alarms.{IsTournament, above, earliest, is_by, is_due, node, sooner}
+use Rattle.swf_turns.specs.Alarms.{IsTournament, above, is_by, is_due, node, sooner}
 use Rattle.swf_turns.specs.Line.{is_among}
 
 tied : (a b : Bool) → (a ≡ true → b ≡ true) → (b ≡ true → a ≡ true) → a ≡ b
@@ -35,18 +35,6 @@ is_by_sooner t (Some a) (Some b) = tied (nat_le (min a b) t) (nat_le a t || nat_
       | inl h ↦ le-leb (min a b) t (omega (arith, leb-true a t h))
       | inr h ↦ le-leb (min a b) t (omega (arith, leb-true b t h))
     ]
-
--- some alarm is no later than a moment exactly where the earliest is
-pub earliest_any : (t : ℕ) (alarms : List (Option ℕ)) → is_by t (earliest alarms) ≡ list_any (is_by t) alarms
-earliest_any t [] = refl
-earliest_any t (a ∷ alarms) = is_by_sooner t a (earliest alarms) ∙ ap (λ b. is_by t a || b) (earliest_any t alarms)
-
--- two alarms are the same if they are no later than the same moments
-pub same_by : (a b : Option ℕ) → ((t : ℕ) → is_by t a ≡ is_by t b) → a ≡ b
-same_by None None h = refl
-same_by None (Some b) h = let e : false ≡ true = h b ∙ le-leb b b (omega arith) in cc
-same_by (Some a) None h = let e : true ≡ false = sym (le-leb a a (omega arith)) ∙ h a in cc
-same_by (Some a) (Some b) h = ap Some (omega (arith, leb-true b a (sym (h a) ∙ le-leb a a (omega arith)), leb-true a b (h b ∙ le-leb b b (omega arith))))
 
 -- a place where there is an alarm
 pub there : (t : ℕ) (nodes : List (Option ℕ)) (k : ℕ) → is_by t (get_or nodes k None) ≡ true → k < length nodes
@@ -152,10 +140,6 @@ top_any t inner alarms w = tied (is_by t (node inner alarms 1)) (list_any (is_by
         let some = any_place (is_by t) alarms e in
         let root = from_top (length inner + some.0) (length inner + some.0) (omega arith) (omega (arith, some.1, w.wide)) in
         ups t inner alarms w root.0 (length inner + some.0) 1 root.1 (omega arith) (leaf t inner alarms some.0 some.2)
-
--- the top is the earliest of all
-pub top_earliest : (inner alarms : List (Option ℕ)) → IsTournament inner alarms → node inner alarms 1 ≡ earliest alarms
-top_earliest inner alarms w = same_by (node inner alarms 1) (earliest alarms) (λ t. top_any t inner alarms w ∙ sym (earliest_any t alarms))
 
 -- the node of a place has the sooner of the two at twice the place
 abbrev pub Won : List (Option ℕ) → ℕ → Type 0

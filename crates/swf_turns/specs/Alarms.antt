@@ -20,11 +20,6 @@ sooner None b = b
 sooner (Some a) None = Some a
 sooner (Some a) (Some b) = Some (min a b)
 
--- the least of all
-abbrev pub earliest : List (Option ℕ) → Option ℕ
-earliest [] = None
-earliest (alarm ∷ alarms) = sooner alarm (earliest alarms)
-
 -- the alarm of that number is no later than the moment
 abbrev pub is_due : ℕ → List (Option ℕ) → ℕ → Bool
 is_due moment alarms n = is_by moment (slice_index_or alarms n None)

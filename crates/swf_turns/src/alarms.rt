@@ -1,7 +1,7 @@
 // Until when instances wait.
 ghost use Rattle.std.specs.Prelude.{◌≡◌, ◌≤◌, ◌<◌, ◌+◌, ◌*◌, ◌++◌, ◌∷◌, ◌||◌, ℕ, [], None, length, true, slice_index_or, slice_set, take, OnOk};
 ghost use Rattle.std.specs.List.{list_any};
-ghost use Rattle.swf_turns.specs.Alarms.{IsTournament, above, earliest, is_by, is_due, node, sooner};
+ghost use Rattle.swf_turns.specs.Alarms.{IsTournament, above, is_by, is_due, node, sooner};
 ghost use Rattle.swf_turns.specs.Line.{is_among};
 
 use crate::turns::Turns;
@@ -78,21 +78,6 @@ impl Alarms {
             play(&mut self.inner, &self.alarms, place);
             place /= 2;
         }
-    }
-
-    /// The alarm of an instance.
-    pub fn at(&self, number: usize) -> Option<u64>
-        requires { number < length self.now.moments }
-        ensures { result ≡ slice_index_or self.now.moments number None }
-    {
-        self.alarms[number]
-    }
-
-    /// The earliest alarm, in one step.
-    pub fn earliest(&self) -> Option<u64>
-        ensures { result ≡ earliest self.now.moments }
-    {
-        node(&self.inner, &self.alarms, 1)
     }
 
     /// Whether some alarm is no later than a moment, in one step.

@@ -1,18 +1,14 @@
--- What is looked up in the maps tells why a label is refused, and what a change has to be.
-use Rattle.std.proofs.Common.{◌≡◌, ◌∙◌, ap, sym, refl, subst, cond, ℕ, ◌+◌, ◌<◌, ◌≤◌, ◌||◌, List, ◌++◌, length, nat_le, Bool, true, false, is_some, Option, Some, None, option_map, option_and_then, option_to_list, Result, Ok, Err, IfOk, nat_lt, slice_get, position, arith, append-nil}
-use Rattle.std.proofs.lemmas.List.{length-map}
+-- What is looked up tells why a label is refused, and what a change has to be.
+use Rattle.std.proofs.Common.{◌≡◌, ◌∙◌, ap, sym, refl, subst, cond, ℕ, ◌+◌, ◌<◌, ◌≤◌, ◌||◌, List, ◌++◌, length, nat_le, Bool, true, false, is_some, Option, Some, None, option_map, option_and_then, option_to_list, Result, Ok, Err, IfOk, slice_get, position, arith, append-nil}
 use Rattle.std.proofs.lemmas.Bool.{le-leb, leb-false, lt-leb}
 use Rattle.std.specs.List.{AllByRecursion}
-use Rattle.std.specs.List.{position_or_len}
-use Rattle.std.specs.Map.{lookup, keys_of, values_of}
-use Rattle.std.proofs.lemmas.Option.{cond_some, same_Some, slice_get_within}
+use Rattle.std.proofs.lemmas.Option.{same_Some}
 use Rattle.swf_value.specs.Value.{Value}
 use Rattle.swf_text.specs.Same.{same}
 use Rattle.swf_cloudevents.specs.declared.event.Event.{Event}
 use Rattle.swf_document.specs.declared.document.DocKey.{DocKey}
 use Rattle.swf_document.specs.declared.document.Document.{Document}
 use Rattle.swf_document.specs.declared.fault.Fault.{Fault}
-use Rattle.swf_meaning.specs.declared.key.Key.{Key}
 use Rattle.swf_meaning.specs.declared.key.Key.TheVariants as keys
 use Rattle.swf_meaning.specs.declared.label.Label.{Label}
 use Rattle.swf_meaning.specs.declared.label.Label.TheVariants.{Load, Start, Event as Told, Moment, Step}
@@ -27,68 +23,45 @@ use Rattle.swf_tasks.specs.declared.machine.Step.{Step as Prepared}
 use Rattle.swf_world.specs.declared.change.Change.{Change}
 use Rattle.swf_world.specs.declared.change.ChangeKind.{ChangeKind}
 use Rattle.swf_world.specs.declared.change.ChangeKind.TheVariants as kinds
-use Rattle.swf_world.specs.declared.offer.Hearing.{Hearing}
-use Rattle.swf_world.specs.declared.world.Loaded.{Loaded}
+use Rattle.swf_instances.specs.declared.offer.Hearing.{Hearing}
 use Rattle.swf_world.specs.declared.refusal.Refusal.{Refusal}
 use Rattle.swf_world.specs.declared.refusal.Refusal.TheVariants.{Refused as ForFaults, Full, Past, NotEnabled}
 use Rattle.swf_world.specs.declared.refusal.PrepareFault.{PrepareFault}
 use Rattle.swf_world.specs.declared.refusal.PrepareFault.TheVariants.{Refused, OutOfMemory}
-use Rattle.swf_world.specs.UsedKey.{used_at, doc_eq}
-use Rattle.swf_world.specs.Held.{Held}
-use Rattle.swf_world.specs.Fields.{instances_in, world_of}
-use Rattle.swf_world.specs.Kept.{IsNamed, IsPlaced}
-use Rattle.swf_world.specs.Offers.{put_at, put_all, IsHeardFrom, IsSent}
+use Rattle.swf_registry.specs.UsedKey.{used_at}
+use Rattle.swf_registry.proofs.Lookups.{used_some}
+use Rattle.swf_instances.proofs.Lookups.{instance_numbered}
+use Rattle.swf_instances.specs.Offers.{put_at, put_all, IsHeardFrom}
 use Rattle.swf_world.specs.Refusals.{refusal, refusal_of_load, refusal_of_start, refusal_of_moment, refusal_of_step, duplicate, cause}
 use Rattle.swf_world.specs.Changes.{IsReady, Suits, SuitsStep, suits, changed, changed_by, offered_own, after_step, with_moment, with_stepped}
-use Rattle.swf_world.specs.Prepares.{Prepares, IsTelling, IsStepping, Steps, StepsFirst, TellsTo, load_of, start_of, untold, or_memory}
-use Rattle.swf_world.proofs.Lookups.{used_some, document_lookup, instance_lookup, instance_there, stepped_there}
-use Rattle.swf_world.proofs.MachineLemmas.{take_put}
-use Rattle.swf_world.proofs.OfferLemmas.{offered_apart, offered_past, offered_with}
+use Rattle.swf_world.specs.Prepares.{Prepares, IsSent, IsTelling, IsStepping, Steps, StepsFirst, TellsTo, load_of, start_of, untold, or_memory}
+use Rattle.swf_world.proofs.Lookups.{stepped_there}
+use Rattle.swf_instances.proofs.TakeLemmas.{take_put}
+use Rattle.swf_instances.proofs.OfferLemmas.{offered_apart, offered_past, offered_with}
 use Rattle.swf_world.proofs.RefusalLaws.{refused_nowhere}
 
-module _ (ds : List (DocKey × Loaded)) (is : List (List ℕ × Instance)) (ks : List (Key × ℕ)) (now : ℕ) (es : List Event) (n r : ℕ) (h : Held) (view : record { world = world_of ds is ks now es n; room = r } ≡ h) where
-  -- the document that is found
-  pub document_found : (key : DocKey) (o : Option Loaded) → AllByRecursion IsNamed ds → lookup (doc_eq key) ds ≡ o → document_at key h.world.documents ≡ option_map (λ l. l.document) o
-  document_found key o named e = sym (ap (λ h. document_at key h.world.documents) view) ∙ sym (document_lookup key ds named) ∙ ap (option_map (λ l. l.document)) e
+-- why a start of a new id is refused, by the document that is found
+pub start_refused : (w u : World) (id : List ℕ) (key : DocKey) (o : Option Document) → w ≡ u → used_at (keys.Instance id) w.keys ≡ None → document_at key w.documents ≡ o →
+    refusal_of_start w o ≡ duplicate (used_at (keys.Instance id) u.keys) (refusal_of_start u (document_at key u.documents))
+start_refused w u id key o same new found =
+    sym (ap (λ k. duplicate k (refusal_of_start w (document_at key w.documents))) new ∙ ap (refusal_of_start w) found)
+    ∙ ap (λ w. duplicate (used_at (keys.Instance id) w.keys) (refusal_of_start w (document_at key w.documents))) same
 
-  -- why a start of a new id is refused, by what is found
-  pub start_refusal : (id : List ℕ) (key : DocKey) (o : Option Loaded) → AllByRecursion IsNamed ds → used_at (keys.Instance id) ks ≡ None → lookup (doc_eq key) ds ≡ o →
-      duplicate (used_at (keys.Instance id) h.world.keys) (refusal_of_start h.world (document_at key h.world.documents)) ≡ refusal_of_start (world_of ds is ks now es n) (option_map (λ l. l.document) o)
-  start_refusal id key o named u e =
-      let unused : used_at (keys.Instance id) h.world.keys ≡ None = sym (ap (λ h. used_at (keys.Instance id) h.world.keys) view) ∙ u in
-      ap (λ k. duplicate k (refusal_of_start h.world (document_at key h.world.documents))) unused
-      ∙ ap (refusal_of_start h.world) (document_found key o named e)
-      ∙ ap (λ h. refusal_of_start h.world (option_map (λ l. l.document) o)) (sym view)
+pub too_many : (w : World) (d : Document) → most_instances ≤ length w.instances → refusal_of_start w (Some d) ≡ Some Full
+too_many w d e = ap (λ b. cause b Full None) (le-leb most_instances (length w.instances) e)
 
-  pub too_many : (d : Document) → most_instances ≤ length is → refusal_of_start (world_of ds is ks now es n) (Some d) ≡ Some Full
-  too_many d e = ap (λ b. cause b Full None) (le-leb most_instances (length (instances_in is)) (omega (arith, length-map is (λ e. e.1))))
+pub not_too_many : (w : World) (d : Document) → length w.instances < most_instances → refusal_of_start w (Some d) ≡ None
+not_too_many w d e = ap (λ b. cause b Full None) (lt-leb most_instances (length w.instances) e)
 
-  pub not_too_many : (d : Document) → length is < most_instances → refusal_of_start (world_of ds is ks now es n) (Some d) ≡ None
-  not_too_many d e = ap (λ b. cause b Full None) (lt-leb most_instances (length (instances_in is)) (omega (arith, length-map is (λ e. e.1))))
+-- why a step of the instance of that number is refused
+pub step_refusal : (w : World) (id strand : List ℕ) (n : ℕ) (i : Instance) (b : Bool) → position (λ i. same id i.id) w.instances ≡ Some n → slice_get w.instances n ≡ Some i → b ≡ can_go w.now strand i.node →
+    refusal_of_step w.now strand (instance_at id w.instances) ≡ (cond b None (Some NotEnabled))
+step_refusal w id strand n i b found at t =
+    ap (refusal_of_step w.now strand) (instance_numbered id w.instances n found ∙ at) ∙ ap (λ c. cond c None (Some NotEnabled)) (sym t)
 
-  -- the instance that is found
-  pub instance_found : (id : List ℕ) (o : Option Instance) → AllByRecursion IsPlaced is → lookup (same id) is ≡ o → instance_at id h.world.instances ≡ o
-  instance_found id o placed e = sym (ap (λ h. instance_at id h.world.instances) view) ∙ instance_lookup id is placed ∙ e
-
-  -- why a step of an instance is refused
-  pub step_refusal : (id strand : List ℕ) (v : Instance) (b : Bool) → AllByRecursion IsPlaced is → lookup (same id) is ≡ Some v → b ≡ can_go now strand v.node →
-      refusal_of_step h.world.now strand (instance_at id h.world.instances) ≡ (cond b None (Some NotEnabled))
-  step_refusal id strand v b placed e t =
-      ap (refusal_of_step h.world.now strand) (instance_found id (Some v) placed e)
-      ∙ ap (λ h. refusal_of_step h.world.now strand (Some v)) (sym view) ∙ ap (λ c. cond c None (Some NotEnabled)) (sym t)
-
-  -- an instance that is found is the first of its id
-  pub step_found : (id strand : List ℕ) (v : Instance) (number : ℕ) → AllByRecursion IsPlaced is → Some number ≡ position (same id) (keys_of is) → slice_get (values_of is) number ≡ Some v →
-      (number < length h.world.instances) × StepsFirst h.world id strand number
-  step_found id strand v number placed e at =
-      let first = cond_some (nat_lt (position_or_len (same id) (keys_of is)) (length (keys_of is))) (position_or_len (same id) (keys_of is)) number (sym e) in
-      let within : number < length (instances_in is) = slice_get_within (instances_in is) number v (instance_there is number v at) in
-      subst (λ h. (number < length h.world.instances) × StepsFirst h.world id strand number) view
-      (within, λ i m there takes. stepped_there now id strand is number i m placed first.1 (omega (arith, within, length-map is (λ e. e.1))) there takes)
-
-pub none_found : {A : Type 0} (o : Option A) (p : Option ℕ) → p ≡ None → is_some p ≡ is_some o → o ≡ None
-none_found None p e f = refl
-none_found (Some x) p e f = let t : false ≡ true = ap is_some (sym e) ∙ f in cc
+-- the instance of that number takes the step
+pub step_found : (w : World) (id strand : List ℕ) (n : ℕ) → position (λ i. same id i.id) w.instances ≡ Some n → n < length w.instances → (n < length w.instances) × StepsFirst w id strand n
+step_found w id strand n found within = (within, λ i m there takes. stepped_there w.now id strand w.instances n i m found within there takes)
 
 -- a change was made, or memory was missing
 abbrev Made : World → Label → Change → Type 0

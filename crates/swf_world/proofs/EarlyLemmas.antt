@@ -13,10 +13,9 @@ use Rattle.swf_runs.specs.Keys.{same_key}
 use Rattle.swf_meaning.specs.World.{World, Instance}
 use Rattle.swf_world.specs.declared.refusal.Refusal.{Refusal}
 use Rattle.swf_world.specs.declared.refusal.Refusal.TheVariants.{Refused, Duplicate, Stale, UnknownDocument, UnknownInstance, Full, Past, NotEnabled}
-use Rattle.swf_world.specs.Early.{IsEarly, IsEarlyRefusal}
-use Rattle.swf_world.specs.Fields.{most_labels}
+use Rattle.swf_world.specs.Early.{IsEarly, IsEarlyRefusal, most_labels}
 use Rattle.swf_world.specs.Refusals.{duplicate, cause, refusal_of_load, refusal_of_start, refusal_of_reply, refusal_of_step, refusal}
-use Rattle.swf_world.specs.UsedKey.{used_at}
+use Rattle.swf_registry.specs.UsedKey.{used_at}
 
 -- where there is a refusal it is early
 Early : Option Refusal → Type 0

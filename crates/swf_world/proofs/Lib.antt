@@ -1,16 +1,7 @@
-pub mod MachineLemmas
-pub mod OfferLemmas
-pub mod WaitLemmas
-pub mod HeardLemmas
-pub mod BuiltLemmas
-pub mod ReportLemmas
 pub mod Lookups
 pub mod StepLemmas
 pub mod Grows
 pub mod RefusalLaws
 pub mod Checks
-pub mod Waiting
-pub mod Versions
-pub mod PendingLemmas
+pub mod NextLemmas
 pub mod EarlyLemmas
-pub mod StrandsLemmas

@@ -15,9 +15,10 @@ use Rattle.swf_runs.specs.After.{after, loaded, load_faults, accepted, document_
 use Rattle.swf_world.specs.declared.refusal.Refusal.{Refusal}
 use Rattle.swf_world.specs.declared.refusal.Refusal.TheVariants.{Stale, Full, Past, NotEnabled}
 use Rattle.swf_world.specs.Changes.{with_moment}
-use Rattle.swf_world.specs.UsedKey.{used_at}
+use Rattle.swf_registry.specs.UsedKey.{used_at}
+use Rattle.swf_registry.proofs.Lookups.{used_some}
 use Rattle.swf_world.specs.Refusals.{refusal, refusal_of_load, refusal_of_start, refusal_of_step, duplicate, cause}
-use Rattle.swf_world.proofs.Lookups.{used_some, first_steps, other_steps}
+use Rattle.swf_world.proofs.Lookups.{first_steps, other_steps}
 use Rattle.swf_runs.proofs.StrandLemmas.{some_mapped, local_can}
 
 -- a label that has no refusal has a world after it, and the other way round

@@ -1,9 +1,5 @@
--- A step that is written into the map is the step of the definitions.
-use Rattle.std.proofs.Common.{◌≡◌, ◌∙◌, ap, sym, refl, ℕ, zero, suc, ◌<◌, List, [], ◌∷◌, length, true, Option, Some, None, option_map, slice_get, arith}
-use Rattle.std.specs.List.{AllByRecursion}
-use Rattle.std.proofs.lemmas.List.{length-map}
-use Rattle.std.proofs.lemmas.Option.{same_Some}
-use Rattle.indexmap.specs.IndexMap.{set_value_at}
+-- A step that was prepared, and the event that goes out with it.
+use Rattle.std.proofs.Common.{◌≡◌, ◌∙◌, ap, sym, refl, ℕ, List, Option, Some, None, option_map, slice_get}
 use Rattle.swf_cloudevents.specs.declared.event.Event.{Event}
 use Rattle.swf_meaning.specs.Complete.{Stepped}
 use Rattle.swf_meaning.specs.World.{Instance, step_at}
@@ -11,26 +7,7 @@ use Rattle.swf_tasks.specs.Prepares.{applied, Fits, IsPrepared}
 use Rattle.swf_tasks.specs.Taken.{taken}
 use Rattle.swf_tasks.specs.declared.machine.Prepared.{Prepared}
 use Rattle.swf_tasks.specs.declared.machine.Step.{Step}
-use Rattle.swf_world.specs.Changes.{IsReady, after_step, offered_own, take_at}
-use Rattle.swf_world.specs.Fields.{instances_in}
-use Rattle.swf_world.specs.Kept.{IsPlaced}
-use Rattle.swf_world.specs.Queued.{enabled_at}
-use Rattle.swf_world.proofs.MachineLemmas.{enabled_within}
-
--- an instance that can take a step is in the map
-pub entry_within : (now : ℕ) (is : List (List ℕ × Instance)) (n : ℕ) → enabled_at now (instances_in is) n ≡ true → n < length is
-entry_within now is n e = let h = enabled_within now (instances_in is) n e in omega (arith, length-map is (λ e. e.1))
-
-pub set_placed : (is : List (List ℕ × Instance)) (n : ℕ) (j : Instance) → AllByRecursion IsPlaced is → option_map (λ i. i.id) (slice_get (instances_in is) n) ≡ Some j.id → AllByRecursion IsPlaced (set_value_at is n j)
-set_placed [] n j placed e = placed
-set_placed (x ∷ xs) zero j placed e = (placed.0 ∙ same_Some x.1.id j.id e, placed.1)
-set_placed (x ∷ xs) (suc n) j placed e = (placed.0, set_placed xs n j placed.1 e)
-
--- the instance of the map takes a step that was prepared
-pub set_taken : (is : List (List ℕ × Instance)) (n : ℕ) (step : Step) (i : Instance) → slice_get (instances_in is) n ≡ Some i → instances_in (set_value_at is n (applied step i)) ≡ take_at n step (instances_in is)
-set_taken [] n step i e = refl
-set_taken (x ∷ xs) zero step i e = ap (λ i. applied step i ∷ instances_in xs) (sym (same_Some x.1 i e))
-set_taken (x ∷ xs) (suc n) step i e = ap (λ is. x.1 ∷ is) (set_taken xs n step i e)
+use Rattle.swf_world.specs.Changes.{IsReady, after_step, offered_own}
 
 -- what a step leads to is offered the event that goes out
 abbrev with_own : Instance × Option Event → Instance × Option Event

@@ -1,5 +1,5 @@
 -- What a prepared change asks of the world that it is made for, and the world that it makes.
-use Rattle.std.specs.Prelude.{◌≡◌, ◌+◌, ◌<◌, ◌≤◌, ℕ, zero, suc, List, [], ◌∷◌, ◌++◌, false, Option, Some, None, option_map, option_to_list, slice_get}
+use Rattle.std.specs.Prelude.{◌≡◌, ◌+◌, ◌<◌, ◌≤◌, ℕ, List, [], ◌++◌, false, Option, Some, None, option_map, option_to_list, slice_get}
 use Rattle.std.specs.List.{AllByRecursion}
 use Rattle.swf_cloudevents.specs.declared.event.Event.{Event}
 use Rattle.swf_document.specs.declared.document.DocKey.{DocKey}
@@ -15,20 +15,20 @@ use Rattle.swf_tasks.specs.declared.machine.Step.{Step}
 use Rattle.swf_world.specs.declared.change.Change.{Change}
 use Rattle.swf_world.specs.declared.change.ChangeKind.{ChangeKind}
 use Rattle.swf_world.specs.declared.change.ChangeKind.TheVariants as kinds
-use Rattle.swf_world.specs.declared.offer.Hearing.{Hearing}
-use Rattle.swf_world.specs.declared.world.Loaded.{Loaded}
-use Rattle.swf_world.specs.Kept.{IsNamed, IsPlaced}
-use Rattle.swf_world.specs.Offers.{put_all, IsHeardFrom}
+use Rattle.swf_instances.specs.declared.offer.Hearing.{Hearing}
+use Rattle.swf_instances.specs.Takes.{take_at}
+use Rattle.swf_registry.specs.declared.documents.Loaded.{Loaded}
+use Rattle.swf_instances.specs.Offers.{put_all, IsHeardFrom}
 
 -- a document under its own key, which was not used
 pub record SuitsLoad (w : World) (key : DocKey) (used : Key) (loaded : Loaded) : Type 0 where
-  pub named : IsNamed (key, loaded)
+  pub named : key ≡ loaded.document.key
   pub used_is : used ≡ keys.Document loaded.document.key
   pub new : is_used (keys.Document loaded.document.key) w ≡ false
 
 -- an instance under its own id, which was not used, and that does not wait
 pub record SuitsStart (w : World) (id : List ℕ) (used : Key) (instance : Instance) : Type 0 where
-  pub placed : IsPlaced (id, instance)
+  pub placed : id ≡ instance.id
   pub used_is : used ≡ keys.Instance id
   pub new : is_used (keys.Instance id) w ≡ false
   pub awake : waits instance.node ≡ []
@@ -80,16 +80,6 @@ with_heard w used heard = record (counted used w) { instances = put_all heard w.
 -- a moment was reached
 abbrev pub with_moment : World → ℕ → World
 with_moment w moment = record (counted (keys.Moment moment) w) { now = moment }
-
--- the step fits the instance of that number
-abbrev pub FitsAt : ℕ → Step → List Instance → Type 0
-FitsAt n step is = (i : Instance) × (slice_get is n ≡ Some i) × Fits step i
-
--- that instance took it
-abbrev pub take_at : ℕ → Step → List Instance → List Instance
-take_at n step [] = []
-take_at zero step (i ∷ is) = applied step i ∷ is
-take_at (suc n) step (i ∷ is) = i ∷ take_at n step is
 
 -- an instance took its step, and the event went out
 abbrev pub with_stepped : World → ℕ → Step → Option Event → List Hearing → World

@@ -1,9 +1,12 @@
 -- How large the places of used keys are.
-use Rattle.std.specs.Prelude.{ℕ, ◌≤◌}
+use Rattle.std.specs.Prelude.{ℕ, ◌≤◌, ◌^◌}
 use Rattle.swf_meaning.specs.declared.key.Key.{Key}
 use Rattle.swf_world.specs.declared.refusal.Refusal.{Refusal}
 use Rattle.swf_world.specs.declared.refusal.Refusal.TheVariants.{Refused, Duplicate, Stale, UnknownDocument, UnknownInstance, Full, Past, NotEnabled}
-use Rattle.swf_world.specs.Fields.{most_labels}
+
+-- how many labels a world takes
+abbrev pub most_labels : ℕ
+most_labels = 2 ^ 40
 
 -- a key was used at a place that a world has
 abbrev pub IsEarly : Key × ℕ → Type 0

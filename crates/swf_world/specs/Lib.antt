@@ -1,14 +1,11 @@
-pub mod UsedKey
 pub mod Held
-pub mod Fields
-pub mod Waits
-pub mod Queued
 pub mod Early
+pub mod Waits
 pub mod Kept
-pub mod Offers
+pub mod Parts
 pub mod Refusals
 pub mod Changes
+pub mod Enabled
 pub mod Prepares
 pub mod Latest
-pub mod Enabled
 pub mod Answers

@@ -1,5 +1,5 @@
 -- What preparing a label answers in a world that has room.
-use Rattle.std.specs.Prelude.{◌≡◌, List, ℕ, length, slice_get, Some, None, Result, Ok, Err}
+use Rattle.std.specs.Prelude.{◌≡◌, List, [], ℕ, length, slice_get, Option, Some, None, Result, Ok, Err}
 use Rattle.swf_value.specs.Value.{Value}
 use Rattle.swf_cloudevents.specs.declared.event.Event.{Event}
 use Rattle.swf_document.specs.declared.document.Document.{Document}
@@ -15,7 +15,9 @@ use Rattle.swf_world.specs.declared.change.ChangeKind.TheVariants as kinds
 use Rattle.swf_world.specs.declared.refusal.PrepareFault.{PrepareFault}
 use Rattle.swf_world.specs.declared.refusal.PrepareFault.TheVariants.{Refused, OutOfMemory}
 use Rattle.swf_world.specs.Changes.{IsReady, Suits, changed}
-use Rattle.swf_world.specs.Offers.{put_at, IsOffer, IsSent}
+use Rattle.swf_world.specs.Enabled.{CanGo}
+use Rattle.swf_instances.specs.Offers.{put_at, IsOffer}
+use Rattle.swf_instances.specs.declared.offer.Hearing.{Hearing}
 use Rattle.swf_world.specs.Refusals.{refusal}
 
 -- a change of that kind, of which no task takes an event that is told
@@ -39,6 +41,11 @@ TellsTo is e k = ⊥
 pub record IsTelling (is : List Instance) (e : Event) (c : Change) : Type 0 where
   pub tells : TellsTo is e c.kind
   pub taken : c.taken ≡ takers e is
+
+-- those that took the event that goes out, where one does
+abbrev pub IsSent : ℕ → Option Event → List Instance → List Hearing → Type 0
+IsSent n None is hs = hs ≡ []
+IsSent n (Some e) is hs = IsOffer n e is hs
 
 -- a strand of the instance of that number takes its step at a moment, and the others are told the event that goes out
 abbrev pub Steps : ℕ → ℕ → List ℕ → List Instance → ChangeKind → Type 0
@@ -66,3 +73,8 @@ abbrev pub Prepares : World → Label → Result Change PrepareFault → Type 0
 Prepares w l (Ok c) = Suits w c × (after w l ≡ Some (changed w c)) × (refusal w l ≡ None) × (c.taken ≡ taken_by w l)
 Prepares w l (Err (Refused r)) = refusal w l ≡ Some r
 Prepares w l (Err OutOfMemory) = Unit {0}
+
+-- a step that a strand of some instance can take now, and the change that its label makes
+pub record IsPreparedStep (w : World) (p : Label × Change) : Type 0 where
+  pub goes : CanGo w p.0
+  pub prepares : Prepares w p.0 (Ok p.1)

@@ -1,13 +1,8 @@
 -- Until when instances wait.
-use Rattle.std.specs.Prelude.{◌&&◌, ℕ, List, Bool, Option, map, nat_lt}
+use Rattle.std.specs.Prelude.{◌&&◌, ℕ, Bool, nat_lt}
 use Rattle.std.specs.List.{list_any}
 use Rattle.swf_meaning.specs.Wake.{is_due as is_due_in}
-use Rattle.swf_meaning.specs.World.{World, Instance}
-use Rattle.swf_strands.specs.Alarm.{alarm_of}
-
--- of each instance the least moment that a strand of it waits for, or none
-abbrev pub alarms_of : List Instance → List (Option ℕ)
-alarms_of is = map (λ i. alarm_of i.node) is
+use Rattle.swf_meaning.specs.World.{World}
 
 -- the moment is above now, and a strand of some instance waits until it, or until one before it
 abbrev pub is_due : World → ℕ → Bool

@@ -1,19 +1,19 @@
-//! The world: all instances, the keys that were used, and why a label is refused, as maps that equal the lists of the definitions.
+//! The world: all instances, the keys that were used, and why a label is refused, as parts that equal the lists of the definitions.
 #![tactic(auto)]
 
-mod built;
 mod change;
-mod key;
+mod event;
+mod label;
 mod latest;
 mod laws;
-mod make;
-mod offer;
-mod pending;
-mod prepare;
+mod load;
+mod moment;
+mod next;
 mod query;
 mod refusal;
-mod reports;
-mod steps;
+mod reply;
+mod start;
+mod step;
 mod world;
 
 pub use change::{Change, Installed};

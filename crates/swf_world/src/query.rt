@@ -5,12 +5,11 @@ ghost use Rattle.swf_meaning.specs.declared.label.Label.{Label};
 ghost use Rattle.swf_meaning.specs.Answer.{status};
 ghost use Rattle.swf_world.specs.Enabled.{enabled_of, enabled_strands};
 
-use crate::pending::{outbox, pending};
-use crate::reports::report;
 use crate::world::World;
 use std::alloc::{AllocError, Global};
 use swf_duration::Moment;
 use swf_meaning::{Answer, Query};
+use swf_reports::{outbox, pending, report};
 use swf_tasks::Machine;
 use swf_text::{Strand, Text};
 use thiserror::Error;
@@ -48,10 +47,10 @@ impl World {
     fn status(&self, id: &Text) -> Result<Answer, QueryFault>
         ensures { (result ≡ Err QueryFault.OutOfMemory) ⊎ (result ≡ found (status self.now.world id.now)) }
     {
-        let Some(instance) = self.instances.get(id) else {
+        let Some(instance) = self.instances.of_id(id) else {
             return Err(QueryFault::UnknownInstance);
         };
-        match report(self.alloc, instance, self.moment) {
+        match report(self.alloc, instance, self.now()) {
             Ok(value) => Ok(Answer::Status(value)),
             Err(_) => Err(QueryFault::OutOfMemory),
         }
@@ -63,8 +62,8 @@ impl World {
     {
         let mut strands = Vec::new(self.alloc);
         for number in 0..self.instances.len() {
-            let instance = &self.instances[number];
-            push_enabled(self.alloc, &mut strands, instance, self.moment)?;
+            let instance = self.instances.at(number);
+            push_enabled(self.alloc, &mut strands, instance, self.now())?;
         }
         Ok(strands)
     }

@@ -1,8 +1,11 @@
-use Rattle.std.proofs.Common.{subst, sym, [], Ok, Err}
+use Rattle.std.proofs.Common.{subst, sym, [], None, Ok, Err, Result, inr, refl}
 use Rattle.swf_protocol.specs.Line.{command_of}
 use Rattle.swf_protocol.specs.declared.reply.Reply.{Reply}
-use Rattle.swf_cli.specs.Turns.{LineTurn}
+use Rattle.swf_cli.specs.Turns.{CommandTurn}
 use Rattle.swf_cli.proofs.AnswerLemmas.{line_as, line_stays, read_line_is, unread_turn}
+use Rattle.swf_protocol.specs.declared.command.Command.{Command}
+use Rattle.swf_protocol.specs.declared.command.CommandFault.{CommandFault}
+use Rattle.swf_cli.specs.StoreCalls.{CommandCalls}
 use Rattle.swf_cli.proofs.answer.answer_line.Goals as goal
 
 pub returns-in-Ok-obey-clause-done : goal.returns-in-Ok-obey-clause-done
@@ -27,5 +30,20 @@ returns-in-Err-clause-done g c =
     let words = c.args.words.now in
     let line = command_of c.args.line.now in
     line_stays words H.moment H.left_since H.said H.may_leave H.seen g.met.S.Store.only_now line c.args.store.now c.args.engine.now c.unread.result
-    (λ history is. subst (λ (r : Reply). LineTurn words history line [] r) (sym c.unread.ensures.reply)
+    (λ history is. subst (λ (r : Reply). CommandTurn words None [] history line [] r) (sym c.unread.ensures.reply)
     (unread_turn words history line c.read_command.result c.in-Err.fault c.in-Err.is c.read_command.ensures.reads c.read_command.ensures.memory))
+
+pub returns-in-Ok-obey-clause-calls : goal.returns-in-Ok-obey-clause-calls
+returns-in-Ok-obey-clause-calls g c =
+    let H = g.S.Store in
+    let reads = read_line_is c.read_command.result (command_of c.args.line.now) c.in-Ok.command c.in-Ok.is c.read_command.ensures.reads in
+    subst (λ (m : Result Command CommandFault). CommandCalls c.args.words.now H.moment H.left_since H.said H.may_leave H.seen H.calls m c.args.store.now c.obey.new.store c.args.engine.now c.obey.new.engine) (sym reads) c.obey.ensures.calls
+
+pub returns-in-Err-obey-clause-calls : goal.returns-in-Err-obey-clause-calls
+returns-in-Err-obey-clause-calls g c =
+    let H = g.S.Store in
+    let reads = read_line_is c.read_command.result (command_of c.args.line.now) c.in-Ok.command c.in-Ok.is c.read_command.ensures.reads in
+    subst (λ (m : Result Command CommandFault). CommandCalls c.args.words.now H.moment H.left_since H.said H.may_leave H.seen H.calls m c.args.store.now c.obey.new.store c.args.engine.now c.obey.new.engine) (sym reads) c.obey.ensures.calls
+
+pub returns-in-Err-clause-calls : goal.returns-in-Err-clause-calls
+returns-in-Err-clause-calls g c = inr refl

@@ -1,4 +1,4 @@
-use Rattle.std.proofs.Common.{sym, subst, ◌∙◌, Ok, Result, ap, is_some}
+use Rattle.std.proofs.Common.{inl, sym, subst, ◌∙◌, Ok, Result, ap, is_some}
 use Rattle.std.specs.Result.{IfOk}
 use Rattle.swf_meaning.specs.declared.label.Answer.{Answer}
 use Rattle.swf_world.specs.declared.query.QueryFault.{QueryFault}
@@ -26,9 +26,13 @@ returns-in-Err g c =
       place = query_usable c.in-Err.fault c.or_memory.result (IsEngineOf (H.seen c.query.new.store) c.query.new.self) c.or_memory.ensures c.query.ensures.place;
       done = λ words. asked_done_as words H.moment H.left_since H.said H.may_leave H.seen g.met.S.Store.only_now c.args.query.now c.args.store.now c.query.new.store c.args.engine.now c.query.new.self c.query.result c.or_memory.result
           c.query.ensures.engine c.query.ensures.seen c.query.ensures.stop c.query.ensures.any_moment c.query.ensures.answers (ap answer_of c.in-Err.is ∙ sym c.or_memory.ensures);
+      calls = λ words. inl (c.query.result, c.query.ensures.calls);
       sayable = subst (λ (r : Result Reply EngineFault). IfOk r IsSayable) (sym c.or_memory.ensures) (sayable_or_memory c.in-Err.fault);
       said = c.query.ensures.said;
       beside = c.query.ensures.beside;
       honest = ap is_some c.query.ensures.seen;
       cause = or_memory_cause (Result Answer QueryFault) c.in-Err.fault c.or_memory.result (H.store_faults c.args.store.now) (H.store_faults c.query.new.store) c.or_memory.ensures cause;
     }
+
+pub returns-in-Ok-clause-calls : goal.returns-in-Ok-clause-calls
+returns-in-Ok-clause-calls g c = λ words. inl (c.query.result, c.query.ensures.calls)

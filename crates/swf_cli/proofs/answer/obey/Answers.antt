@@ -1,7 +1,10 @@
-use Rattle.std.proofs.Common.{Ok, ap, refl, inl}
+use Rattle.std.proofs.Common.{Ok, Result, ap, refl, inl, inr, subst, sym}
 use Rattle.swf_protocol.specs.declared.command.Command.TheVariants.{Do, Ask, Settle, Quit}
 use Rattle.swf_protocol.specs.declared.reply.Reply.TheVariants.{Quit as Bye}
 use Rattle.swf_cli.proofs.AnswerLemmas.{line_as, line_stays}
+use Rattle.swf_protocol.specs.declared.command.Command.{Command}
+use Rattle.swf_protocol.specs.declared.command.CommandFault.{CommandFault}
+use Rattle.swf_cli.specs.StoreCalls.{CommandCalls}
 use Rattle.swf_cli.proofs.answer.obey.Goals as goal
 
 pub returns-in-Do-clause-done : goal.returns-in-Do-clause-done
@@ -28,3 +31,21 @@ returns-in-Quit-clause-done g c =
     line_as c.args.words.now H.moment H.left_since H.said H.may_leave H.seen g.met.S.Store.only_now (Ok c.args.command) (Ok Quit) c.args.store.now c.args.store.now c.args.engine.now c.args.engine.now (Ok Bye) (Ok Bye)
     (ap Ok c.in-Quit.is) refl
     (line_stays c.args.words.now H.moment H.left_since H.said H.may_leave H.seen g.met.S.Store.only_now (Ok Quit) c.args.store.now c.args.engine.now Bye (λ history is. inl (refl, refl)))
+
+pub returns-in-Do-clause-calls : goal.returns-in-Do-clause-calls
+returns-in-Do-clause-calls g c =
+    let H = g.S.Store in
+    subst (λ (m : Result Command CommandFault). CommandCalls c.args.words.now H.moment H.left_since H.said H.may_leave H.seen H.calls m c.args.store.now c.submit.new.store c.args.engine.now c.submit.new.engine) (sym (ap Ok c.in-Do.is)) (c.submit.ensures.calls c.args.words.now)
+
+pub returns-in-Ask-clause-calls : goal.returns-in-Ask-clause-calls
+returns-in-Ask-clause-calls g c =
+    let H = g.S.Store in
+    subst (λ (m : Result Command CommandFault). CommandCalls c.args.words.now H.moment H.left_since H.said H.may_leave H.seen H.calls m c.args.store.now c.ask.new.store c.args.engine.now c.ask.new.engine) (sym (ap Ok c.in-Ask.is)) (c.ask.ensures.calls c.args.words.now)
+
+pub returns-in-Settle-clause-calls : goal.returns-in-Settle-clause-calls
+returns-in-Settle-clause-calls g c =
+    let H = g.S.Store in
+    subst (λ (m : Result Command CommandFault). CommandCalls c.args.words.now H.moment H.left_since H.said H.may_leave H.seen H.calls m c.args.store.now c.settle.new.store c.args.engine.now c.settle.new.engine) (sym (ap Ok c.in-Settle.is)) c.settle.ensures.calls
+
+pub returns-in-Quit-clause-calls : goal.returns-in-Quit-clause-calls
+returns-in-Quit-clause-calls g c = inr refl

@@ -1,8 +1,8 @@
-use Rattle.std.proofs.Common.{◌≡◌, sym, subst, ◌∙◌, ℕ, unwrap_or, Ok, Result, ap, arith}
+use Rattle.std.proofs.Common.{inl, ◌≡◌, sym, subst, ◌∙◌, ℕ, unwrap_or, Ok, Result, ap, arith}
 use Rattle.std.specs.Result.{IfOk}
 use Rattle.swf_engine.specs.declared.engine.Settled.{Settled}
 use Rattle.swf_engine.specs.declared.fault.EngineFault.{EngineFault}
-use Rattle.swf_engine.specs.Answers.{Settles}
+use Rattle.swf_engine.specs.Answers.{SettleCalls, Settles}
 use Rattle.swf_engine.specs.Causes.{EngineCause, WhereUsable}
 use Rattle.swf_engine.specs.Core.{IsEngineOf}
 use Rattle.swf_protocol.specs.Sayable.{IsSayable}
@@ -40,9 +40,16 @@ returns-in-Err g c =
       place = or_memory_usable Settled c.in-Err.fault c.or_memory.result (IsEngineOf (H.seen c.settle.new.store) c.settle.new.self) c.or_memory.ensures usable;
       done = settle_line_as c.args.words.now H.moment H.left_since H.said H.may_leave H.seen g.met.S.Store.only_now c.args.limit c.unwrap_or-most.result c.args.store.now c.settle.new.store c.args.engine.now c.settle.new.self c.settle.result c.or_memory.result
           most_is c.settle.ensures.settles (ap (settled_reply c.unwrap_or-most.result) c.in-Err.is ∙ sym c.or_memory.ensures);
+      calls = inl (c.settle.result, subst (λ (n : ℕ). SettleCalls H.moment H.left_since H.said H.may_leave H.seen H.calls c.args.store.now c.settle.new.store c.args.engine.now c.settle.new.self n c.settle.result) most_is c.settle.ensures.calls);
       sayable = subst (λ (r : Result Reply EngineFault). IfOk r IsSayable) (sym c.or_memory.ensures) (sayable_or_memory c.in-Err.fault);
       said = c.settle.ensures.said;
       beside = c.settle.ensures.beside;
       honest = c.settle.ensures.honest;
       cause = or_memory_cause Settled c.in-Err.fault c.or_memory.result (H.store_faults c.args.store.now) (H.store_faults c.settle.new.store) c.or_memory.ensures cause;
     }
+
+pub returns-in-Ok-clause-calls : goal.returns-in-Ok-clause-calls
+returns-in-Ok-clause-calls g c =
+    let H = g.S.Store in
+    let most_is : c.unwrap_or-most.result ≡ unwrap_or c.args.limit c.args.words.now.steps = c.unwrap_or-most.ensures ∙ ap (λ (n : ℕ). unwrap_or c.args.limit n) c.from.ensures in
+    inl (c.settle.result, subst (λ (n : ℕ). SettleCalls H.moment H.left_since H.said H.may_leave H.seen H.calls c.args.store.now c.settle.new.store c.args.engine.now c.settle.new.self n c.settle.result) most_is c.settle.ensures.calls)

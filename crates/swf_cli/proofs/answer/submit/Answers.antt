@@ -1,4 +1,4 @@
-use Rattle.std.proofs.Common.{sym, subst, ◌∙◌, Ok, Result, ap}
+use Rattle.std.proofs.Common.{inl, sym, subst, ◌∙◌, Ok, Result, ap}
 use Rattle.std.specs.Result.{IfOk}
 use Rattle.swf_engine.specs.declared.engine.Submitted.{Submitted}
 use Rattle.swf_engine.specs.declared.fault.EngineFault.{EngineFault}
@@ -47,9 +47,16 @@ returns-in-Err g c =
       place = or_memory_usable Submitted c.in-Err.fault c.or_memory.result (IsEngineOf (H.seen c.submit.new.store) c.submit.new.self) c.or_memory.ensures usable;
       done = λ words. submit_done_as words H.moment H.left_since H.said H.may_leave H.seen g.met.S.Store.only_now o c.args.store.now c.submit.new.store c.args.engine.now c.submit.new.self c.submit.result c.or_memory.result
           c.submit.ensures.submits (ap (submit_reply o) c.in-Err.is ∙ sym c.or_memory.ensures);
+      calls = λ words. inl (c.submit.result, c.submit.ensures.calls);
       sayable = subst (λ (r : Result Reply EngineFault). IfOk r IsSayable) (sym c.or_memory.ensures) (sayable_or_memory c.in-Err.fault);
       said = c.submit.ensures.said;
       beside = c.submit.ensures.beside;
       honest = c.submit.ensures.honest;
       cause = or_memory_cause Submitted c.in-Err.fault c.or_memory.result (H.store_faults c.args.store.now) (H.store_faults c.submit.new.store) c.or_memory.ensures cause;
     }
+
+pub returns-in-Ok-Accepted-clause-calls : goal.returns-in-Ok-Accepted-clause-calls
+returns-in-Ok-Accepted-clause-calls g c = λ words. inl (c.submit.result, c.submit.ensures.calls)
+
+pub returns-in-Ok-Refused-clause-calls : goal.returns-in-Ok-Refused-clause-calls
+returns-in-Ok-Refused-clause-calls g c = λ words. inl (c.submit.result, c.submit.ensures.calls)

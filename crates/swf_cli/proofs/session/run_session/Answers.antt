@@ -1,4 +1,4 @@
-use Rattle.std.proofs.Common.{ap, Err, ◌∙◌}
+use Rattle.std.proofs.Common.{ap, Err, inl, inr, ◌∙◌}
 use Rattle.swf_cli.proofs.OpeningLemmas.{session_opened, session_closed}
 use Rattle.swf_cli.proofs.TurnLemmas.{blamed_behind}
 use Rattle.swf_cli.proofs.session.run_session.Goals as goal
@@ -33,3 +33,15 @@ returns-in-Err-clause-runs g c =
     (g.met.H.Host.beside_taken opened old c.open_on.ensures.beside) c.open_on.ensures.said c.not_opened.ensures.taken
     (λ image is at e. c.open_on.ensures.damaged image is at (c.in-Err.is ∙ ap Err e)) (λ image is history h. c.open_on.ensures.any_moment image is history h)
     (λ image is long. c.open_on.ensures.untouched image is long) c.not_opened.ensures.tells c.not_opened.ensures.closes
+
+pub returns-in-Ok-clause-calls : goal.returns-in-Ok-clause-calls
+returns-in-Ok-clause-calls g c = record {
+  opened = c.open_on.new.store;
+  answer = c.open_on.result;
+  opening = c.open_on.ensures.calls;
+  behind = inr (c.in-Ok.engine, c.take_turns.new.engine, c.take_turns.ensures.calls.0, c.in-Ok.is, c.take_turns.ensures.calls.1);
+}
+
+pub returns-in-Err-clause-calls : goal.returns-in-Err-clause-calls
+returns-in-Err-clause-calls g c =
+    record { opened = c.open_on.new.store; answer = c.open_on.result; opening = c.open_on.ensures.calls; behind = inl c.not_opened.ensures.calls }

@@ -1,7 +1,8 @@
-use Rattle.std.proofs.Common.{inr, rules, refl, ◌≡◌, [], ◌++◌, arith}
-use Rattle.swf_cli.specs.Finish.{pieces_of, most_turns}
+use Rattle.std.proofs.Common.{inr, rules, refl, ◌≡◌, suc, [], ◌++◌, arith}
+use Rattle.swf_cli.specs.Dialect.{session}
+use Rattle.swf_cli.specs.Finish.{most_turns}
+use Rattle.swf_cli.specs.Owed.{pieces_of}
 use Rattle.swf_cli.specs.Turns.{labels_of, inputs_of}
-use Rattle.swf_cli.specs.Heard.{inputs_in, pieces_in}
 use Rattle.swf_cli.proofs.HeardLemmas.{heard_none, heard_more, tells_ends, tells_stops, tells_all}
 use Rattle.swf_cli.proofs.SessionLemmas.{begins, turn_goes_on, turn_ends, turn_stops, all_made}
 use Rattle.std.specs.Prelude.{length}
@@ -14,6 +15,7 @@ loop-init g c = record {
       begins c.args.words.now g.H.Store.moment g.H.Store.left_since g.H.Store.said g.H.Store.may_leave g.H.Store.seen g.H.Host.taken start c.args.host.now c.args.engine.now before first told took is stands leaves;
   heard = λ first told took is. ([], heard_none g.H.Store.moment g.H.Store.left_since g.H.Store.said g.H.Store.may_leave g.H.Store.seen g.H.Host.taken c.args.host.now first told took is);
   sound = λ s. s;
+  calls = (0, refl);
   host_faults = refl;
   store_faults = refl;
 }
@@ -23,14 +25,14 @@ returns-in-Ends-clause-ran g c = λ start before first told took is stands leave
     let H = g.H.Store in
     let s = c.loop.invariant.so_far start before first told took is stands leaves in
     turn_ends c.args.words.now H.moment H.left_since H.said H.may_leave H.seen g.H.Host.taken start c.loop.host c.take_turn.new.host c.loop.engine c.take_turn.new.engine before first told c.loop.counter s
-    (c.in-Ends.ensures.turn s.stands.0 s.stands.1 (first ++ inputs_of s.turns) s.took (told ++ pieces_of (length first) s.turns) s.said_all (before ++ labels_of s.turns) s.stands.2)
+    (c.in-Ends.ensures.turn s.stands.0 s.stands.1 (first ++ inputs_of s.turns) s.took (told ++ pieces_of session (length first) s.turns) s.said_all (before ++ labels_of s.turns) s.stands.2)
 
 pub returns-in-Stops-clause-ran : goal.returns-in-Stops-clause-ran
 returns-in-Stops-clause-ran g c = λ start before first told took is stands leaves.
     let H = g.H.Store in
     let s = c.loop.invariant.so_far start before first told took is stands leaves in
     turn_stops c.args.words.now H.moment H.left_since H.said H.may_leave H.seen g.H.Host.taken start c.loop.host c.take_turn.new.host c.loop.engine c.take_turn.new.engine before first told c.loop.counter s c.in-Stops.status
-    (c.in-Stops.ensures.turn s.stands.0 s.stands.1 (first ++ inputs_of s.turns) s.took (told ++ pieces_of (length first) s.turns) s.said_all (before ++ labels_of s.turns) s.stands.2)
+    (c.in-Stops.ensures.turn s.stands.0 s.stands.1 (first ++ inputs_of s.turns) s.took (told ++ pieces_of session (length first) s.turns) s.said_all (before ++ labels_of s.turns) s.stands.2)
 
 pub loop-preserved : goal.loop-preserved
 loop-preserved g c =
@@ -40,12 +42,13 @@ loop-preserved g c =
       so_far = λ start before first told took is stands leaves.
           let s = c.loop.invariant.so_far start before first told took is stands leaves in
           turn_goes_on c.args.words.now H.moment H.left_since H.said H.may_leave H.seen g.H.Host.taken start c.loop.host c.take_turn.new.host c.loop.engine c.take_turn.new.engine before first told c.loop.counter s
-          (c.in-GoesOn.ensures.turn s.stands.0 s.stands.1 (first ++ inputs_of s.turns) s.took (told ++ pieces_of (length first) s.turns) s.said_all (before ++ labels_of s.turns) s.stands.2);
+          (c.in-GoesOn.ensures.turn s.stands.0 s.stands.1 (first ++ inputs_of s.turns) s.took (told ++ pieces_of session (length first) s.turns) s.said_all (before ++ labels_of s.turns) s.stands.2);
       heard = λ first told took is.
           let h = c.loop.invariant.heard first told took is in
-          heard_more H.moment H.left_since H.said H.may_leave H.seen g.H.Host.taken c.take_turn.new.host first told h.0
-          (c.in-GoesOn.ensures.tells (first ++ inputs_in h.0) h.1.took (told ++ pieces_in (length first) h.0) h.1.told);
+          heard_more H.moment H.left_since H.said H.may_leave H.seen g.H.Host.taken c.take_turn.new.host first told h.0 h.1.replied
+          (c.in-GoesOn.ensures.tells (first ++ inputs_of h.0) h.1.took (told ++ pieces_of session (length first) h.0) h.1.told);
       sound = λ s. c.in-GoesOn.ensures.sound (c.loop.invariant.sound s);
+      calls = (suc c.loop.invariant.calls.0, (c.loop.host, c.loop.engine, c.loop.invariant.calls.1, c.take_turn.ensures.calls));
       host_faults = search rules;
       store_faults = search rules;
     }
@@ -67,18 +70,27 @@ pub returns-in-Ends-clause-tells : goal.returns-in-Ends-clause-tells
 returns-in-Ends-clause-tells g c = λ first took told is.
     let H = g.H.Store in
     let h = c.loop.invariant.heard first told took is in
-    tells_ends H.moment H.left_since H.said H.may_leave H.seen g.H.Host.taken c.take_turn.new.host first told h.0
-    (c.in-Ends.ensures.tells (first ++ inputs_in h.0) h.1.took (told ++ pieces_in (length first) h.0) h.1.told)
+    tells_ends H.moment H.left_since H.said H.may_leave H.seen g.H.Host.taken c.take_turn.new.host first told h.0 h.1.replied
+    (c.in-Ends.ensures.tells (first ++ inputs_of h.0) h.1.took (told ++ pieces_of session (length first) h.0) h.1.told)
 
 pub returns-in-Stops-clause-tells : goal.returns-in-Stops-clause-tells
 returns-in-Stops-clause-tells g c = λ first took told is.
     let H = g.H.Store in
     let h = c.loop.invariant.heard first told took is in
-    tells_stops H.moment H.left_since H.said H.may_leave H.seen g.H.Host.taken c.take_turn.new.host first told h.0 c.in-Stops.status c.in-Stops.ensures.which
-    (c.in-Stops.ensures.tells (first ++ inputs_in h.0) h.1.took (told ++ pieces_in (length first) h.0) h.1.told)
+    tells_stops H.moment H.left_since H.said H.may_leave H.seen g.H.Host.taken c.take_turn.new.host first told h.0 h.1.replied c.in-Stops.status c.in-Stops.ensures.which
+    (c.in-Stops.ensures.tells (first ++ inputs_of h.0) h.1.took (told ++ pieces_of session (length first) h.0) h.1.told)
 
 pub returns-clause-tells : goal.returns-clause-tells
 returns-clause-tells g c = λ first took told is.
     let H = g.H.Store in
     let h = c.loop.invariant.heard first told took is in
     tells_all H.moment H.left_since H.said H.may_leave H.seen g.H.Host.taken c.loop.host first told h.0 h.1
+
+pub returns-in-Ends-clause-calls : goal.returns-in-Ends-clause-calls
+returns-in-Ends-clause-calls g c = (suc c.loop.invariant.calls.0, (c.loop.host, c.loop.engine, c.loop.invariant.calls.1, c.take_turn.ensures.calls))
+
+pub returns-in-Stops-clause-calls : goal.returns-in-Stops-clause-calls
+returns-in-Stops-clause-calls g c = (suc c.loop.invariant.calls.0, (c.loop.host, c.loop.engine, c.loop.invariant.calls.1, c.take_turn.ensures.calls))
+
+pub returns-clause-calls : goal.returns-clause-calls
+returns-clause-calls g c = c.loop.invariant.calls

@@ -1,10 +1,11 @@
-use Rattle.std.proofs.Common.{◌≡◌, ◌∙◌, ap, sym, inl, false, Ok, Err, Option, Some, option_map, List, [], ◌∷◌, ◌++◌, arith}
+use Rattle.std.proofs.Common.{◌≡◌, ◌∙◌, ap, sym, refl, inl, inr, false, Ok, Err, Option, Some, option_map, List, [], ◌∷◌, ◌++◌, arith}
 use Rattle.swf_host.specs.declared.host.Input.{Input}
 use Rattle.swf_host.specs.declared.host.Input.TheVariants.{Ask as Asks, TooLong as TooLongInput, Closed}
 use Rattle.swf_cli.proofs.TurnLemmas.{Comes, asked_reply, asked_full, asked_broken, too_long_done, closed_done, none_done}
 use Rattle.swf_engine.specs.declared.fault.EngineFault.TheVariants.{Damaged, Full}
 use Rattle.swf_protocol.specs.Spoken.{spoken, full_bytes}
 use Rattle.swf_protocol.specs.declared.reply.Reply.TheVariants.{TooLong}
+use Rattle.swf_cli.specs.Dialect.{line_read}
 use Rattle.swf_cli.specs.Steps.{IsSound, follows_end}
 use Rattle.swf_cli.specs.declared.turn.After.TheVariants.{Stops}
 use Rattle.swf_cli.proofs.HeardLemmas.{reply_tells, full_tells, damage_tells}
@@ -87,7 +88,7 @@ returns-in-Ok-clause-sound g c = λ s.
     let H = g.H.Store in
     let one = c.next.new.self in
     let first = sound_stays c.args.words.now H.moment H.left_since H.said H.may_leave H.seen c.args.host.now one c.args.engine.now c.next.ensures.seen c.next.ensures.stop s in
-    let asked = sound_asked_as c.args.words.now H.moment H.left_since H.said H.may_leave H.seen c.as_slice.result.now one c.answer_ask.new.host c.args.engine.now c.answer_ask.new.engine c.answer_ask.result (Ok c.in-Ok.answered) (c.in-Ok.is) first c.answer_ask.ensures.done in
+    let asked = sound_asked_as c.args.words.now H.moment H.left_since H.said H.may_leave H.seen (line_read c.as_slice.result.now) one c.answer_ask.new.host c.args.engine.now c.answer_ask.new.engine c.answer_ask.result (Ok c.in-Ok.answered) (c.in-Ok.is) first c.answer_ask.ensures.done in
     sound_said c.args.words.now H.moment H.left_since H.said H.may_leave H.seen g.H.Host.taken c.answer_ask.new.host c.say.new.host c.answer_ask.new.engine c.in-Ok-Ask.conn (spoken c.in-Ok.answered.reply) (follows_end c.in-Ok.answered.ends) c.say.result
     (end_is_none c.in-Ok.answered.ends) c.say.ensures.says asked
 
@@ -96,7 +97,7 @@ returns-in-Err-Full-clause-sound g c = λ s.
     let H = g.H.Store in
     let one = c.next.new.self in
     let first = sound_stays c.args.words.now H.moment H.left_since H.said H.may_leave H.seen c.args.host.now one c.args.engine.now c.next.ensures.seen c.next.ensures.stop s in
-    let asked = sound_asked_as c.args.words.now H.moment H.left_since H.said H.may_leave H.seen c.as_slice.result.now one c.answer_ask.new.host c.args.engine.now c.answer_ask.new.engine c.answer_ask.result (Err (Full c.in-Err-Full.size)) (c.in-Err-Full.is ∙ ap Err c.in-Err-Full.field-0-is) first c.answer_ask.ensures.done in
+    let asked = sound_asked_as c.args.words.now H.moment H.left_since H.said H.may_leave H.seen (line_read c.as_slice.result.now) one c.answer_ask.new.host c.args.engine.now c.answer_ask.new.engine c.answer_ask.result (Err (Full c.in-Err-Full.size)) (c.in-Err-Full.is ∙ ap Err c.in-Err-Full.field-0-is) first c.answer_ask.ensures.done in
     sound_said c.args.words.now H.moment H.left_since H.said H.may_leave H.seen g.H.Host.taken c.answer_ask.new.host c.say_full.new.host c.answer_ask.new.engine c.in-Ok-Ask.conn (full_bytes c.in-Err-Full.size) (Stops 7) c.say_full.result
     (seven_is_none) c.say_full.ensures.says asked
 
@@ -105,7 +106,7 @@ returns-in-Err-Damaged-clause-sound g c = λ s.
     let H = g.H.Store in
     let one = c.next.new.self in
     let first = sound_stays c.args.words.now H.moment H.left_since H.said H.may_leave H.seen c.args.host.now one c.args.engine.now c.next.ensures.seen c.next.ensures.stop s in
-    let asked = sound_asked_as c.args.words.now H.moment H.left_since H.said H.may_leave H.seen c.as_slice.result.now one c.answer_ask.new.host c.args.engine.now c.answer_ask.new.engine c.answer_ask.result (Err (Damaged c.in-Err-Damaged.at)) (c.in-Err-Damaged.is ∙ ap Err c.in-Err-Damaged.field-0-is) first c.answer_ask.ensures.done in
+    let asked = sound_asked_as c.args.words.now H.moment H.left_since H.said H.may_leave H.seen (line_read c.as_slice.result.now) one c.answer_ask.new.host c.args.engine.now c.answer_ask.new.engine c.answer_ask.result (Err (Damaged c.in-Err-Damaged.at)) (c.in-Err-Damaged.is ∙ ap Err c.in-Err-Damaged.field-0-is) first c.answer_ask.ensures.done in
     absurd asked
 
 pub returns-in-Err-Damaged-clause-turn : goal.returns-in-Err-Damaged-clause-turn
@@ -114,7 +115,7 @@ returns-in-Err-Damaged-clause-turn g c = λ image seen inputs taken pieces said 
     let one = c.next.new.self in
     let s : IsSound H.moment H.left_since H.said H.may_leave H.seen c.args.host.now c.args.engine.now = (history, (image, seen, stands)) in
     let first = sound_stays c.args.words.now H.moment H.left_since H.said H.may_leave H.seen c.args.host.now one c.args.engine.now c.next.ensures.seen c.next.ensures.stop s in
-    let asked = sound_asked_as c.args.words.now H.moment H.left_since H.said H.may_leave H.seen c.as_slice.result.now one c.answer_ask.new.host c.args.engine.now c.answer_ask.new.engine c.answer_ask.result (Err (Damaged c.in-Err-Damaged.at)) (c.in-Err-Damaged.is ∙ ap Err c.in-Err-Damaged.field-0-is) first c.answer_ask.ensures.done in
+    let asked = sound_asked_as c.args.words.now H.moment H.left_since H.said H.may_leave H.seen (line_read c.as_slice.result.now) one c.answer_ask.new.host c.args.engine.now c.answer_ask.new.engine c.answer_ask.result (Err (Damaged c.in-Err-Damaged.at)) (c.in-Err-Damaged.is ∙ ap Err c.in-Err-Damaged.field-0-is) first c.answer_ask.ensures.done in
     absurd asked
 
 pub returns-in-Ok-TooLong-clause-sound : goal.returns-in-Ok-TooLong-clause-sound
@@ -179,3 +180,70 @@ returns-in-Err-Store-clause-tells g c = λ inputs taken pieces said. λ five. ab
 
 pub returns-clause-tells : goal.returns-clause-tells
 returns-clause-tells g c = λ inputs taken pieces said. λ five. absurd (omega (arith, five))
+
+pub returns-in-Ok-clause-calls : goal.returns-in-Ok-clause-calls
+returns-in-Ok-clause-calls g c =
+    let line = c.as_slice.result.now in
+    let conn = c.in-Ok-Ask.conn in
+    let input : c.in-Ok-Ask.field-0 ≡ Asks conn line = c.in-Ok-Ask.field-0-is ∙ ap (Asks conn) (sym c.as_slice.ensures) in
+    inl (
+      Asks conn line,
+      λ inputs is.
+          c.say.ensures.says.taken_same ∙ c.answer_ask.ensures.taken ∙ c.in-Ok-Ask.ensures.taken ∙ ap (with_input (g.H.Host.taken c.args.host.now)) input ∙ ap (λ (t : Option (List Input)). with_input t (Asks conn line)) is,
+      record { taken = c.next.new.self; answered = c.answer_ask.new.host; take = c.next.ensures.calls; made = c.answer_ask.ensures.calls; say = c.say.ensures.calls },
+    )
+
+pub returns-in-Err-Full-clause-calls : goal.returns-in-Err-Full-clause-calls
+returns-in-Err-Full-clause-calls g c =
+    let line = c.as_slice.result.now in
+    let conn = c.in-Ok-Ask.conn in
+    let input : c.in-Ok-Ask.field-0 ≡ Asks conn line = c.in-Ok-Ask.field-0-is ∙ ap (Asks conn) (sym c.as_slice.ensures) in
+    inl (
+      Asks conn line,
+      λ inputs is.
+          c.say_full.ensures.says.taken_same ∙ c.answer_ask.ensures.taken ∙ c.in-Ok-Ask.ensures.taken ∙ ap (with_input (g.H.Host.taken c.args.host.now)) input ∙ ap (λ (t : Option (List Input)). with_input t (Asks conn line)) is,
+      record { taken = c.next.new.self; answered = c.answer_ask.new.host; take = c.next.ensures.calls; made = c.answer_ask.ensures.calls; say = c.say_full.ensures.calls },
+    )
+
+pub returns-in-Err-Damaged-clause-calls : goal.returns-in-Err-Damaged-clause-calls
+returns-in-Err-Damaged-clause-calls g c =
+    let line = c.as_slice.result.now in
+    let conn = c.in-Ok-Ask.conn in
+    let input : c.in-Ok-Ask.field-0 ≡ Asks conn line = c.in-Ok-Ask.field-0-is ∙ ap (Asks conn) (sym c.as_slice.ensures) in
+    inl (
+      Asks conn line,
+      λ inputs is.
+          c.say_damage.ensures.taken ∙ c.answer_ask.ensures.taken ∙ c.in-Ok-Ask.ensures.taken ∙ ap (with_input (g.H.Host.taken c.args.host.now)) input ∙ ap (λ (t : Option (List Input)). with_input t (Asks conn line)) is,
+      record { taken = c.next.new.self; answered = c.answer_ask.new.host; take = c.next.ensures.calls; made = c.answer_ask.ensures.calls; say = c.say_damage.ensures.calls },
+    )
+
+pub returns-in-Err-Store-clause-calls : goal.returns-in-Err-Store-clause-calls
+returns-in-Err-Store-clause-calls g c =
+    let line = c.as_slice.result.now in
+    let conn = c.in-Ok-Ask.conn in
+    let input : c.in-Ok-Ask.field-0 ≡ Asks conn line = c.in-Ok-Ask.field-0-is ∙ ap (Asks conn) (sym c.as_slice.ensures) in
+    inl (
+      Asks conn line,
+      λ inputs is.
+          c.answer_ask.ensures.taken ∙ c.in-Ok-Ask.ensures.taken ∙ ap (with_input (g.H.Host.taken c.args.host.now)) input ∙ ap (λ (t : Option (List Input)). with_input t (Asks conn line)) is,
+      record { taken = c.next.new.self; answered = c.answer_ask.new.host; take = c.next.ensures.calls; made = c.answer_ask.ensures.calls; say = refl },
+    )
+
+pub returns-in-Ok-TooLong-clause-calls : goal.returns-in-Ok-TooLong-clause-calls
+returns-in-Ok-TooLong-clause-calls g c = inl (
+  TooLongInput c.in-Ok-TooLong.conn,
+  λ inputs is.
+      c.say-in-Ok-TooLong.ensures.says.taken_same ∙ c.in-Ok-TooLong.ensures.taken ∙ ap (with_input (g.H.Host.taken c.args.host.now)) c.in-Ok-TooLong.field-0-is ∙ ap (λ (t : Option (List Input)). with_input t (TooLongInput c.in-Ok-TooLong.conn)) is,
+  c.say-in-Ok-TooLong.ensures.calls ∙ c.next.ensures.calls,
+)
+
+pub returns-in-Ok-Closed-clause-calls : goal.returns-in-Ok-Closed-clause-calls
+returns-in-Ok-Closed-clause-calls g c = inl (
+  Closed,
+  λ inputs is.
+      c.in-Ok-Closed.ensures.taken ∙ ap (with_input (g.H.Host.taken c.args.host.now)) c.in-Ok-Closed.field-0-is ∙ ap (λ (t : Option (List Input)). with_input t (Closed)) is,
+  c.next.ensures.calls,
+)
+
+pub returns-clause-calls : goal.returns-clause-calls
+returns-clause-calls g c = inr c.next.ensures.calls

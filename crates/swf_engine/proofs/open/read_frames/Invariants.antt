@@ -1,10 +1,12 @@
-use Rattle.std.proofs.Common.{◌≡◌}
+use Rattle.std.proofs.Common.{◌≡◌, ℕ, List}
 use Rattle.std.specs.Option.{ForSome}
 use Rattle.swf_store.specs.declared.image.File.TheVariants.{Journal}
 use Rattle.swf_store.specs.Disk.{NothingNew}
 use Rattle.swf_store.specs.Stops.{LeavesOnly}
 use Rattle.swf_journal.specs.Place.{IsReadingOf}
+use Rattle.swf_meaning.specs.World.{World}
 use Rattle.swf_engine.specs.Reading.{HasReplayed}
+use Rattle.swf_engine.proofs.EngineCallLemmas.{FramesRead}
 use Rattle.swf_engine.proofs.open.read_frames.Given as goal
 
 -- how far the frames are read, and what stays
@@ -15,7 +17,8 @@ invariant-loop g l =
       place : IsReadingOf (S.seen l.store) l.reading;
       file : l.reading.file ≡ Journal;
       limit : l.reading.limit ≡ l.fn.reading.limit;
-      reads : ForSome (S.seen l.fn.store) (λ image. HasReplayed image.journal l.fn.reading l.fn.world.world → HasReplayed image.journal l.reading l.world.world);
+      reads : ForSome (S.seen l.fn.store) (λ image. (front : List ℕ) (first : World) → HasReplayed image.journal front first l.fn.reading l.fn.world.world → HasReplayed image.journal front first l.reading l.world.world);
+      frames : FramesRead l.fn.reading.gate l.reading.gate (S.calls l.fn.store) (S.calls l.store);
       seen : S.seen l.store ≡ S.seen l.fn.store;
       stop : NothingNew (S.may_leave l.fn.store) (S.may_leave l.store);
       any_moment : LeavesOnly S.moment S.left_since S.said l.fn.store l.store (S.may_leave l.fn.store);

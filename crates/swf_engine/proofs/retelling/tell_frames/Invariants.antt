@@ -1,11 +1,11 @@
-use Rattle.std.proofs.Common.{◌≡◌, []}
+use Rattle.std.proofs.Common.{◌≡◌, ℕ, List, []}
 use Rattle.std.specs.Option.{ForSome}
 use Rattle.swf_store.specs.declared.image.File.TheVariants.{Journal}
 use Rattle.swf_store.specs.Disk.{NothingNew}
 use Rattle.swf_store.specs.Stops.{LeavesOnly}
-use Rattle.swf_journal.specs.Frames.{header}
 use Rattle.swf_journal.specs.Place.{IsReadingOf, HasRead}
 use Rattle.swf_engine.specs.Retelling.{HasTold}
+use Rattle.swf_engine.proofs.EngineCallLemmas.{FramesRead}
 use Rattle.swf_engine.proofs.retelling.tell_frames.Given as goal
 
 -- how far the frames are told, and what stays
@@ -15,7 +15,8 @@ invariant-loop g l =
     record {
       place : IsReadingOf (S.seen l.store) l.reading;
       file : l.reading.file ≡ Journal;
-      told : ForSome (S.seen l.fn.store) (λ image. HasRead image.journal l.fn.reading header [] → HasTold image.journal l.reading l.from l.told.pass l.told.values.items);
+      told : ForSome (S.seen l.fn.store) (λ image. (front : List ℕ) → HasRead image.journal l.fn.reading front [] → HasTold image.journal front l.reading l.from l.told.pass l.told.values.items);
+      frames : FramesRead l.fn.reading.gate l.reading.gate (S.calls l.fn.store) (S.calls l.store);
       seen : S.seen l.store ≡ S.seen l.fn.store;
       stop : NothingNew (S.may_leave l.fn.store) (S.may_leave l.store);
       any_moment : LeavesOnly S.moment S.left_since S.said l.fn.store l.store (S.may_leave l.fn.store);

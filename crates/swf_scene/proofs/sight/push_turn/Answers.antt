@@ -1,6 +1,6 @@
 use Rattle.std.proofs.Common.{◌∙◌, ◌++◌, ◌≤◌, ap, sym, subst, length, append-nil}
 use Rattle.swf_meaning.specs.Line.{variable}
-use Rattle.swf_scene.proofs.RoundLemmas.{turn_past, pushed_turn}
+use Rattle.swf_stack.proofs.RoundLemmas.{turn_past, pushed_turn}
 use Rattle.swf_scene.proofs.sight.push_turn.Goals as goal
 
 pub returns-then-place-items : goal.returns-then-place-items

@@ -2,9 +2,9 @@ use Rattle.std.proofs.Common.{◌≡◌, ◌∙◌, ◌∷◌, ◌++◌, ◌+◌
 use Rattle.swf_document.specs.Task.{Task}
 use Rattle.swf_meaning.specs.Fork.{branches_of}
 use Rattle.swf_meaning.specs.Next.{task_at}
-use Rattle.swf_scene.specs.declared.made.Layer.{Layer}
-use Rattle.swf_scene.specs.declared.made.Layer.TheVariants as layers
-use Rattle.swf_scene.specs.declared.made.Top.TheVariants as tops
+use Rattle.swf_stack.specs.declared.made.Layer.{Layer}
+use Rattle.swf_stack.specs.declared.made.Layer.TheVariants as layers
+use Rattle.swf_stack.specs.declared.made.Top.TheVariants as tops
 use Rattle.swf_strands.specs.Forks.{branches_in}
 use Rattle.swf_strands.specs.Strands.{most_beside}
 use Rattle.swf_strands.proofs.ForkLemmas.{AreFirst, first-more, first-all, top-last}

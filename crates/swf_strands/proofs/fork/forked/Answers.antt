@@ -1,6 +1,6 @@
 use Rattle.std.proofs.Common.{◌≡◌, subst, sym, true}
 use Rattle.swf_frames.specs.Tree.{Tree}
-use Rattle.swf_scene.specs.declared.made.Layer.{Layer}
+use Rattle.swf_stack.specs.declared.made.Layer.{Layer}
 use Rattle.swf_strands.specs.Strands.{IsGrown, made_layers, root_node}
 use Rattle.swf_strands.specs.Ways.{has_strand}
 use Rattle.swf_strands.proofs.ForkLemmas.{IsWith, at-held, no-way, put-fork}

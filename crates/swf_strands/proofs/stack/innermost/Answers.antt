@@ -1,6 +1,6 @@
 use Rattle.std.proofs.Common.{◌∙◌, ◌++◌, ◌∷◌, [], ap, sym}
-use Rattle.swf_scene.specs.declared.made.Layer.{Layer}
-use Rattle.swf_scene.specs.declared.made.Layer.TheVariants.{Running}
+use Rattle.swf_stack.specs.declared.made.Layer.{Layer}
+use Rattle.swf_stack.specs.declared.made.Layer.TheVariants.{Running}
 use Rattle.swf_strands.proofs.StrandLemmas.{no-top, running-of}
 use Rattle.swf_strands.proofs.stack.innermost.Goals as goal
 

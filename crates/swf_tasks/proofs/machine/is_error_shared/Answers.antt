@@ -1,10 +1,10 @@
 use Rattle.std.proofs.Common.{◌∙◌, ◌++◌, ◌∷◌, [], ap}
 use Rattle.swf_meaning.specs.Parts.{kind_of}
 use Rattle.swf_meaning.specs.Shared.{is_shared_error}
-use Rattle.swf_scene.specs.Stack.{round_of}
-use Rattle.swf_scene.specs.declared.made.Frame.{Frame}
-use Rattle.swf_scene.specs.declared.made.Layer.{Layer}
-use Rattle.swf_scene.specs.Layers.{frames_of}
+use Rattle.swf_stack.specs.Stack.{round_of}
+use Rattle.swf_stack.specs.declared.made.Frame.{Frame}
+use Rattle.swf_stack.specs.declared.made.Layer.{Layer}
+use Rattle.swf_stack.specs.Layers.{frames_of}
 use Rattle.swf_strands.proofs.StrandLemmas.{last-of, no-frames, no-top, some-frames}
 use Rattle.swf_tasks.proofs.WayLemmas.{error-last, error-none}
 use Rattle.swf_tasks.proofs.machine.is_error_shared.Goals as goal

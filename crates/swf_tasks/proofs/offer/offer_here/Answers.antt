@@ -1,8 +1,8 @@
 use Rattle.std.proofs.Common.{◌∙◌, ap, subst, append-nil, Option}
 use Rattle.swf_frames.specs.Tree.{Tree}
-use Rattle.swf_scene.specs.Layers.{frames_of, stacked}
-use Rattle.swf_scene.specs.declared.made.Layer.{Layer}
-use Rattle.swf_scene.specs.declared.made.Top.{Top}
+use Rattle.swf_stack.specs.Layers.{frames_of, stacked}
+use Rattle.swf_stack.specs.declared.made.Layer.{Layer}
+use Rattle.swf_stack.specs.declared.made.Top.{Top}
 use Rattle.swf_tasks.specs.Taken.{IsOffered}
 use Rattle.swf_tasks.proofs.OfferLemmas.{here-none, here-some}
 use Rattle.swf_tasks.proofs.offer.offer_here.Goals as goal

@@ -2,7 +2,7 @@ use Rattle.std.proofs.Common.{◌≡◌, ◌∙◌, ap, sym, subst, arith, lengt
 use Rattle.std.proofs.Common.{true}
 use Rattle.swf_meaning.specs.Line.{Site}
 use Rattle.swf_meaning.specs.Strands.{can_go}
-use Rattle.swf_scene.specs.Stack.{line_of, site_of}
+use Rattle.swf_scene.specs.Setting.{line_of, site_of}
 use Rattle.swf_strands.specs.Strands.{node_of}
 use Rattle.swf_tasks.proofs.ChangeLemmas.{no-numbers, own-goes, own-told, child-goes, fork-there, branch-told, nowhere-goes, Goes}
 use Rattle.swf_strands.proofs.TreeLemmas.{child-held}

@@ -6,11 +6,12 @@ use Rattle.swf_meaning.specs.declared.heard.Heard.{Heard}
 use Rattle.swf_scene.specs.Halts.{Makes}
 use Rattle.swf_meaning.specs.Local.{failed}
 use Rattle.swf_meaning.specs.Enter.{enter}
-use Rattle.swf_scene.specs.Layers.{running}
-use Rattle.swf_scene.specs.Stack.{line_of, plug, round_of, seen_in, site_of, stepped_of, top_node}
+use Rattle.swf_stack.specs.Layers.{running}
+use Rattle.swf_stack.specs.Stack.{plug, round_of, seen_in, stepped_of, top_node}
+use Rattle.swf_scene.specs.Setting.{line_of, site_of}
 use Rattle.swf_scene.specs.declared.halt.Halt.{Halt}
-use Rattle.swf_scene.specs.declared.made.Frame.{Frame}
-use Rattle.swf_scene.specs.declared.made.Made.{Made}
+use Rattle.swf_stack.specs.declared.made.Frame.{Frame}
+use Rattle.swf_stack.specs.declared.made.Made.{Made}
 use Rattle.swf_strands.proofs.StrandLemmas.{all-ok, frames-are, same_running, some-done, some-failed, no-fork}
 use Rattle.swf_tasks.specs.Installed.{IsStep}
 use Rattle.swf_tasks.specs.Taken.{IsListened}

@@ -4,9 +4,9 @@ use Rattle.swf_frames.specs.Tree.{find}
 use Rattle.swf_frames.specs.Paths.{Found}
 use Rattle.swf_meaning.specs.Fork.{put}
 use Rattle.swf_meaning.specs.Node.{Node}
-use Rattle.swf_scene.specs.Layers.{top_of}
-use Rattle.swf_scene.specs.Stack.{top_node}
-use Rattle.swf_scene.specs.declared.made.Layer.{Layer}
+use Rattle.swf_stack.specs.Layers.{top_of}
+use Rattle.swf_stack.specs.Stack.{top_node}
+use Rattle.swf_stack.specs.declared.made.Layer.{Layer}
 use Rattle.swf_tasks.specs.Installed.{output_in}
 use Rattle.swf_tasks.specs.Stepped.{output_on}
 use Rattle.swf_strands.specs.Strands.{nodes_of}

@@ -1,8 +1,8 @@
 use Rattle.std.proofs.Common.{◌≡◌, ◌-◌, Some}
 use Rattle.swf_frames.specs.Tree.{Branch, find}
 use Rattle.swf_meaning.specs.Fork.{put}
-use Rattle.swf_scene.specs.Stack.{top_node}
-use Rattle.swf_scene.specs.declared.made.Layer.{Layer}
+use Rattle.swf_stack.specs.Stack.{top_node}
+use Rattle.swf_stack.specs.declared.made.Layer.{Layer}
 use Rattle.swf_strands.specs.Strands.{nodes_of}
 use Rattle.swf_tasks.proofs.OutputLemmas.{AreUpTo, beside}
 use Rattle.swf_tasks.proofs.step.outputs_of.Given as goal

@@ -1,6 +1,7 @@
 use Rattle.std.proofs.Common.{◌≡◌, refl, subst, true, []}
 use Rattle.swf_meaning.specs.Strands.{can_go}
-use Rattle.swf_scene.specs.Stack.{line_of, plug, site_of, top_node}
+use Rattle.swf_stack.specs.Stack.{plug, top_node}
+use Rattle.swf_scene.specs.Setting.{line_of, site_of}
 use Rattle.swf_tasks.proofs.ChangeLemmas.{own-change}
 use Rattle.swf_tasks.proofs.StepLemmas.{around}
 use Rattle.swf_strands.proofs.StrandLemmas.{same_running}

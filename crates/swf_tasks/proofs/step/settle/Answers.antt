@@ -5,9 +5,10 @@ use Rattle.swf_meaning.specs.Complete.{Stepped, step_of}
 use Rattle.swf_meaning.specs.Fork.{competes}
 use Rattle.swf_meaning.specs.Line.{Line}
 use Rattle.swf_rules.specs.Settles.{ending, MakesSome}
-use Rattle.swf_scene.specs.Layers.{frames_of, top_of}
-use Rattle.swf_scene.specs.Stack.{line_of, seen_in, site_of, stepped_of}
-use Rattle.swf_scene.specs.declared.made.Top.TheVariants as tops
+use Rattle.swf_stack.specs.Layers.{frames_of, top_of}
+use Rattle.swf_stack.specs.Stack.{seen_in, stepped_of}
+use Rattle.swf_scene.specs.Setting.{line_of, site_of}
+use Rattle.swf_stack.specs.declared.made.Top.TheVariants as tops
 use Rattle.swf_tasks.specs.Stepped.{IsChange, ended_of}
 use Rattle.swf_strands.specs.Strands.{node_of}
 use Rattle.swf_tasks.proofs.ChangeLemmas.{goes-deeper, settle-on, settle-off, settles-to, halted, none-of, some-of, ok-then}

@@ -9,7 +9,7 @@ invariant-loop-steps g l =
     let S = g.S.Store in
     record {
       place : IsEngineOf (S.seen l.store) l.self;
-      taken : Taken S.moment S.left_since S.said S.may_leave S.seen l.fn.store l.store l.fn.self l.self l.steps;
+      taken : Taken S.moment S.left_since S.said S.may_leave S.seen S.calls l.fn.store l.store l.fn.self l.self l.steps;
       said : S.said l.store ≡ S.said l.fn.store;
       beside : S.beside l.store ≡ S.beside l.fn.store;
       honest : is_some (S.seen l.store) ≡ is_some (S.seen l.fn.store);

@@ -1,6 +1,6 @@
 use Rattle.std.proofs.Common.{◌∙◌, Ok, None, ap, sym}
-use Rattle.swf_scene.specs.Stack.{made_node}
-use Rattle.swf_scene.specs.declared.made.Top.TheVariants as tops
+use Rattle.swf_stack.specs.Stack.{made_node}
+use Rattle.swf_stack.specs.declared.made.Top.TheVariants as tops
 use Rattle.swf_rules.specs.Rules.{line_in}
 use Rattle.swf_rules.proofs.ForkLemmas.{split-some}
 use Rattle.swf_rules.proofs.rule.Rule.split.Goals as goal

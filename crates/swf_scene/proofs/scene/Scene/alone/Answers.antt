@@ -1,4 +1,4 @@
-use Rattle.swf_scene.specs.Stack.{line_of}
+use Rattle.swf_scene.specs.Setting.{line_of}
 use Rattle.swf_scene.proofs.scene.Scene.alone.Goals as goal
 
 pub returns-clause-line : goal.returns-clause-line

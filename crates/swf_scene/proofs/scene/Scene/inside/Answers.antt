@@ -3,11 +3,12 @@ use Rattle.std.proofs.lemmas.List.{take_all}
 use Rattle.swf_document.specs.Task.{Task}
 use Rattle.swf_meaning.specs.Around.{seen}
 use Rattle.swf_meaning.specs.Line.{Line}
-use Rattle.swf_scene.specs.Layers.{frames_of}
-use Rattle.swf_scene.specs.Stack.{round_of, seen_in, line_of, site_of}
-use Rattle.swf_scene.specs.declared.made.Frame.{Frame}
-use Rattle.swf_scene.proofs.RoundLemmas.{seen_in-append}
-use Rattle.swf_scene.proofs.LayerLemmas.{one-more, none-more}
+use Rattle.swf_stack.specs.Layers.{frames_of}
+use Rattle.swf_stack.specs.Stack.{round_of, seen_in}
+use Rattle.swf_scene.specs.Setting.{line_of, site_of}
+use Rattle.swf_stack.specs.declared.made.Frame.{Frame}
+use Rattle.swf_stack.proofs.RoundLemmas.{seen_in-append}
+use Rattle.swf_stack.proofs.LayerLemmas.{one-more, none-more}
 use Rattle.swf_scene.proofs.scene.Scene.inside.Goals as goal
 use Rattle.swf_scene.proofs.scene.Scene.inside.Goals.{in-Running+in_ok-push_seen, in_default}
 

@@ -1,6 +1,7 @@
 use Rattle.std.proofs.Common.{◌≡◌, take}
-use Rattle.swf_scene.specs.Layers.{frames_of}
-use Rattle.swf_scene.specs.Stack.{seen_in, line_of, site_of}
+use Rattle.swf_stack.specs.Layers.{frames_of}
+use Rattle.swf_stack.specs.Stack.{seen_in}
+use Rattle.swf_scene.specs.Setting.{line_of, site_of}
 use Rattle.swf_scene.proofs.scene.Scene.inside.Given as goal
 
 abbrev pub invariant-loop-layer : goal.invariant-loop-layer

@@ -2,8 +2,8 @@ use Rattle.std.proofs.Common.{◌≡◌, ap, subst, sym}
 use Rattle.swf_frames.specs.Tree.{Tree}
 use Rattle.swf_meaning.specs.Offer.{offered_one, takers_in}
 use Rattle.swf_meaning.specs.World.{Instance}
-use Rattle.swf_scene.specs.Stack.{instance_of}
-use Rattle.swf_scene.specs.declared.made.Layer.{Layer}
+use Rattle.swf_scene.specs.Setting.{instance_of}
+use Rattle.swf_stack.specs.declared.made.Layer.{Layer}
 use Rattle.swf_strands.specs.Strands.{IsGrown, root_node}
 use Rattle.swf_tasks.proofs.OfferLemmas.{AreOffered, offered-all}
 use Rattle.swf_strands.proofs.AlarmLemmas.{alarm-root}

@@ -1,5 +1,5 @@
 use Rattle.std.proofs.Common.{◌≡◌, Some, None}
-use Rattle.swf_scene.specs.Layers.{frames_of}
+use Rattle.swf_stack.specs.Layers.{frames_of}
 use Rattle.swf_tasks.specs.Installed.{output_in}
 use Rattle.swf_strands.proofs.StrandLemmas.{length_running}
 use Rattle.swf_strands.proofs.TreeLemmas.{root-held}

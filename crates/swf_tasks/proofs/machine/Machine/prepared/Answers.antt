@@ -1,8 +1,8 @@
 use Rattle.std.proofs.Common.{◌≡◌, ◌∙◌, ◌≤◌, List, ℕ, ap, length, refl, subst, sym, take, true}
 use Rattle.swf_meaning.specs.Line.{Site}
 use Rattle.swf_meaning.specs.World.{line_of as line_at, site_of as site_at}
-use Rattle.swf_scene.specs.Stack.{line_of, site_of}
-use Rattle.swf_scene.specs.declared.made.Layer.{Layer}
+use Rattle.swf_scene.specs.Setting.{line_of, site_of}
+use Rattle.swf_stack.specs.declared.made.Layer.{Layer}
 use Rattle.swf_strands.specs.Alarm.{until_in}
 use Rattle.swf_tasks.specs.Stepped.{IsChange}
 use Rattle.swf_strands.specs.Strands.{IsStack, root_node}

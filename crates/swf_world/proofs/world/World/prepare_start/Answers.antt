@@ -8,5 +8,5 @@ use Rattle.swf_world.proofs.world.World.prepare_start.Goals as goal
 pub returns-in-Ok : goal.returns-in-Ok
 returns-in-Ok c =
     subst (Prepares c.args.self.now.world (Start c.args.id.now c.args.key.now c.args.input.now)) (sym c.ready.ensures)
-    (start_prepares c.args.self.now.world c.args.id.now c.args.key.now c.args.input.now c.in-Ok.loaded.now.document c.self.inside.moment c.start_change.result (ap (λ h. h.world.now) c.self.view_is) c.in-Ok.ensures.found
+    (start_prepares c.args.self.now.world c.args.id.now c.args.key.now c.args.input.now c.in-Ok.document.now c.now-now.result c.start_change.result c.now-now.ensures c.in-Ok.ensures.found
     (sym c.startable.ensures.refused ∙ ap refused_by c.in-Ok.is) c.start_change.ensures)

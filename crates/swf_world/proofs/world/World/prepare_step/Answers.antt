@@ -1,4 +1,4 @@
-use Rattle.std.proofs.Common.{◌∙◌, ap, sym, subst}
+use Rattle.std.proofs.Common.{◌∙◌, ap, sym, subst, ℕ}
 use Rattle.std.specs.Result.{IfOk}
 use Rattle.swf_meaning.specs.declared.label.Label.TheVariants.{Step}
 use Rattle.swf_world.specs.Refusals.{refused_by}
@@ -13,4 +13,5 @@ returns-in-Ok c =
     let strand = c.args.strand.now in
     subst (Prepares w (Step c.args.id.now strand)) (sym c.ready.ensures)
     (step_prepares w c.args.id.now strand n c.step_change.result c.in-Ok.ensures.found.1 (sym c.steppable.ensures.refused ∙ ap refused_by c.in-Ok.is)
-    (subst (λ h. IfOk c.step_change.result (IsStepping h.world.now n strand h.world.instances)) c.self.view_is c.step_change.ensures))
+    (subst (λ (m : ℕ). IfOk c.step_change.result (IsStepping m n strand w.instances)) c.now-now.ensures
+    (subst (λ h. IfOk c.step_change.result (IsStepping c.now-now.result n strand h.world.instances)) c.self.view_is c.step_change.ensures)))

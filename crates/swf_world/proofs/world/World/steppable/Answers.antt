@@ -1,24 +1,35 @@
-use Rattle.std.proofs.Common.{◌∙◌, ap, sym, true, false, None}
+use Rattle.std.proofs.Common.{◌∙◌, ◌<◌, ap, sym, subst, true, false, length}
+use Rattle.swf_meaning.specs.Answer.{instance_at}
+use Rattle.swf_meaning.specs.Strands.{can_go}
+use Rattle.swf_instances.proofs.Lookups.{instance_unnumbered, number_within}
+use Rattle.swf_world.specs.Parts.{world_of}
+use Rattle.swf_world.specs.Prepares.{StepsFirst}
 use Rattle.swf_world.specs.Refusals.{refusal_of_step}
-use Rattle.swf_world.proofs.Checks.{instance_found, step_refusal, step_found, none_found}
+use Rattle.swf_world.proofs.Checks.{step_refusal, step_found}
 use Rattle.swf_world.proofs.world.World.steppable.Goals as goal
 
 pub returns-in_default-clause-refused : goal.returns-in_default-clause-refused
 returns-in_default-clause-refused c =
-    sym (ap (refusal_of_step c.args.self.now.world.now c.args.strand.now) (instance_found c.self.inside.documents.entries c.self.inside.instances.entries c.self.inside.keys.entries c.self.inside.moment c.self.inside.outbox.items c.self.inside.count _ c.args.self.now c.self.view_is c.args.id.now None
-    c.self.invariant.placed (none_found _ c.get_index_of.result c.in_default.is c.get_index_of.ensures.found)))
+    sym (ap (refusal_of_step c.self.inside.instances.moment c.args.strand.now) (instance_unnumbered c.args.id.now c.self.inside.instances.instances (sym c.number_of.ensures ∙ c.in_default.is)))
+    ∙ ap (λ h. refusal_of_step h.world.now c.args.strand.now (instance_at c.args.id.now h.world.instances)) c.self.view_is
+
+pub at-requires : goal.at-requires
+at-requires c = number_within c.args.id.now c.self.inside.instances.instances c.in-Some.number (sym c.number_of.ensures ∙ c.in-Some.is)
 
 pub returns-then-enabled-clause-refused : goal.returns-then-enabled-clause-refused
 returns-then-enabled-clause-refused c =
-    sym (step_refusal c.self.inside.documents.entries c.self.inside.instances.entries c.self.inside.keys.entries c.self.inside.moment c.self.inside.outbox.items c.self.inside.count _ c.args.self.now c.self.view_is c.args.id.now c.args.strand.now c.index.result.now true
-    c.self.invariant.placed (sym c.in-Some.ensures.value ∙ c.index.ensures) (sym c.if-enabled.true ∙ c.enabled.ensures))
+    sym (step_refusal (world_of c.self.inside) c.args.id.now c.args.strand.now c.in-Some.number c.at.result.now true (sym c.number_of.ensures ∙ c.in-Some.is) c.at.ensures.there (sym c.if-enabled.true ∙ c.enabled.ensures ∙ ap (λ m. can_go m c.args.strand.now c.at.result.now.node) (c.now.ensures ∙ sym (ap (λ h. h.world.now) c.self.view_is))))
+    ∙ ap (λ h. refusal_of_step h.world.now c.args.strand.now (instance_at c.args.id.now h.world.instances)) c.self.view_is
 
 pub returns-then-enabled-clause-found : goal.returns-then-enabled-clause-found
 returns-then-enabled-clause-found c =
-    step_found c.self.inside.documents.entries c.self.inside.instances.entries c.self.inside.keys.entries c.self.inside.moment c.self.inside.outbox.items c.self.inside.count _ c.args.self.now c.self.view_is c.args.id.now c.args.strand.now c.index.result.now c.in-Some.number
-    c.self.invariant.placed c.in-Some.ensures.index c.index.ensures
+    let w = world_of c.self.inside in
+    let n = c.in-Some.number in
+    let found = sym c.number_of.ensures ∙ c.in-Some.is in
+    subst (λ h. (n < length h.world.instances) × StepsFirst h.world c.args.id.now c.args.strand.now n) c.self.view_is
+    (step_found w c.args.id.now c.args.strand.now n found (number_within c.args.id.now w.instances n found))
 
 pub returns-else-enabled-clause-refused : goal.returns-else-enabled-clause-refused
 returns-else-enabled-clause-refused c =
-    sym (step_refusal c.self.inside.documents.entries c.self.inside.instances.entries c.self.inside.keys.entries c.self.inside.moment c.self.inside.outbox.items c.self.inside.count _ c.args.self.now c.self.view_is c.args.id.now c.args.strand.now c.index.result.now false
-    c.self.invariant.placed (sym c.in-Some.ensures.value ∙ c.index.ensures) (sym c.if-enabled.false ∙ c.enabled.ensures))
+    sym (step_refusal (world_of c.self.inside) c.args.id.now c.args.strand.now c.in-Some.number c.at.result.now false (sym c.number_of.ensures ∙ c.in-Some.is) c.at.ensures.there (sym c.if-enabled.false ∙ c.enabled.ensures ∙ ap (λ m. can_go m c.args.strand.now c.at.result.now.node) (c.now.ensures ∙ sym (ap (λ h. h.world.now) c.self.view_is))))
+    ∙ ap (λ h. refusal_of_step h.world.now c.args.strand.now (instance_at c.args.id.now h.world.instances)) c.self.view_is

@@ -1,0 +1,121 @@
+-- Until when instances wait, at one moment and at a later one.
+use Rattle.std.proofs.Common.{◌≡◌, ◌∙◌, refl, ap, sym, ℕ, zero, suc, ◌||◌, ◌⊎◌, inl, inr, List, [], ◌∷◌, ◌++◌, nat_le, Bool, true, false, Option, Some, None}
+use Rattle.std.specs.Prelude.{min, slice_get, slice_set}
+use Rattle.std.proofs.Math.Bool.{or_assoc, or-false}
+use Rattle.std.proofs.lemmas.Bool.{or_cases, or_left, or_right}
+use Rattle.std.proofs.lemmas.List.{map-append}
+use Rattle.std.proofs.lemmas.List.Folds.{list_any-append}
+use Rattle.std.proofs.lemmas.Option.{same_Some}
+use Rattle.std.specs.List.{fold, list_any, reduce}
+use Rattle.swf_document.specs.Task.{Task}
+use Rattle.swf_meaning.specs.Local.{is_enabled, is_enabled_inside, is_some_enabled}
+use Rattle.swf_meaning.specs.Node.{Node, Fresh, Live, Done, Fault, Inside, At, Later, Sleep, Hear, Forked, Nodes, no_nodes, branch}
+use Rattle.swf_meaning.specs.Wake.{waits, waits_inside, waits_among, is_due as is_due_in}
+use Rattle.swf_meaning.specs.World.{Instance}
+use Rattle.swf_strands.specs.Alarm.{alarm_of}
+use Rattle.swf_turns.specs.Alarms.{is_by, is_due}
+use Rattle.swf_turns.specs.Line.{is_among}
+use Rattle.swf_turns.proofs.AlarmLemmas.{is_by_sooner}
+use Rattle.swf_instances.specs.Offers.{put_at}
+use Rattle.swf_instances.specs.Queued.{Queued, enabled_at}
+use Rattle.swf_instances.specs.Waits.{alarms_of}
+
+-- the least of moments has come where one of them has
+least_by : (moment m : ℕ) (ms : List ℕ) → nat_le (fold min m ms) moment ≡ (nat_le m moment || list_any (λ k. nat_le k moment) ms)
+least_by moment m [] = sym (or-false (nat_le m moment))
+least_by moment m (k ∷ ms) =
+    let rest = list_any (λ k. nat_le k moment) ms in
+    least_by moment (min m k) ms ∙ ap (λ b. b || rest) (is_by_sooner moment (Some m) (Some k)) ∙ or_assoc (nat_le m moment) (nat_le k moment) rest
+
+alarm_among : (moment : ℕ) (ms : List ℕ) → is_by moment (reduce min ms) ≡ list_any (λ k. nat_le k moment) ms
+alarm_among moment [] = refl
+alarm_among moment (m ∷ ms) = least_by moment m ms
+
+-- an alarm is over exactly where a wait is
+alarm_over : (moment : ℕ) (n : Node) → is_by moment (alarm_of n) ≡ is_due_in moment n
+alarm_over moment n = alarm_among moment (waits n)
+
+pub some_over : (moment : ℕ) (is : List Instance) → list_any (is_by moment) (alarms_of is) ≡ list_any (λ i. is_due_in moment i.node) is
+some_over moment [] = refl
+some_over moment (i ∷ is) = λ j. alarm_over moment i.node j || some_over moment is j
+
+-- the alarm of an instance that stands in a place of another
+alarms_put : (is : List Instance) (n : ℕ) (j : Instance) → slice_set (alarms_of is) n (alarm_of j.node) ≡ alarms_of (put_at n j is)
+alarms_put [] n j = refl
+alarms_put (i ∷ is) zero j = refl
+alarms_put (i ∷ is) (suc n) j = ap (λ os. alarm_of i.node ∷ os) (alarms_put is n j)
+
+put_there : (is : List Instance) (n : ℕ) (i j : Instance) → slice_get is n ≡ Some i → slice_get (put_at n j is) n ≡ Some j
+put_there [] n i j e = cc
+put_there (x ∷ xs) zero i j e = refl
+put_there (x ∷ xs) (suc n) i j e = put_there xs n i j e
+
+pub alarms_set : (is js : List Instance) (n : ℕ) (i j k : Instance) → slice_get is n ≡ Some i → js ≡ put_at n j is → slice_get js n ≡ Some k → slice_set (alarms_of is) n (alarm_of k.node) ≡ alarms_of js
+alarms_set is js n i j k there put stands =
+    let own : k ≡ j = same_Some k j (sym stands ∙ ap (λ xs. slice_get xs n) put ∙ put_there is n i j there) in
+    ap (λ x. slice_set (alarms_of is) n (alarm_of x.node)) own ∙ alarms_put is n j ∙ sym (ap alarms_of put)
+
+-- one more that does not wait
+pub alarms_pushed : (is : List Instance) (i : Instance) → waits i.node ≡ [] → alarms_of is ++ None ∷ [] ≡ alarms_of (is ++ i ∷ [])
+alarms_pushed is i awake = sym (map-append (λ i. alarm_of i.node) is (i ∷ []) ∙ ap (λ ms. alarms_of is ++ reduce min ms ∷ []) awake)
+
+-- a wait that has ended, or none: something can take a step at a moment that it could not take before
+Woke : ℕ → Bool → List ℕ → Type 0
+Woke moment b ms = (b ≡ true) ⊎ (list_any (λ m. nat_le m moment) ms ≡ true)
+
+-- the same of one of two
+first_woke : (moment : ℕ) (b c : Bool) (ms ks : List ℕ) → Woke moment b ms → Woke moment (b || c) (ms ++ ks)
+unfolding Woke
+first_woke moment b c ms ks w = elim w [
+  | inl e ↦ inl (or_left b c e)
+  | inr h ↦ inr (list_any-append (λ m. nat_le m moment) ms ks ∙ or_left (list_any (λ m. nat_le m moment) ms) (list_any (λ m. nat_le m moment) ks) h)
+]
+
+other_woke : (moment : ℕ) (b c : Bool) (ms ks : List ℕ) → Woke moment c ks → Woke moment (b || c) (ms ++ ks)
+unfolding Woke
+other_woke moment b c ms ks w = elim w [
+  | inl e ↦ inl (or_right b c e)
+  | inr h ↦ inr (list_any-append (λ m. nat_le m moment) ms ks ∙ or_right (list_any (λ m. nat_le m moment) ms) (list_any (λ m. nat_le m moment) ks) h)
+]
+
+mutual
+  unfolding Woke
+
+  woke : (now moment : ℕ) (n : Node) → is_enabled moment n ≡ true → Woke moment (is_enabled now n) (waits n)
+  woke now moment (Fresh t v) e = inl refl
+  woke now moment (Live r k) e = woke_inside now moment r.task k e
+  woke now moment (Done w f) e = cc
+  woke now moment (Fault p) e = cc
+
+  woke_inside : (now moment : ℕ) (t : Task) (k : Inside) → is_enabled_inside moment t k ≡ true → Woke moment (is_enabled_inside now t k) (waits_inside k)
+  woke_inside now moment s (At round i (Fresh t v)) e = inl refl
+  woke_inside now moment s (At round i (Live q k)) e = woke now moment (Live q k) e
+  woke_inside now moment s (At round i (Done w f)) e = inl refl
+  woke_inside now moment s (At round i (Fault p)) e = inl refl
+  woke_inside now moment s (Later n m) e = inr (or_left (nat_le m moment) false e)
+  woke_inside now moment s (Sleep m) e = inr (or_left (nat_le m moment) false e)
+  woke_inside now moment s (Hear bound hs) e = inl e
+  woke_inside now moment s (Forked ns) e = woke_among now moment ns e
+
+  woke_among : (now moment : ℕ) (ns : Nodes) → is_some_enabled moment ns ≡ true → Woke moment (is_some_enabled now ns) (waits_among ns)
+  woke_among now moment no_nodes e = cc
+  woke_among now moment (branch n ns) e = elim (or_cases (is_enabled moment n) (is_some_enabled moment ns) e) [
+    | inl h ↦ first_woke moment (is_enabled now n) (is_some_enabled now ns) (waits n) (waits_among ns) (woke now moment n h)
+    | inr h ↦ other_woke moment (is_enabled now n) (is_some_enabled now ns) (waits n) (waits_among ns) (woke_among now moment ns h)
+  ]
+
+-- what is enabled at a moment was enabled now, or its alarm is over then
+enabled_later : (now moment : ℕ) (is : List Instance) (n : ℕ) → enabled_at moment is n ≡ true → (enabled_at now is n ≡ true) ⊎ (is_due moment (alarms_of is) n ≡ true)
+unfolding Woke
+enabled_later now moment [] n e = cc
+enabled_later now moment (i ∷ is) zero e = elim (woke now moment i.node e) [ inl h ↦ inl h | inr h ↦ inr (alarm_over moment i.node ∙ h) ]
+enabled_later now moment (i ∷ is) (suc n) e = enabled_later now moment is n e
+
+-- once those are in the queue whose alarms are over, the moment is reached
+pub queued_woken : (now moment : ℕ) (is : List Instance) (queue next : List ℕ) (alarms : List (Option ℕ)) → alarms ≡ alarms_of is → ((n : ℕ) → is_among n next ≡ (is_among n queue || is_due moment alarms n)) → Queued now is queue → Queued moment is next
+queued_woken now moment is queue next alarms own woken q = record {
+  all = λ n e. woken n ∙ elim (enabled_later now moment is n e) [
+    | inl h ↦ or_left (is_among n queue) (is_due moment alarms n) (q.all n h)
+    | inr h ↦ or_right (is_among n queue) (is_due moment alarms n) (ap (λ os. is_due moment os n) own ∙ h)
+  ];
+}

@@ -1,0 +1,81 @@
+// An event is offered to all that listen.
+ghost use Rattle.std.specs.Prelude.{◌≡◌, ◌≤◌, ◌+◌, ◌++◌, ◌∷◌, [], length, nat_lt, if◌then◌else◌, IfOk};
+ghost use Rattle.std.specs.List.{AllByRecursion};
+ghost use Rattle.swf_meaning.specs.Offer.{takers, takers_in, offered_one};
+ghost use Rattle.swf_instances.specs.Offers.{put_all, IsHeardFrom, IsOffer};
+
+use crate::instances::Instances;
+use std::alloc::{AllocError, Global};
+use swf_cloudevents::Event;
+use swf_tasks::{BoxedMachine, Machine, Step};
+
+/// An instance that took an event, after it took it.
+#[derive(Drop)]
+pub struct Hearing {
+    pub number: usize,
+    pub instance: BoxedMachine,
+}
+
+/// Those that took an event, and how many of their tasks did.
+#[derive(Drop)]
+pub struct Offered {
+    pub heard: Vec<Hearing>,
+    pub taken: u32,
+}
+
+impl Instances {
+    /// Offers an event to all instances but that of a number, each of which is copied if it takes it.
+    pub fn offer(&self, alloc: Global, event: &Event, but: usize) -> Result<Offered, AllocError>
+        ensures heard { IfOk result (λ o. IsOffer but event.now self.now.instances o.heard.items) }
+        ensures taken { IfOk result (λ o. length self.now.instances ≤ but → o.taken ≡ takers event.now self.now.instances) }
+    {
+        let mut heard = Vec::new(alloc);
+        let mut taken: u32 = 0;
+        for number in 0..self.len() {
+            if number != but {
+                let more = offer_one(alloc, event, number, self.at(number), &mut heard)?;
+                taken = sum(taken, more)?;
+            }
+        }
+        Ok(Offered { heard, taken })
+    }
+
+    /// Those that took an event are in their places now, and get turns. It takes no memory.
+    pub fn hear(&mut self, heard: Vec<Hearing>)
+        requires from { AllByRecursion (IsHeardFrom self.old.instances) heard.items }
+        ensures instances { self.new.instances ≡ put_all heard.items self.old.instances }
+        ensures moment { self.new.moment ≡ self.old.moment }
+    {
+        for Hearing { number, instance } in heard {
+            self.take(number, Step::Whole(instance));
+        }
+    }
+}
+
+// There is none behind the greatest.
+fn sum(a: u32, b: u32) -> Result<u32, AllocError>
+    ensures { IfOk result (λ n. n ≡ a + b) }
+{
+    a.checked_add(b).ok_or(AllocError)
+}
+
+// Offers an event to an instance. Answers how many of its tasks took it.
+fn offer_one(
+    alloc: Global,
+    event: &Event,
+    number: usize,
+    instance: &Machine,
+    heard: &mut Vec<Hearing>,
+) -> Result<u32, AllocError>
+    ensures taken { IfOk result (λ n. n ≡ takers_in event.now instance.now) }
+    ensures heard { IfOk result (λ n. heard.new.items ≡ heard.old.items ++ (if nat_lt 0 n then (record { number = number; instance = offered_one event.now instance.now }) ∷ [] else [])) }
+{
+    if !instance.hears(alloc, event)? {
+        return Ok(0);
+    }
+    let mut instance = instance.copy(alloc)?;
+    let taken = instance.deliver_event(alloc, event)?;
+    let instance = BoxedMachine::new(alloc, instance)?;
+    heard.push(Hearing { number, instance })?;
+    Ok(taken)
+}

@@ -1,0 +1,4 @@
+pub mod UsedKey
+pub mod Held
+pub mod Versions
+pub mod Loads

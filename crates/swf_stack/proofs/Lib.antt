@@ -1,0 +1,4 @@
+pub mod TaskLemmas
+pub mod RoundLemmas
+pub mod LayerLemmas
+pub mod HeardLemmas

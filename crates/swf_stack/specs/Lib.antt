@@ -1,0 +1,5 @@
+pub mod Source
+pub mod TaskRef
+pub mod Stack
+pub mod FrameCode
+pub mod Layers

@@ -1,0 +1,47 @@
+// Examples of turns, each a law in the mode of these examples.
+ghost use Rattle.std.specs.Prelude.{ℕ, List, [], ◌∷◌, None};
+ghost use Rattle.swf_calls.specs.declared.reply.CallReply.{CallReply};
+ghost use Rattle.swf_meaning.specs.declared.label.Label.{Label};
+ghost use Rattle.swf_meaning.specs.declared.label.Label.TheVariants.{Reply};
+ghost use Rattle.swf_cli.specs.Follows.{Follows};
+ghost use Rattle.swf_cli.specs.Owed.{AreSaid, ArePrompt, replies_of};
+ghost use Rattle.swf_cli.specs.Settling.{AreSettling};
+ghost use Rattle.swf_cli.specs.Turns.{AreMore, AreTurns, inputs_of};
+ghost use Rattle.swf_cli.specs.declared.words.Words.{Words};
+ghost use Rattle.swf_test_turns.specs.Bell.{bell};
+ghost use Rattle.swf_test_turns.specs.Examples.{both_answers, both_held, early_pieces, fifteenth, fifth, go, late_pieces, settled_of_three, seventh, step, ticked, twelfth, untimely};
+
+/// A turn of three inputs. Two of its three labels are steps, and between them stands what the board answered.
+pub fn three_inputs()
+    ensures turn { (words : Words) (call : List ℕ) (reply : CallReply) → AreTurns bell words None [] (settled_of_three call reply ∷ []) }
+    // A line that settles belongs to no turn before it.
+    ensures other { AreMore bell (go ∷ []) → ⊥ }
+{}
+
+/// What the board answered is used in another order, and not all of it.
+pub fn two_answers()
+    ensures turn { (words : Words) (a b c : List ℕ) (reply : CallReply) → AreTurns bell words None [] (both_answers a b c reply ∷ []) }
+    // One answer is not used twice.
+    ensures once { (call : List ℕ) (reply : CallReply) → AreSettling (Reply call reply ∷ Reply call reply ∷ []) 2 (Reply call reply ∷ []) → ⊥ }
+    // Three steps are more than two, whatever was answered.
+    ensures steps { (answers : List Label) → AreSettling (step ∷ step ∷ step ∷ []) 2 answers → ⊥ }
+{}
+
+/// A moment that an input told comes before the next outcome, and not before the one after it.
+pub fn moment_before_outcome()
+    ensures turns { (words : Words) → AreTurns bell words None [] (ticked ∷ twelfth ∷ fifteenth ∷ []) }
+    // The outcome does not come without it.
+    ensures first { (words : Words) → AreTurns bell words None [] (ticked ∷ untimely ∷ []) → ⊥ }
+{}
+
+/// Two commands were taken, and one frame holds the labels of both. Then both replies are said, each behind both inputs.
+pub fn replies_held_back()
+    // Before anything is said the history has both labels,
+    ensures unsaid { (words : Words) → Follows bell words [] (inputs_of both_held) [] [] (fifth ∷ seventh ∷ []) }
+    // and behind it so where both replies were said.
+    ensures said { (words : Words) → Follows bell words [] (inputs_of both_held) [] (replies_of bell both_held) (fifth ∷ seventh ∷ []) }
+    ensures order { AreSaid bell 0 both_held late_pieces }
+    // That is in order and not prompt. A reply before the inputs of its turn is not even in order.
+    ensures late { ArePrompt bell 0 both_held late_pieces → ⊥ }
+    ensures early { AreSaid bell 0 both_held early_pieces → ⊥ }
+{}

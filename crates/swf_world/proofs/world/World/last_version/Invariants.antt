@@ -1,8 +1,0 @@
-use Rattle.std.proofs.Common.{◌≡◌, take}
-use Rattle.swf_world.specs.Latest.{last_version}
-use Rattle.swf_world.specs.Fields.{loaded_in}
-use Rattle.swf_world.proofs.world.World.last_version.Given as goal
-
--- the version of the last of the documents so far
-abbrev pub invariant-loop-number : goal.invariant-loop-number
-invariant-loop-number l = last_version l.key (take l.number (loaded_in l.self-inside.documents.entries)) l.key.version ≡ l.version
