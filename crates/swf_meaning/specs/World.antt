@@ -8,8 +8,8 @@ use Rattle.swf_meaning.specs.declared.key.Key.{Key}
 use Rattle.swf_meaning.specs.Complete.{Stepped}
 use Rattle.swf_meaning.specs.Line.{Line, Site}
 use Rattle.swf_meaning.specs.Local.{local}
-use Rattle.swf_meaning.specs.Fork.{branches_in}
 use Rattle.swf_meaning.specs.Parts.{workflow}
+use Rattle.swf_meaning.specs.Strands.{branches_in}
 
 -- an instance: its document, its raw input, when it started, its context, its tree, and the number of its next event
 pub record Instance : Type 0 where

@@ -5,7 +5,8 @@ use Rattle.std.specs.List.{fold, reduce}
 use Rattle.swf_frames.specs.Tree.{Tree, Branch, find, numbers}
 use Rattle.swf_frames.specs.Paths.{nth}
 use Rattle.swf_meaning.specs.Node.{Node, Fresh, Live, Done, Fault, Inside, At, Later, Sleep, Hear, Forked, Nodes, no_nodes, branch, Running}
-use Rattle.swf_meaning.specs.Wake.{waits, waits_inside, waits_among}
+use Rattle.swf_meaning.specs.Wake.{waits}
+use Rattle.swf_meaning.proofs.TopsLemmas.{waits_among, waits_among-branch, waits-at}
 use Rattle.swf_stack.specs.Layers.{frames_of, top_of}
 use Rattle.swf_stack.specs.Stack.{top_node, forked}
 use Rattle.swf_stack.specs.declared.made.Layer.{Layer}
@@ -54,6 +55,9 @@ least-append (m ∷ ms) (n ∷ ns) = ap Some (fold-append m ms (n ∷ ns) ∙ fo
 abbrev alarm_among : Nodes → Option ℕ
 alarm_among ns = reduce min (waits_among ns)
 
+alarm_among-branch : (n : Node) (ns : Nodes) → alarm_among (branch n ns) ≡ earlier (alarm_of n) (alarm_among ns)
+alarm_among-branch n ns = ap (reduce min) (waits_among-branch n ns) ∙ least-append (waits n) (waits_among ns)
+
 plain-alarm : (t : Top) → is_fork t ≡ false → alarm_of (top_node t) ≡ own_until (top_node t)
 plain-alarm (tops.Fresh r v) e = refl
 plain-alarm (tops.Done w d) e = refl
@@ -95,7 +99,7 @@ rung-more t n i c a x child left is b f =
     let rest = nodes_from (suc i) (nodes_of b.below) in
     left b f
     ∙ ap (λ ns. earlier a (alarm_among ns)) (from-child b i (record { number = c; held = h.0 }) h.1.0)
-    ∙ ap (earlier a) (least-append (waits (node_of h.0)) (waits_among rest) ∙ ap (λ o. earlier o (alarm_among rest)) (sym (is h.0 h.1.1.0)))
+    ∙ ap (earlier a) (alarm_among-branch (node_of h.0) rest ∙ ap (λ o. earlier o (alarm_among rest)) (sym (is h.0 h.1.1.0)))
     ∙ sym (earlier-assoc a x (alarm_among rest))
     ∙ ap (λ j. earlier (earlier a x) (alarm_among (nodes_from j (nodes_of b.below)))) same
 
@@ -109,7 +113,7 @@ own-top b t s = own_until-plug (frames_of b.frames) (forked (top_node (top_of b.
 
 pub until-waiting : (b : Branch Layer) (t : Top) (r : Running) (n : Option ℕ) (m : ℕ) → t ≡ top_of b.frames → t ≡ tops.Waiting r n m → Some m ≡ own_until (node_of b)
 until-waiting b t r n m s e =
-    sym (own-top b t s ∙ ap (λ x. own_until (forked (top_node x) (nodes_of b.below))) e ∙ ap own_until (waiting-forked r n m (nodes_of b.below)) ∙ own_until-waiting n m)
+    sym (own-top b t s ∙ ap (λ x. own_until (forked (top_node x) (nodes_of b.below))) e ∙ ap own_until (waiting-forked r n m (nodes_of b.below)) ∙ own_until-waiting r n m)
 
 pub until-not : (b : Branch Layer) (t : Top) → t ≡ top_of b.frames → ((r : Running) (n : Option ℕ) (m : ℕ) → t ≡ tops.Waiting r n m → ⊥) → None ≡ own_until (node_of b)
 until-not b t s isnt = sym (own-top b t s ∙ by t isnt)
@@ -162,27 +166,27 @@ mutual
   alarm-replaced : (bs : List ℕ) (m n x : Node) → at bs n ≡ Some x → alarm_of (replaced bs m n) ≡ earlier (alarm_of m) (reduce min (beside bs n))
   alarm-replaced [] m n x e = sym (earlier-none (alarm_of m))
   alarm-replaced (b ∷ bs) m (Fresh t v) x e = absurd (nothing x e)
-  alarm-replaced (b ∷ bs) m (Live r k) x e = alarm-inside b bs m k x e
+  alarm-replaced (b ∷ bs) m (Live r k) x e = alarm-inside b bs m r k x e
   alarm-replaced (b ∷ bs) m (Done w f) x e = absurd (nothing x e)
   alarm-replaced (b ∷ bs) m (Fault p) x e = absurd (nothing x e)
 
-  alarm-inside : (b : ℕ) (bs : List ℕ) (m : Node) (k : Inside) (x : Node) → at_inside b bs k ≡ Some x → reduce min (waits_inside (replaced_inside b bs m k)) ≡ earlier (alarm_of m) (reduce min (beside_inside b bs k))
-  alarm-inside b bs m (At round i n) x e = alarm-replaced (b ∷ bs) m n x e
-  alarm-inside b bs m (Later n l) x e = absurd (nothing x e)
-  alarm-inside b bs m (Sleep l) x e = absurd (nothing x e)
-  alarm-inside b bs m (Hear bound hs) x e = absurd (nothing x e)
-  alarm-inside b bs m (Forked ns) x e = alarm-branches b bs m ns x e
+  alarm-inside : (b : ℕ) (bs : List ℕ) (m : Node) (r : Running) (k : Inside) (x : Node) → at_inside b bs k ≡ Some x → alarm_of (Live r (replaced_inside b bs m k)) ≡ earlier (alarm_of m) (reduce min (beside_inside b bs k))
+  alarm-inside b bs m r (At round i n) x e = ap (reduce min) (waits-at r round i (replaced (b ∷ bs) m n)) ∙ alarm-replaced (b ∷ bs) m n x e
+  alarm-inside b bs m r (Later n l) x e = absurd (nothing x e)
+  alarm-inside b bs m r (Sleep l) x e = absurd (nothing x e)
+  alarm-inside b bs m r (Hear bound hs) x e = absurd (nothing x e)
+  alarm-inside b bs m r (Forked ns) x e = alarm-branches b bs m ns x e
 
   alarm-branches : (b : ℕ) (bs : List ℕ) (m : Node) (ns : Nodes) (x : Node) → at_among b bs ns ≡ Some x → alarm_among (replaced_among b bs m ns) ≡ earlier (alarm_of m) (reduce min (beside_among b bs ns))
   alarm-branches b bs m no_nodes x e = absurd (nothing x e)
   alarm-branches zero bs m (branch n ns) x e =
-      least-append (waits (replaced bs m n)) (waits_among ns)
+      alarm_among-branch (replaced bs m n) ns
       ∙ ap (λ o. earlier o (alarm_among ns)) (alarm-replaced bs m n x e)
       ∙ earlier-assoc (alarm_of m) (reduce min (beside bs n)) (alarm_among ns)
       ∙ ap (earlier (alarm_of m)) (sym (least-append (beside bs n) (waits_among ns)))
   alarm-branches (suc b) bs m (branch n ns) x e =
       let others = reduce min (beside_among b bs ns) in
-      least-append (waits n) (waits_among (replaced_among b bs m ns))
+      alarm_among-branch n (replaced_among b bs m ns)
       ∙ ap (earlier (alarm_of n)) (alarm-branches b bs m ns x e)
       ∙ sym (earlier-assoc (alarm_of n) (alarm_of m) others)
       ∙ ap (λ o. earlier o others) (earlier-swap (alarm_of n) (alarm_of m))

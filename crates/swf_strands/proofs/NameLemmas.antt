@@ -4,9 +4,10 @@ use Rattle.std.proofs.Math.Seq.{take-append_seam}
 use Rattle.swf_frames.specs.Tree.{Tree, Branch, find}
 use Rattle.swf_frames.specs.Paths.{nth}
 use Rattle.swf_meaning.specs.Node.{Node, Live, Forked}
-use Rattle.swf_meaning.specs.Strands.{strands, strands_below, strands_from}
+use Rattle.swf_meaning.specs.Strands.{strands}
+use Rattle.swf_meaning.proofs.TopsLemmas.{strands_from, strands_from-branch, strands-at}
 use Rattle.swf_stack.specs.Layers.{frames_of, top_of}
-use Rattle.swf_stack.specs.Stack.{plug, top_node}
+use Rattle.swf_stack.specs.Stack.{plug, top_node, round_of}
 use Rattle.swf_stack.specs.declared.made.Frame.{Frame}
 use Rattle.swf_stack.specs.declared.made.Layer.{Layer}
 use Rattle.swf_stack.specs.declared.made.Top.{Top}
@@ -15,18 +16,18 @@ use Rattle.swf_strands.specs.Strands.{nodes_of, node_of, is_fork, IsGrownAt, IsH
 use Rattle.swf_strands.proofs.AskLemmas.{nodes_from, from-child, from-end}
 use Rattle.swf_strands.proofs.TreeLemmas.{fork-node, plain-node, held-is, IsChild}
 
-below-plug : (fs : List Frame) (n : Node) → strands_below (plug fs n) ≡ strands_below n
-below-plug [] n = refl
-below-plug (f ∷ fs) n = below-plug fs n
+strands-plug : (fs : List Frame) (n : Node) → strands (plug fs n) ≡ strands n
+strands-plug [] n = refl
+strands-plug (f ∷ fs) n = strands-at f.running (round_of f.round) f.place (plug fs n) ∙ strands-plug fs n
 
-plain-below : (t : Top) → is_fork t ≡ false → strands_below (top_node t) ≡ []
-plain-below (tops.Fresh r v) e = refl
-plain-below (tops.Done w d) e = refl
-plain-below (tops.Fault p) e = refl
-plain-below (tops.Waiting r None m) e = refl
-plain-below (tops.Waiting r (Some n) m) e = refl
-plain-below (tops.Hearing r bound hs) e = refl
-plain-below (tops.Forked r) e = cc
+plain-strands : (t : Top) → is_fork t ≡ false → strands (top_node t) ≡ [] ∷ []
+plain-strands (tops.Fresh r v) e = refl
+plain-strands (tops.Done w f) e = refl
+plain-strands (tops.Fault p) e = refl
+plain-strands (tops.Waiting r None m) e = refl
+plain-strands (tops.Waiting r (Some n) m) e = refl
+plain-strands (tops.Hearing r bound hs) e = refl
+plain-strands (tops.Forked r) e = cc
 
 pub strands-node : (b : Branch Layer) → IsGrownAt b → strands (node_of b) ≡ [] ∷ strands_from 0 (nodes_of b.below)
 strands-node b g = by (is_fork (top_of b.frames)) refl
@@ -34,10 +35,10 @@ strands-node b g = by (is_fork (top_of b.frames)) refl
     by : (x : Bool) → is_fork (top_of b.frames) ≡ x → strands (node_of b) ≡ [] ∷ strands_from 0 (nodes_of b.below)
     by true e =
         let f = fork-node b.frames (nodes_of b.below) e in
-        ap (λ n. [] ∷ strands_below n) f.1.1 ∙ ap (λ ss. [] ∷ ss) (below-plug (frames_of b.frames) (Live f.0 (Forked (nodes_of b.below))))
+        ap strands f.1.1 ∙ strands-plug (frames_of b.frames) (Live f.0 (Forked (nodes_of b.below)))
     by false e =
-        ap (λ n. [] ∷ strands_below n) (plain-node b.frames (nodes_of b.below) e)
-        ∙ ap (λ ss. [] ∷ ss) (below-plug (frames_of b.frames) (top_node (top_of b.frames)) ∙ plain-below (top_of b.frames) e)
+        ap strands (plain-node b.frames (nodes_of b.below) e)
+        ∙ strands-plug (frames_of b.frames) (top_node (top_of b.frames)) ∙ plain-strands (top_of b.frames) e
         ∙ sym (ap (λ ss. [] ∷ strands_from 0 (nodes_of ss)) (g.0.1 e))
 
 -- ---- a list that grows by one branch after another
@@ -73,7 +74,8 @@ listed-more t n i c path inner old new more child way is of b f =
     let same : suc i ≡ i + 1 = omega arith in
     let rest = strands_from (i + 1) (nodes_from (suc i) (nodes_of b.below)) in
     let names = map (λ bs. i ∷ bs) (strands (node_of h.0)) in
-    let from : strands_from i (nodes_from i (nodes_of b.below)) ≡ names ++ rest = ap (strands_from i) (from-child b i (record { number = c; held = h.0 }) h.1.0) in
+    let from : strands_from i (nodes_from i (nodes_of b.below)) ≡ names ++ rest =
+    ap (strands_from i) (from-child b i (record { number = c; held = h.0 }) h.1.0) ∙ strands_from-branch i (node_of h.0) (nodes_from (suc i) (nodes_of b.below)) in
     ap (λ j. more ++ behind path (strands_from (i + 1) (nodes_from j (nodes_of b.below)))) (sym same)
     ∙ ap (λ xs. xs ++ behind path rest) (of h.0 h.1.1.0 ∙ ap (λ p. new ++ behind p (strands (node_of h.0))) way ∙ ap (λ xs. new ++ xs) (behind-one path i (strands (node_of h.0))))
     ∙ append_assoc new (behind path names) (behind path rest)

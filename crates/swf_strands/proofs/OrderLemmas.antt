@@ -8,8 +8,6 @@ use Rattle.swf_meaning.specs.Node.{Node}
 use Rattle.swf_meaning.specs.Strands.{can_go, can_top}
 use Rattle.swf_meaning.specs.Top.{top_is}
 use Rattle.swf_stack.specs.declared.made.Layer.{Layer}
-use Rattle.swf_strands.specs.Asked.{holds}
-use Rattle.swf_strands.specs.declared.ask.Question.TheVariants.{CanGo}
 use Rattle.swf_strands.specs.Order.{Leads, LeadsOn}
 use Rattle.swf_strands.specs.Strands.{node_of, IsGrownAt, IsHeld}
 use Rattle.swf_strands.proofs.TopLemmas.{top-child}
@@ -47,11 +45,11 @@ led-ok now t n i c old inner new (Ok x) held child way led = led-inner now t n i
 led-ok now t n i c old inner new (Err x) held child way led = tt
 
 -- of a child it is known that it can take a step
-pub child-enabled : (now : ℕ) (t : Tree Layer) (c : ℕ) (x : Bool) → ((h : Branch Layer) → find t.strands c ≡ Some h → x ≡ holds (CanGo now) (node_of h)) → x ≡ true → (h : Branch Layer) → find t.strands c ≡ Some h → is_enabled now (node_of h) ≡ true
+pub child-enabled : (now : ℕ) (t : Tree Layer) (c : ℕ) (x : Bool) → ((h : Branch Layer) → find t.strands c ≡ Some h → x ≡ is_enabled now (node_of h)) → x ≡ true → (h : Branch Layer) → find t.strands c ≡ Some h → is_enabled now (node_of h) ≡ true
 child-enabled now t c x of so h f = sym (of h f) ∙ so
 
 -- what can take a step is not without a strand that can
-pub none-enabled : (now : ℕ) (t : Tree Layer) (n : ℕ) → IsHeld t n → ((b : Branch Layer) → find t.strands n ≡ Some b → is_enabled now (node_of b) ≡ true) → ((b : Branch Layer) → find t.strands n ≡ Some b → false ≡ holds (CanGo now) (node_of b)) → ⊥
+pub none-enabled : (now : ℕ) (t : Tree Layer) (n : ℕ) → IsHeld t n → ((b : Branch Layer) → find t.strands n ≡ Some b → is_enabled now (node_of b) ≡ true) → ((b : Branch Layer) → find t.strands n ≡ Some b → false ≡ is_enabled now (node_of b)) → ⊥
 none-enabled now t n held some none = yes-no (sym (some held.1.0 held.1.1.0) ∙ sym (none held.1.0 held.1.1.0))
 
 -- ---- behind another

@@ -24,8 +24,8 @@ fn earlier(one: Option<u64>, other: Option<u64>) -> Option<u64>
     }
 }
 
-/// The moment that a strand which holds these waits for, in milliseconds, where it waits for one.
-pub fn until_of(layers: &[Layer]) -> Option<u64>
+// The moment that a strand which holds these waits for, in milliseconds, where it waits for one.
+fn until_of(layers: &[Layer]) -> Option<u64>
     requires { IsStack layers.now }
     ensures { result ≡ until_in layers.now }
 {

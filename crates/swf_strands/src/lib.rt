@@ -8,8 +8,8 @@ mod names;
 mod order;
 mod stack;
 
-pub use alarm::{alarm_in, own_until, put_kept, until_of};
-pub use ask::{Question, holds_here, holds_in};
+pub use alarm::{alarm_in, own_until, put_kept};
+pub use ask::{enabled_here, enabled_in};
 pub use fork::{branches_of, forked, put_at};
 pub use names::{list_strands, named};
 pub use order::{lead_in, lead_on};

@@ -6,7 +6,7 @@ ghost use Rattle.swf_stack.specs.declared.made.Layer.{Layer as TheLayer};
 ghost use Rattle.swf_strands.specs.Order.{LeadsOn, Leads};
 ghost use Rattle.swf_strands.specs.Strands.{IsHeld, node_of};
 
-use crate::ask::{Question, holds_here, holds_in};
+use crate::ask::{enabled_here, enabled_in};
 use crate::stack::child_of;
 use std::alloc::{AllocError, Global};
 use swf_duration::Moment;
@@ -24,12 +24,12 @@ pub fn lead_in(
     requires enabled { (b : Branch TheLayer) → find forest.now.strands strand ≡ Some b → is_enabled now (node_of b) ≡ true }
     ensures { OnOk result ((b : Branch TheLayer) → find forest.now.strands strand ≡ Some b → Leads now (node_of b) path.old.items path.new.items) }
 {
-    if holds_here(forest, strand, &Question::CanGo(now)) {
+    if enabled_here(forest, strand, now) {
         return Ok(());
     }
     let mut number = 0;
     while let Some(child) = child_of(forest, strand, number) {
-        if holds_in(forest, child, &Question::CanGo(now)) {
+        if enabled_in(forest, child, now) {
             path.push(number as u16)?;
             return lead_in(forest, child, now, path);
         }
@@ -77,7 +77,7 @@ fn lead_from(
 {
     let mut number = first;
     while let Some(child) = child_of(forest, strand, number) {
-        if holds_in(forest, child, &Question::CanGo(now)) {
+        if enabled_in(forest, child, now) {
             path.push(number as u16)?;
             lead_in(forest, child, now, path)?;
             return Ok(true);

@@ -1,45 +1,37 @@
 -- What the step of a strand makes of an instance.
-use Rattle.std.proofs.Common.{◌≡◌, ◌∙◌, refl, sym, ap, subst, ℕ, zero, suc, ◌+◌, ◌-◌, Bool, true, false, List, [], ◌∷◌, take, Some, None, arith}
-use Rattle.std.proofs.Math.Bool.{or-false}
+use Rattle.std.proofs.Common.{◌≡◌, ◌∙◌, refl, sym, ap, subst, ℕ, ◌+◌, ◌-◌, Bool, true, false, List, [], ◌∷◌, take, Some, None, arith}
 use Rattle.std.proofs.lemmas.Option.{same_Some}
-use Rattle.std.proofs.lemmas.List.Folds.{list_any-append}
-use Rattle.std.specs.List.{list_any}
-use Rattle.std.specs.Prelude.{◌||◌, ◌==◌, option_map}
-use Rattle.swf_value.specs.Value.{Value}
-use Rattle.swf_document.specs.Task.{Tasks, no_tasks, named}
+use Rattle.std.specs.Prelude.{option_map}
 use Rattle.swf_frames.specs.Tree.{Tree, Strands, no_strands, strand, Branch, find, numbers, count}
-use Rattle.swf_meaning.specs.Fork.{branches_in, branches_among, branches_of, fresh, count as count_nodes}
-use Rattle.swf_meaning.specs.Node.{Node, Fresh, Live, Done, Fault, Inside, At, Later, Sleep, Hear, Forked, Nodes, no_nodes, branch}
+use Rattle.swf_meaning.specs.Node.{Node, Live, Forked}
 use Rattle.swf_meaning.specs.Line.{Line, Site}
-use Rattle.swf_meaning.specs.Strands.{can_go}
-use Rattle.swf_meaning.specs.Wake.{waits, waits_inside, waits_among}
+use Rattle.swf_meaning.specs.Strands.{branches_in, can_go}
 use Rattle.swf_meaning.specs.World.{Instance, line_of, site_of, with_step}
+use Rattle.swf_meaning.proofs.TopsLemmas.{strands_among, strands_among-branch, branches_in-at, branches_in-fork}
 use Rattle.swf_stack.specs.Layers.{frames_of, top_of}
-use Rattle.swf_stack.specs.Stack.{plug, top_node, made_node, used_by}
+use Rattle.swf_stack.specs.Stack.{plug, top_node, used_by, round_of}
 use Rattle.swf_scene.specs.Setting.{setting_line, instance_of}
 use Rattle.swf_stack.specs.declared.made.Frame.{Frame}
 use Rattle.swf_stack.specs.declared.made.Layer.{Layer}
 use Rattle.swf_stack.specs.declared.made.Top.{Top}
 use Rattle.swf_stack.specs.declared.made.Top.TheVariants as tops
 use Rattle.swf_scene.specs.declared.setting.Setting.{Setting}
-use Rattle.swf_tasks.specs.Prepares.{applied, changed, Fits, IsPrepared, Puts, waits_for, is_at}
+use Rattle.swf_tasks.specs.Prepares.{applied, changed, Fits, IsPrepared, Puts}
 use Rattle.swf_tasks.specs.Stepped.{IsChange, change_at}
-use Rattle.swf_strands.specs.Alarm.{until_in, until_in_top}
 use Rattle.swf_strands.specs.Strands.{strand_node, nodes_of, node_of, root_node, is_fork, made_layers, Stands, IsGrown}
 use Rattle.swf_tasks.specs.Taken.{taken}
-use Rattle.swf_strands.specs.Ways.{replaced, replaced_inside, replaced_among}
+use Rattle.swf_strands.specs.Ways.{replaced}
 use Rattle.swf_tasks.specs.declared.machine.Part.{Part}
 use Rattle.swf_tasks.specs.declared.machine.Prepared.{Prepared}
 use Rattle.swf_tasks.specs.declared.machine.Step.TheVariants as steps
 use Rattle.swf_tasks.specs.declared.step.Change.{Change}
-use Rattle.swf_strands.proofs.AskLemmas.{waits-plug}
-use Rattle.swf_strands.proofs.TreeLemmas.{yes-no, fork-node, plain-node, root-holds}
+use Rattle.swf_strands.proofs.TreeLemmas.{fork-node, plain-node, root-holds}
 
 -- ---- how many branches run
 
 branches-plug : (fs : List Frame) (n : Node) → branches_in (plug fs n) ≡ branches_in n
 branches-plug [] n = refl
-branches-plug (f ∷ fs) n = branches-plug fs n
+branches-plug (f ∷ fs) n = branches_in-at f.running (round_of f.round) f.place (plug fs n) ∙ branches-plug fs n
 
 plain-branches : (t : Top) → is_fork t ≡ false → branches_in (top_node t) ≡ 0
 plain-branches (tops.Fresh r v) e = refl
@@ -50,24 +42,25 @@ plain-branches (tops.Waiting r (Some n) m) e = refl
 plain-branches (tops.Hearing r bound hs) e = refl
 plain-branches (tops.Forked r) e = cc
 
-branches-node : (ls : List Layer) (below : Strands Layer) → Stands ls below → branches_in (strand_node ls (nodes_of below)) ≡ count_nodes (nodes_of below) + branches_among (nodes_of below)
+branches-node : (ls : List Layer) (below : Strands Layer) → Stands ls below → branches_in (strand_node ls (nodes_of below)) ≡ strands_among (nodes_of below)
 branches-node ls below s = by (is_fork (top_of ls)) refl
   where
-    by : (x : Bool) → is_fork (top_of ls) ≡ x → branches_in (strand_node ls (nodes_of below)) ≡ count_nodes (nodes_of below) + branches_among (nodes_of below)
+    by : (x : Bool) → is_fork (top_of ls) ≡ x → branches_in (strand_node ls (nodes_of below)) ≡ strands_among (nodes_of below)
     by true e =
         let f = fork-node ls (nodes_of below) e in
-        ap branches_in f.1.1 ∙ branches-plug (frames_of ls) (Live f.0 (Forked (nodes_of below)))
+        ap branches_in f.1.1 ∙ branches-plug (frames_of ls) (Live f.0 (Forked (nodes_of below))) ∙ branches_in-fork f.0 (nodes_of below)
     by false e =
         ap branches_in (plain-node ls (nodes_of below) e) ∙ branches-plug (frames_of ls) (top_node (top_of ls)) ∙ plain-branches (top_of ls) e
-        ∙ sym (ap (λ ss. count_nodes (nodes_of ss) + branches_among (nodes_of ss)) (s.1 e))
+        ∙ sym (ap (λ ss. strands_among (nodes_of ss)) (s.1 e))
 
-count-strands : (ss : Strands Layer) → IsGrown ss → count ss ≡ count_nodes (nodes_of ss) + branches_among (nodes_of ss)
+count-strands : (ss : Strands Layer) → IsGrown ss → count ss ≡ strands_among (nodes_of ss)
 count-strands no_strands g = refl
 count-strands (strand m ls below after) g =
     let here = branches-node ls below g.0 in
     let inner = count-strands below g.1 in
     let others = count-strands after g.2 in
-    omega (arith, here, inner, others)
+    let all = strands_among-branch (strand_node ls (nodes_of below)) (nodes_of after) in
+    omega (arith, here, inner, others, all)
 
 -- all strands but the root
 pub count-branches : (t : Tree Layer) (r : ℕ) → numbers t.strands ≡ r ∷ [] → IsGrown t.strands → count t.strands ≡ branches_in (root_node t.strands) + 1
@@ -116,71 +109,6 @@ puts-whole s old new i m p ws view same node is =
       becomes = is ∙ ap (λ n. record i { node = n; context = p.context; number = p.number }) (node ∙ ap (λ w. replaced (take p.depth w) x (root_node old)) same ∙ ap (λ (j : Instance). replaced (changed p) x j.node) view);
     }
 
--- ---- the moments that are waited for
-
-either-first : (a x b c : Bool) → (a ≡ true → (x || b) ≡ true) → (a || c) ≡ true → (x || (b || c)) ≡ true
-either-first a true b c f h = refl
-either-first a false true c f h = refl
-either-first true false false c f h = absurd (yes-no (sym (f refl)))
-either-first false false false c f h = h
-
-either-rest : (a x c d : Bool) → (c ≡ true → (x || d) ≡ true) → (a || c) ≡ true → (x || (a || d)) ≡ true
-either-rest a true c d f h = refl
-either-rest true false c d f h = refl
-either-rest false false c d f h = f h
-
-or-right : (x b : Bool) → b ≡ true → (x || b) ≡ true
-or-right true b h = refl
-or-right false b h = h
-
-or-left : (x b : Bool) → x ≡ true → (x || b) ≡ true
-or-left true b h = refl
-or-left false b h = absurd (yes-no (sym h))
-
-abbrev is_among : ℕ → List ℕ → Bool
-is_among m ms = list_any (λ k. m == k) ms
-
--- those of the strands that stay, and those of the new one
-mutual
-  waits-replaced : (m : ℕ) (bs : List ℕ) (x n : Node) → waits_for m (replaced bs x n) ≡ true → (waits_for m x || waits_for m n) ≡ true
-  waits-replaced m [] x n h = or-left (waits_for m x) (waits_for m n) h
-  waits-replaced m (b ∷ bs) x (Fresh t v) h = or-right (waits_for m x) false h
-  waits-replaced m (b ∷ bs) x (Live t k) h = waits-inside m b bs x k h
-  waits-replaced m (b ∷ bs) x (Done w f) h = or-right (waits_for m x) false h
-  waits-replaced m (b ∷ bs) x (Fault p) h = or-right (waits_for m x) false h
-
-  waits-inside : (m b : ℕ) (bs : List ℕ) (x : Node) (k : Inside) → is_among m (waits_inside (replaced_inside b bs x k)) ≡ true → (waits_for m x || is_among m (waits_inside k)) ≡ true
-  waits-inside m b bs x (At round i n) h = waits-replaced m (b ∷ bs) x n h
-  waits-inside m b bs x (Later n k) h = or-right (waits_for m x) (is_among m (k ∷ [])) h
-  waits-inside m b bs x (Sleep k) h = or-right (waits_for m x) (is_among m (k ∷ [])) h
-  waits-inside m b bs x (Hear bound hs) h = or-right (waits_for m x) false h
-  waits-inside m b bs x (Forked ns) h = waits-beside m b bs x ns h
-
-  waits-beside : (m b : ℕ) (bs : List ℕ) (x : Node) (ns : Nodes) → is_among m (waits_among (replaced_among b bs x ns)) ≡ true → (waits_for m x || is_among m (waits_among ns)) ≡ true
-  waits-beside m b bs x no_nodes h = or-right (waits_for m x) false h
-  waits-beside m zero bs x (branch n ns) h =
-      ap (λ y. waits_for m x || y) (list_any-append (λ k. m == k) (waits n) (waits_among ns))
-      ∙ either-first (waits_for m (replaced bs x n)) (waits_for m x) (waits_for m n) (is_among m (waits_among ns)) (waits-replaced m bs x n) (sym (list_any-append (λ k. m == k) (waits (replaced bs x n)) (waits_among ns)) ∙ h)
-  waits-beside m (suc b) bs x (branch n ns) h =
-      ap (λ y. waits_for m x || y) (list_any-append (λ k. m == k) (waits n) (waits_among ns))
-      ∙ either-rest (waits_for m n) (waits_for m x) (is_among m (waits_among (replaced_among b bs x ns))) (is_among m (waits_among ns)) (waits-beside m b bs x ns) (sym (list_any-append (λ k. m == k) (waits n) (waits_among (replaced_among b bs x ns))) ∙ h)
-
-waits-fresh : (ts : Tasks) (u : Value) → waits_among (fresh ts u) ≡ []
-waits-fresh no_tasks u = refl
-waits-fresh (named k t ts) u = waits-fresh ts u
-
-waits-top : (m : ℕ) (t : Top) → waits_for m (made_node t) ≡ is_at m (until_in_top t)
-waits-top m (tops.Fresh r v) = refl
-waits-top m (tops.Done w d) = refl
-waits-top m (tops.Fault p) = refl
-waits-top m (tops.Waiting r None k) = or-false (m == k)
-waits-top m (tops.Waiting r (Some n) k) = or-false (m == k)
-waits-top m (tops.Hearing r bound hs) = refl
-waits-top m (tops.Forked r) = ap (is_among m) (waits-fresh (branches_of r.task) r.input)
-
-waits-made : (m : ℕ) (ls : List Layer) → waits_for m (made_layers ls) ≡ is_at m (until_in ls)
-waits-made m ls = ap (is_among m) (waits-plug (frames_of ls) (made_node (top_of ls))) ∙ waits-top m (top_of ls)
-
 -- ---- the step that was prepared
 
 -- the instance after a change
@@ -193,12 +121,8 @@ becomes-after s n i j bs ws c k view same next is =
     let number : k ≡ i.number + used_by c.emitted = next ∙ ap (λ (x : Instance). x.number + used_by c.emitted) view in
     is ∙ λ a. record i { node = replaced (take c.depth (same a)) (made_layers c.layers.items) i.node; context = c.context; number = number a }
 
-pub prepared-by : (now : ℕ) (bs : List ℕ) (i : Instance) (c : Change) (p : Prepared) → IsChange (site_of now i) (line_of i) bs i.node c → Fits p.step i → applied p.step i ≡ instance_after i bs c → p.emitted ≡ c.emitted → p.until ≡ until_in c.layers.items → IsPrepared now bs i p
-prepared-by now bs i c p change fits is same until = record {
+pub prepared-by : (now : ℕ) (bs : List ℕ) (i : Instance) (c : Change) (p : Prepared) → IsChange (site_of now i) (line_of i) bs i.node c → Fits p.step i → applied p.step i ≡ instance_after i bs c → p.emitted ≡ c.emitted → IsPrepared now bs i p
+prepared-by now bs i c p change fits is same = record {
   fits = fits;
   step = ap (option_map (taken i)) change.step ∙ λ j. Some (sym is j, sym same j);
-  waits = λ m w.
-      let x = made_layers c.layers.items in
-      let new : waits_for m (replaced (take c.depth bs) x i.node) ≡ true = sym (ap (λ (y : Instance). waits_for m y.node) is) ∙ w in
-      sym (ap (λ y. y || waits_for m i.node) (waits-made m c.layers.items ∙ ap (is_at m) (sym until))) ∙ waits-replaced m (take c.depth bs) x i.node new;
 }

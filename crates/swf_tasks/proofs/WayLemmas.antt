@@ -8,7 +8,7 @@ use Rattle.swf_document.specs.declared.common.Flow.{Flow}
 use Rattle.swf_document.specs.declared.error.Problem.{Problem}
 use Rattle.swf_frames.specs.Tree.{Tree, Branch, find, numbers}
 use Rattle.swf_meaning.specs.Listen.{is_heard}
-use Rattle.swf_meaning.specs.Node.{Node, Live, Done, Fault, Inside, At, Hear, Forked, Nodes, Running}
+use Rattle.swf_meaning.specs.Node.{Node, Fresh, Live, Done, Fault, Inside, At, Hear, Forked, Nodes, Round, Running}
 use Rattle.swf_meaning.specs.Parts.{kind_of}
 use Rattle.swf_meaning.specs.Shared.{is_shared, is_shared_top, is_shared_kind, is_shared_error}
 use Rattle.swf_meaning.specs.Top.{top_is}
@@ -24,7 +24,7 @@ use Rattle.swf_stack.specs.declared.made.Top.TheVariants as tops
 use Rattle.swf_scene.specs.declared.setting.Setting.{Setting}
 use Rattle.swf_tasks.specs.Installed.{output_in, problem_in}
 use Rattle.swf_strands.specs.Strands.{nodes_of, node_of, root_node, IsGrown, IsHeld}
-use Rattle.swf_strands.specs.Ways.{at, own_listens}
+use Rattle.swf_strands.specs.Ways.{at, listens_at}
 use Rattle.swf_tasks.proofs.StepLemmas.{plug-append}
 use Rattle.swf_strands.proofs.TopLemmas.{top-live, top-fresh}
 use Rattle.swf_strands.proofs.TreeLemmas.{root-holds, at-walk, at-nowhere, waiting-forked, IsAt, IsNowhere}
@@ -116,17 +116,26 @@ error-none fs p e = sym (ap (λ gs. is_shared [] (plug gs (Fault p))) e)
 
 -- ---- it listens
 
+abbrev own_listens : Node → Bool
+own_listens n = listens_at [] n
+
+own_listens-at : (r : Running) (round : Round) (i : ℕ) (n : Node) → own_listens (Live r (At round i n)) ≡ own_listens n
+own_listens-at r round i (Fresh t v) = refl
+own_listens-at r round i (Live q k) = refl
+own_listens-at r round i (Done w d) = refl
+own_listens-at r round i (Fault p) = refl
+
 own_listens-plug : (fs : List Frame) (n : Node) → own_listens (plug fs n) ≡ own_listens n
 own_listens-plug [] n = refl
-own_listens-plug (f ∷ fs) n = own_listens-plug fs n
+own_listens-plug (f ∷ fs) n = own_listens-at f.running (round_of f.round) f.place (plug fs n) ∙ own_listens-plug fs n
 
 own_listens-top : (b : Branch Layer) (t : Top) → t ≡ top_of b.frames → own_listens (node_of b) ≡ own_listens (forked (top_node t) (nodes_of b.below))
 own_listens-top b t s = own_listens-plug (frames_of b.frames) (forked (top_node (top_of b.frames)) (nodes_of b.below)) ∙ ap (λ x. own_listens (forked (top_node x) (nodes_of b.below))) (sym s)
 
-pub listens-hearing : (b : Branch Layer) (t : Top) (r : Running) (bound : Members) (hs : List Heard) → t ≡ top_of b.frames → t ≡ tops.Hearing r bound hs → not (is_heard r.task hs) ≡ own_listens (node_of b)
+pub listens-hearing : (b : Branch Layer) (t : Top) (r : Running) (bound : Members) (hs : List Heard) → t ≡ top_of b.frames → t ≡ tops.Hearing r bound hs → not (is_heard r.task hs) ≡ listens_at [] (node_of b)
 listens-hearing b t r bound hs s e = sym (own_listens-top b t s ∙ ap (λ x. own_listens (forked (top_node x) (nodes_of b.below))) e)
 
-pub listens-not : (b : Branch Layer) (t : Top) → t ≡ top_of b.frames → ((r : Running) (bound : Members) (hs : List Heard) → t ≡ tops.Hearing r bound hs → ⊥) → false ≡ own_listens (node_of b)
+pub listens-not : (b : Branch Layer) (t : Top) → t ≡ top_of b.frames → ((r : Running) (bound : Members) (hs : List Heard) → t ≡ tops.Hearing r bound hs → ⊥) → false ≡ listens_at [] (node_of b)
 listens-not b t s isnt = sym (own_listens-top b t s ∙ by t isnt)
   where
     by : (t : Top) → ((r : Running) (bound : Members) (hs : List Heard) → t ≡ tops.Hearing r bound hs → ⊥) → own_listens (forked (top_node t) (nodes_of b.below)) ≡ false

@@ -1,8 +1,5 @@
 -- A step that was prepared, and what it makes of the instance.
-use Rattle.std.specs.Prelude.{◌≡◌, ◌||◌, ◌==◌, ◌≤◌, ℕ, List, Bool, true, false, length, take, Option, Some, None, option_map}
-use Rattle.std.specs.List.{list_any}
-use Rattle.swf_meaning.specs.Node.{Node}
-use Rattle.swf_meaning.specs.Wake.{waits}
+use Rattle.std.specs.Prelude.{◌≡◌, ◌≤◌, ℕ, List, true, length, take, Some, option_map}
 use Rattle.swf_meaning.specs.World.{Instance, step_at}
 use Rattle.swf_strands.specs.Forks.{layers_node}
 use Rattle.swf_strands.specs.Strands.{IsStack, made_layers}
@@ -31,15 +28,7 @@ pub record Puts (s : Step) (p : Part) (i : Instance) : Type 0 where
   pub fits : Fits s i
   pub becomes : applied s i ≡ record i { node = replaced (changed p) (made_layers p.layers.items) i.node; context = p.context; number = p.number }
 
-abbrev pub waits_for : ℕ → Node → Bool
-waits_for m n = list_any (λ k. m == k) (waits n)
-
-abbrev pub is_at : ℕ → Option ℕ → Bool
-is_at m None = false
-is_at m (Some k) = m == k
-
--- the step is that of the strand, and no other moment is waited for than before and the new one
+-- the step is that of the strand
 pub record IsPrepared (now : ℕ) (bs : List ℕ) (i : Instance) (p : Prepared) : Type 0 where
   pub fits : Fits p.step i
   pub step : option_map (taken i) (step_at now bs i) ≡ Some (applied p.step i, p.emitted)
-  pub waits : (m : ℕ) → waits_for m (applied p.step i).node ≡ true → (is_at m p.until || waits_for m i.node) ≡ true

@@ -7,7 +7,6 @@ ghost use Rattle.swf_meaning.specs.Offer.{offered_one, takers_in};
 ghost use Rattle.swf_meaning.specs.Parts.{kind_of};
 ghost use Rattle.swf_meaning.specs.Shared.{advanced, is_shared, is_shared_error};
 ghost use Rattle.swf_meaning.specs.Strands.{can_go, strands};
-ghost use Rattle.swf_meaning.specs.Wake.{is_due};
 ghost use Rattle.swf_meaning.specs.World.{new_instance, step_at};
 ghost use Rattle.swf_stack.specs.Layers.{running};
 ghost use Rattle.swf_stack.specs.Stack.{plug, round_of, used_by};
@@ -35,8 +34,8 @@ use swf_frames::Forest;
 use swf_scene::{Scene, Setting, Site};
 use swf_stack::{Frame, Layer, Round, SentEvent, SharedDocument, TaskRef, Top, Work, is_heard};
 use swf_strands::{
-    Question, Standing, alarm_in, branches_of, forked, holds_here, holds_in, lead_in, lead_on,
-    list_strands, named, own_until, put_kept, stack_of, strand_at, until_of,
+    Standing, alarm_in, branches_of, enabled_here, enabled_in, forked, lead_in, lead_on,
+    list_strands, named, own_until, put_kept, stack_of, strand_at,
 };
 use swf_text::{Strand, Text};
 use swf_validate::Accepted;
@@ -83,8 +82,6 @@ pub struct Prepared {
     pub step: Step,
     /// The event that goes out, where one does.
     pub emitted: Option<SentEvent>,
-    /// The moment, in milliseconds, that it begins to wait for, where it does.
-    pub until: Option<u64>,
 }
 
 /// What a step leads to besides the change of the instance.
@@ -160,7 +157,7 @@ impl Machine {
     pub fn is_enabled(&self, now: Moment) -> bool
         ensures { result ≡ is_enabled now self.now.node }
     {
-        holds_in(&self.forest, self.forest.root(), &Question::CanGo(now))
+        enabled_in(&self.forest, self.forest.root(), now)
     }
 
     /// Whether a strand can take a step at a moment. It takes no memory.
@@ -168,7 +165,7 @@ impl Machine {
         ensures { result ≡ can_go now strand.now self.now.node }
     {
         match strand_at(&self.forest, self.forest.root(), strand.as_slice()) {
-            Some(strand) => holds_here(&self.forest, strand, &Question::CanGo(now)),
+            Some(strand) => enabled_here(&self.forest, strand, now),
             None => false,
         }
     }
@@ -215,13 +212,6 @@ impl Machine {
         ensures { result ≡ alarm_of self.now.node }
     {
         self.alarm
-    }
-
-    /// Whether some strand waits until a moment, in milliseconds, or one before it. It takes no memory.
-    pub fn due(&self, moment: u64) -> bool
-        ensures { result ≡ is_due moment self.now.node }
-    {
-        holds_in(&self.forest, self.forest.root(), &Question::IsDue(moment))
     }
 
     /// What it is, as plain values. It copies no values.
@@ -310,7 +300,6 @@ impl Machine {
         let scene = Scene::of(alloc, &self.setting, self.forest.count() - 1, site)?;
         let change = step_of(alloc, &self.forest, root, strand.as_slice(), scene)?;
         let number = number_after(self.setting.number, &change.emitted)?;
-        let until = until_of(&change.layers);
         let Change {
             depth,
             layers,
@@ -327,7 +316,6 @@ impl Machine {
         Ok(Prepared {
             step: self.step_with(alloc, part)?,
             emitted,
-            until,
         })
     }
 
@@ -386,7 +374,7 @@ impl Machine {
         ensures err { OnErr result (self.new ≡ self.old) }
         ensures not_enabled { (result ≡ Err StepFault.NotEnabled) ↔ (can_go site.entry.now.now strand.now self.old.node ≡ false) }
     {
-        let Prepared { step, emitted, .. } = self.prepare(alloc, strand, site)?;
+        let Prepared { step, emitted } = self.prepare(alloc, strand, site)?;
         self.take(step);
         match emitted {
             None => Ok(StepResult::Quiet),

@@ -11,6 +11,6 @@ loop-number-preserved c =
     let i = c.at.result.now in
     let at = c.at.ensures.there in
     record {
-      listens = told_more (λ (j : Instance). map (listen_value j) (listening [] j.node)) is k i _ _ at c.in_ok-push_instance.ensures.listens c.loop-number.invariant.listens;
-      timers = told_more (λ (j : Instance). map (timer_value j) (waiting [] j.node)) is k i _ _ at c.in_ok-push_instance.ensures.timers c.loop-number.invariant.timers;
+      listens = told_more (λ (j : Instance). map (listen_value j) (listening j.node)) is k i _ _ at c.in_ok-push_instance.ensures.listens c.loop-number.invariant.listens;
+      timers = told_more (λ (j : Instance). map (timer_value j) (waiting j.node)) is k i _ _ at c.in_ok-push_instance.ensures.timers c.loop-number.invariant.timers;
     }

@@ -1,5 +1,4 @@
 use Rattle.std.proofs.Common.{◌≡◌, ◌≤◌, ◌-◌}
-use Rattle.swf_strands.specs.declared.ask.Question.TheVariants.{CanGo}
 use Rattle.swf_strands.specs.Strands.{most_beside}
 use Rattle.swf_strands.proofs.AskLemmas.{below_held, IsLeft}
 use Rattle.swf_strands.proofs.order.+lead_in.Given as goal
@@ -10,7 +9,7 @@ decreases-lead_in l = below_held l.forest.now l.strand
 
 -- none of the branches before this one can take a step
 abbrev pub invariant-loop-child : goal.invariant-loop-child
-invariant-loop-child l = (l.number ≤ most_beside) × ((l.path.items ≡ l.fn.path.items) × IsLeft (CanGo l.now) l.forest l.strand l.number)
+invariant-loop-child l = (l.number ≤ most_beside) × ((l.path.items ≡ l.fn.path.items) × IsLeft l.now l.forest l.strand l.number)
 
 abbrev pub decreases-loop-child : goal.decreases-loop-child
 decreases-loop-child l = most_beside - l.number

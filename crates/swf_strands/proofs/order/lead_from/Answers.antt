@@ -9,8 +9,8 @@ overflow_cast-number c =
     let place = child-place c.args.forest.now c.args.strand c.loop-child.number c.in-Some.child c.requires.held c.in-Some.ensures.child in
     omega (arith, place)
 
-pub returns-then-holds_in : goal.returns-then-holds_in
-returns-then-holds_in c =
+pub returns-then-enabled_in : goal.returns-then-enabled_in
+returns-then-enabled_in c =
     led-inner c.args.now c.args.forest.now c.args.strand c.loop-child.number c.in-Some.child c.args.path.now.items c.push.new.self.items c.lead_in.new.path.items
     c.requires.held c.in-Some.ensures.child (put-behind c.args.path.now.items c.loop-child.path.items c.push.new.self.items c.loop-child.number c.in_ok-push.ensures.items c.loop-child.invariant) c.in_ok-lead_in.ensures
 

@@ -2,8 +2,6 @@ use Rattle.std.proofs.Common.{◌≡◌, ◌∙◌, ◌≤◌, List, ℕ, ap, le
 use Rattle.swf_meaning.specs.Line.{Site}
 use Rattle.swf_meaning.specs.World.{line_of as line_at, site_of as site_at}
 use Rattle.swf_scene.specs.Setting.{line_of, site_of}
-use Rattle.swf_stack.specs.declared.made.Layer.{Layer}
-use Rattle.swf_strands.specs.Alarm.{until_in}
 use Rattle.swf_tasks.specs.Stepped.{IsChange}
 use Rattle.swf_strands.specs.Strands.{IsStack, root_node}
 use Rattle.swf_strands.specs.Ways.{has_strand}
@@ -19,13 +17,6 @@ step_of-requires c =
       can = root-can t c.root-root.result c.args.site.now.now c.in_ok-scene.scene.now c.self.inside.setting c.args.self.now c.args.strand.now c.as_slice.result.now c.self.view_is r.root c.self.invariant.0
           (ap (λ (x : Site). x.now) c.in_ok-scene.ensures.site) c.as_slice.ensures c.requires;
     }
-
-pub until_of-until-requires : goal.until_of-until-requires
-until_of-until-requires c =
-    let change =
-    root-change c.self.inside.forest c.root-root.result c.count.result c.args.site.now.now c.self.inside.setting c.args.self.now (site_of c.in_ok-scene.scene) (line_of c.in_ok-scene.scene) c.as_slice.result.now c.in_ok-change.change c.self.view_is c.root-root.ensures.root c.self.invariant.0
-    c.count.ensures c.in_ok-scene.ensures.site c.in_ok-scene.ensures.line c.in_ok-change.ensures in
-    subst (λ (ls : List Layer). IsStack ls) (sym c.deref.ensures.value) change.stack
 
 pub step_with-requires : goal.step_with-requires
 step_with-requires c =
@@ -48,4 +39,3 @@ returns c =
     c.count.ensures c.in_ok-scene.ensures.site c.in_ok-scene.ensures.line c.in_ok-change.ensures in
     prepared-by at bs i now _ (subst (λ (w : List ℕ). IsChange (site_at at i) (line_at i) w i.node now) c.as_slice.ensures change) c.in_ok-step_with.ensures.fits
     (becomes-after s (root_node t.strands) i _ bs c.in_ok-named.field-0 now c.in_ok-number.number c.self.view_is (c.in_ok-named.ensures ∙ c.as_slice-2.ensures) c.in_ok-number.ensures c.in_ok-step_with.ensures.becomes) refl
-    (c.until_of-until.ensures ∙ ap until_in c.deref.ensures.value)
