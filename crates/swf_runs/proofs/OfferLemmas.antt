@@ -1,40 +1,14 @@
 -- What an offer leaves as it is.
-use Rattle.std.proofs.Common.{false, ◌≡◌, ◌∙◌, refl, ap, sym, if◌then◌else◌, List, [], ◌++◌, true, Option, Some, None, arith}
+use Rattle.std.proofs.Common.{false, ◌≡◌, ◌∙◌, refl, ap, if◌then◌else◌, List, true, Option, Some, None, arith}
 use Rattle.swf_value.specs.Value.{Members}
 use Rattle.swf_cloudevents.specs.declared.event.Event.{Event}
 use Rattle.swf_document.specs.Task.{Task}
-use Rattle.swf_meaning.specs.Node.{Node, Fresh, Live, Done, Fault, Inside, At, Later, Sleep, Hear, Forked, Nodes, no_nodes, branch, Running}
+use Rattle.swf_meaning.specs.Node.{Node, Fresh, Live, Done, Fault, Inside, At, Later, Sleep, Hear, Forked, Nodes, no_nodes, branch}
 use Rattle.swf_meaning.specs.Offer.{or_same, takes_by, offered, offered_inside, offered_among, offered_one, takers_in}
 use Rattle.swf_meaning.specs.Parts.{kind_of, listen_in}
-use Rattle.swf_meaning.specs.Wake.{waits}
 use Rattle.swf_meaning.specs.World.{Instance}
 use Rattle.swf_meaning.specs.declared.heard.Heard.{Heard}
-use Rattle.swf_meaning.proofs.TopsLemmas.{waits_among, waits_among-branch, waits-at}
 use Rattle.swf_runs.specs.Alive.{has_ended, is_error, some_goes_on, all_go_on, IsAlive, IsAliveInside, AreAlive}
-
--- an offer does not change the moments that strands wait for
-or_same_waits : (r : Running) (bound : Members) (hs : List Heard) (o : Option (Members × List Heard)) → waits (Live r (or_same bound hs o).0) ≡ []
-or_same_waits r bound hs None = refl
-or_same_waits r bound hs (Some p) = refl
-
-mutual
-  pub waits_offered : (e : Event) (n : Node) → waits (offered e n).0 ≡ waits n
-  waits_offered e (Fresh t v) = refl
-  waits_offered e (Live r k) = waits_inside_offered e r k
-  waits_offered e (Done w f) = refl
-  waits_offered e (Fault p) = refl
-
-  waits_inside_offered : (e : Event) (r : Running) (k : Inside) → waits (Live r (offered_inside e r.task k).0) ≡ waits (Live r k)
-  waits_inside_offered e r (At round i n) = waits-at r round i (offered e n).0 ∙ waits_offered e n ∙ sym (waits-at r round i n)
-  waits_inside_offered e r (Later n m) = refl
-  waits_inside_offered e r (Sleep m) = refl
-  waits_inside_offered e r (Hear bound hs) = or_same_waits r bound hs (takes_by (listen_in (kind_of r.task)) bound hs e)
-  waits_inside_offered e r (Forked ns) = waits_among_offered e ns
-
-  waits_among_offered : (e : Event) (ns : Nodes) → waits_among (offered_among e ns).0 ≡ waits_among ns
-  waits_among_offered e no_nodes = refl
-  waits_among_offered e (branch n ns) =
-      waits_among-branch (offered e n).0 (offered_among e ns).0 ∙ (λ i. waits_offered e n i ++ waits_among_offered e ns i) ∙ sym (waits_among-branch n ns)
 
 -- a strand that takes no event stays
 or_same_none : (bound : Members) (hs : List Heard) (o : Option (Members × List Heard)) → (or_same bound hs o).1 ≡ 0 → (or_same bound hs o).0 ≡ Hear bound hs
