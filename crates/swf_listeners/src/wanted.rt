@@ -1,6 +1,6 @@
 // What an instance listens for.
-ghost use Rattle.std.specs.Prelude.{◌≡◌, option_map, OnOk, true};
-ghost use Rattle.swf_listeners.specs.Wanted.{nothing, with_listen};
+ghost use Rattle.std.specs.Prelude.{◌≡◌, IfOk, OnOk, true};
+ghost use Rattle.swf_listeners.specs.Wanted.{nothing, wanted_of, with_listen};
 
 use std::alloc::{AllocError, Global};
 use std::collections::BTreeSet;
@@ -26,7 +26,7 @@ impl Model for Wanted {
 
 impl Wanted {
     /// Nothing. It takes no memory.
-    pub fn new(alloc: Global) -> Wanted
+    pub(crate) fn new(alloc: Global) -> Wanted
         ensures { result ≡ nothing }
     {
         Wanted {
@@ -35,11 +35,22 @@ impl Wanted {
         }
     }
 
-    /// One listen more: for events of a type, or for those whose type is not told.
-    pub fn want(&mut self, event_type: Option<&Text>) -> Result<(), AllocError>
-        ensures ok { OnOk result (self.new ≡ with_listen self.old (option_map (λ t. t.now) event_type.entry)) }
+    /// What all these listens want: each is for events of a type, or for events whose type is not told.
+    pub fn of(alloc: Global, listens: &[Option<Text>]) -> Result<Wanted, AllocError>
+        ensures { IfOk result (λ w. w ≡ wanted_of listens.now) }
     {
-        match event_type {
+        let mut wanted = Wanted::new(alloc);
+        for listen in listens {
+            wanted.want(listen)?;
+        }
+        Ok(wanted)
+    }
+
+    // One listen more.
+    fn want(&mut self, listen: &Option<Text>) -> Result<(), AllocError>
+        ensures { OnOk result (self.new ≡ with_listen self.old listen.now) }
+    {
+        match listen {
             Some(event_type) => {
                 self.types.insert(event_type.copy()?)?;
             }
