@@ -8,6 +8,7 @@ use Rattle.std.specs.Option.{IfNone}
 use Rattle.swf_meaning.specs.Local.{is_enabled}
 use Rattle.swf_meaning.specs.World.{Instance}
 use Rattle.swf_strands.specs.Order.{IsNext}
+use Rattle.swf_listeners.specs.Wanted.{Wanted}
 use Rattle.swf_turns.specs.Line.{Line, is_among}
 use Rattle.swf_instances.specs.Held.{instances_in}
 use Rattle.swf_instances.specs.Kept.{Kept}
@@ -93,10 +94,11 @@ quiet_is now is queue (Some n) true q none some e = cc
 quiet_is now is queue (Some n) false q none some e = sym (ap not (loud_with now is n some))
 
 -- another order of the queue agrees with the instances too
-pub kept_turned : (es : List (List ℕ × Instance)) (now : ℕ) (turns next : Line) (alarms : List (Option ℕ)) → Kept es now turns alarms → next.count ≡ turns.count → Queued now (instances_in es) next.numbers → Kept es now next alarms
-kept_turned es now turns next alarms kept count queued = record {
+pub kept_turned : (es : List (List ℕ × Instance)) (now : ℕ) (turns next : Line) (alarms : List (Option ℕ)) (wanted : List Wanted) (stale : Line) → Kept es now turns alarms wanted stale → next.count ≡ turns.count → Queued now (instances_in es) next.numbers → Kept es now next alarms wanted stale
+kept_turned es now turns next alarms wanted stale kept count queued = record {
   held = kept.held;
   waiting = record { queued = queued; count = count ∙ kept.waiting.count; own = kept.waiting.own };
+  listening = kept.listening;
 }
 
 -- another instance in a place makes no other one enabled

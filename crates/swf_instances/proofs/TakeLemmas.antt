@@ -12,13 +12,15 @@ use Rattle.swf_tasks.specs.declared.machine.Step.{Step}
 use Rattle.swf_tasks.specs.declared.machine.Step.TheVariants as steps
 use Rattle.swf_instances.specs.Held.{instances_in, IsPlaced, AreHeld}
 use Rattle.swf_instances.specs.Takes.{FitsAt, take_at}
-use Rattle.swf_instances.specs.Kept.{Kept, Waiting}
+use Rattle.swf_instances.specs.Kept.{Kept, Listening, Waiting}
 use Rattle.swf_instances.specs.Offers.{put_at}
 use Rattle.swf_instances.specs.Queued.{Queued}
 use Rattle.std.proofs.lemmas.List.{map-append}
 use Rattle.swf_meaning.specs.Wake.{waits}
 use Rattle.swf_instances.specs.Waits.{alarms_of}
 use Rattle.swf_instances.proofs.QueueLemmas.{queued_put, queued_pushed, length_put}
+use Rattle.swf_instances.proofs.NoteLemmas.{noted_pushed}
+use Rattle.swf_listeners.specs.Wanted.{Wanted, nothing}
 use Rattle.swf_instances.proofs.WaitLemmas.{alarms_set, alarms_pushed}
 use Rattle.swf_strands.specs.Alarm.{alarm_of}
 use Rattle.swf_turns.specs.Line.{Line, is_among}
@@ -86,9 +88,10 @@ waiting_put es fs now n turns next alarms step i k w there took among count stan
     }
 
 -- those with one more, which does not wait, agree with the queue and the alarms
-pub kept_pushed : (es fs : List (List ℕ × Instance)) (now : ℕ) (turns next : Line) (alarms more : List (Option ℕ)) (id : List ℕ) (i : Instance) → Kept es now turns alarms → id ≡ i.id → waits i.node ≡ [] → fs ≡ es ++ (id, i) ∷ [] →
-    IsDistinct same (keys_of fs) → next.numbers ≡ turns.numbers ++ turns.count ∷ [] → next.count ≡ turns.count + 1 → more ≡ alarms ++ None ∷ [] → Kept fs now next more
-kept_pushed es fs now turns next alarms more id i kept own awake pushed apart numbers count added =
+pub kept_pushed : (es fs : List (List ℕ × Instance)) (now : ℕ) (turns next : Line) (alarms more : List (Option ℕ)) (wanted with : List Wanted) (stale fresh : Line) (id : List ℕ) (i : Instance) → Kept es now turns alarms wanted stale → id ≡ i.id → waits i.node ≡ [] → fs ≡ es ++ (id, i) ∷ [] →
+    IsDistinct same (keys_of fs) → next.numbers ≡ turns.numbers ++ turns.count ∷ [] → next.count ≡ turns.count + 1 → more ≡ alarms ++ None ∷ [] →
+    with ≡ wanted ++ nothing ∷ [] → fresh.numbers ≡ stale.numbers ++ stale.count ∷ [] → fresh.count ≡ stale.count + 1 → Kept fs now next more with fresh
+kept_pushed es fs now turns next alarms more wanted with stale fresh id i kept own awake pushed apart numbers count added noted stales stale_count =
     let is = instances_in es in
     let all : instances_in fs ≡ is ++ i ∷ [] = ap instances_in pushed ∙ map-append (λ e. e.1) es ((id, i) ∷ []) in
     record {
@@ -99,4 +102,5 @@ kept_pushed es fs now turns next alarms more id i kept own awake pushed apart nu
         count = count ∙ ap (λ n. n + 1) kept.waiting.count ∙ sym (length-append is (i ∷ [])) ∙ sym (ap length all);
         own = added ∙ ap (λ xs. xs ++ None ∷ []) kept.waiting.own ∙ alarms_pushed is i awake ∙ sym (ap alarms_of all);
       };
+      listening = subst (λ xs. Listening xs with fresh) (sym all) (subst (λ ws. Listening (is ++ i ∷ []) ws fresh) (sym noted) (noted_pushed is wanted stale fresh i kept.listening stales stale_count));
     }

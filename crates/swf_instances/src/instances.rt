@@ -6,10 +6,12 @@ ghost use Rattle.swf_meaning.specs.Answer.{instance_at};
 ghost use Rattle.swf_meaning.specs.Wake.{is_due, waits};
 ghost use Rattle.swf_instances.specs.Takes.{FitsAt, take_at};
 
+use crate::listening::note_all;
 use indexmap::IndexMap;
 use std::alloc::{AllocError, Global};
 use std::marker::Model;
 use swf_duration::Moment;
+use swf_listeners::Listeners;
 use swf_tasks::{BoxedMachine, Machine, Step};
 use swf_text::Text;
 use swf_turns::{Alarms, Turns};
@@ -17,10 +19,15 @@ use swf_turns::{Alarms, Turns};
 /// The instances at a moment. Contracts see them in start order, the moment, and how many more fit without memory.
 #[derive(Drop)]
 pub struct Instances {
+    alloc: Global,
     pub(crate) machines: IndexMap<Text, Machine>,
     pub(crate) turns: Turns,
     /// Of each instance, the least moment that a strand of it waits for.
     pub(crate) alarms: Alarms,
+    /// Of each instance, what it listens for.
+    pub(crate) listeners: Listeners,
+    /// Those of which that is not noted yet: they came or took a step since room was made last.
+    pub(crate) stale: Turns,
     /// The one that was reached last.
     pub(crate) moment: Moment,
 }
@@ -36,9 +43,9 @@ impl Model for Instances {
 
     ghost use Rattle.swf_instances.specs.Kept.{Kept};
 
-    ghost view = { λ i. record { instances = instances_in i.machines.entries; moment = i.moment; room = min (spare i.machines) (min i.turns.room i.alarms.room) } };
+    ghost view = { λ i. record { instances = instances_in i.machines.entries; moment = i.moment; room = min (min (spare i.machines) i.turns.room) (min i.alarms.room (min i.listeners.room i.stale.room)) } };
 
-    ghost invariant = { λ i. Kept i.machines.entries i.moment i.turns i.alarms.moments };
+    ghost invariant = { λ i. Kept i.machines.entries i.moment i.turns i.alarms.moments i.listeners.wanted i.stale };
 }
 
 impl Instances {
@@ -48,22 +55,29 @@ impl Instances {
         ensures moment { result.moment ≡ 0 }
     {
         Instances {
+            alloc,
             machines: IndexMap::new(alloc),
             turns: Turns::new(alloc),
             alarms: Alarms::new(alloc),
+            listeners: Listeners::new(alloc),
+            stale: Turns::new(alloc),
             moment: Moment::new(0),
         }
     }
 
-    /// Makes room for one instance more.
+    /// Makes room for one instance more, and notes what those listen for that came or took a step since it was made last.
     pub fn reserve(&mut self) -> Result<(), AllocError>
         ensures instances { self.new.instances ≡ self.old.instances }
         ensures moment { self.new.moment ≡ self.old.moment }
         ensures room { OnOk result (0 < self.new.room) }
     {
+        let (listeners, stale) = (&mut self.listeners, &mut self.stale);
+        note_all(self.alloc, &self.machines, listeners, stale)?;
         self.machines.reserve(1)?;
         self.turns.reserve(1)?;
-        self.alarms.reserve(1)
+        self.alarms.reserve(1)?;
+        self.listeners.reserve(1)?;
+        self.stale.reserve(1)
     }
 
     /// How many there are.
@@ -131,6 +145,8 @@ impl Instances {
         self.machines.insert(id, instance.into_machine()).unwrap();
         self.turns.add();
         self.alarms.add();
+        self.listeners.add(self.alloc);
+        self.stale.add();
     }
 
     /// The instance of a number takes a step that was prepared, and gets a turn. It takes no memory.
@@ -140,6 +156,7 @@ impl Instances {
         ensures moment { self.new.moment ≡ self.old.moment }
     {
         self.turns.put(number);
+        self.stale.put(number);
         self.machines[number].take(step);
         self.alarms.set(number, self.machines[number].alarm());
     }

@@ -2,6 +2,7 @@
 #![tactic(auto)]
 
 mod instances;
+mod listening;
 mod offer;
 mod turn;
 

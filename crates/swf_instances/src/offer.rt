@@ -1,8 +1,9 @@
 // An event is offered to all that listen.
-ghost use Rattle.std.specs.Prelude.{◌≡◌, ◌≤◌, ◌+◌, ◌++◌, ◌∷◌, [], length, nat_lt, if◌then◌else◌, IfOk};
+ghost use Rattle.std.specs.Prelude.{◌≡◌, ◌≤◌, ◌+◌, ◌++◌, ◌∷◌, [], true, length, nat_lt, if◌then◌else◌, IfOk};
 ghost use Rattle.std.specs.List.{AllByRecursion};
+ghost use Rattle.swf_listeners.specs.Listeners.{numbers_where};
 ghost use Rattle.swf_meaning.specs.Offer.{takers, takers_in, offered_one};
-ghost use Rattle.swf_instances.specs.Offers.{put_all, IsHeardFrom, IsOffer};
+ghost use Rattle.swf_instances.specs.Offers.{put_all, Covers, IsHeardFrom, IsOffer};
 
 use crate::instances::Instances;
 use std::alloc::{AllocError, Global};
@@ -31,13 +32,24 @@ impl Instances {
     {
         let mut heard = Vec::new(alloc);
         let mut taken: u32 = 0;
-        for number in 0..self.len() {
+        for number in self.may_take(alloc, event)? {
             if number != but {
                 let more = offer_one(alloc, event, number, self.at(number), &mut heard)?;
                 taken = sum(taken, more)?;
             }
         }
         Ok(Offered { heard, taken })
+    }
+
+    // The numbers of those that may take an event, ascending: they listen for its type, or for events of more than one. All, where
+    // it is not noted of some what they listen for.
+    fn may_take(&self, alloc: Global, event: &Event) -> Result<Vec<usize>, AllocError>
+        ensures { IfOk result (λ v. Covers event.now self.now.instances v.items) }
+    {
+        match self.stale.first() {
+            None => self.listeners.who(alloc, &event.kind),
+            Some(_) => all_below(alloc, self.len()),
+        }
     }
 
     /// Those that took an event are in their places now, and get turns. It takes no memory.
@@ -50,6 +62,17 @@ impl Instances {
             self.take(number, Step::Whole(instance));
         }
     }
+}
+
+// All numbers below one, ascending.
+fn all_below(alloc: Global, end: usize) -> Result<Vec<usize>, AllocError>
+    ensures { IfOk result (λ v. v.items ≡ numbers_where (λ n. true) end) }
+{
+    let mut numbers = Vec::new(alloc);
+    for number in 0..end {
+        numbers.push(number)?;
+    }
+    Ok(numbers)
 }
 
 // There is none behind the greatest.

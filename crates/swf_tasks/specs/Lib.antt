@@ -4,3 +4,4 @@ pub mod Offers
 pub mod Views
 pub mod Taken
 pub mod Prepares
+pub mod EventTypes

@@ -3,6 +3,7 @@
 
 mod boxed;
 mod enter;
+mod event_types;
 mod hear;
 mod machine;
 mod offer;

@@ -11,6 +11,7 @@ ghost use Rattle.swf_meaning.specs.World.{new_instance, step_at};
 ghost use Rattle.swf_stack.specs.Layers.{running};
 ghost use Rattle.swf_stack.specs.Stack.{plug, round_of, used_by};
 ghost use Rattle.swf_stack.specs.declared.made.Frame.{Frame as TheFrame};
+ghost use Rattle.swf_tasks.specs.EventTypes.{event_types};
 ghost use Rattle.swf_tasks.specs.Installed.{output_in, problem_in};
 ghost use Rattle.swf_strands.specs.Alarm.{alarm_of};
 ghost use Rattle.swf_strands.specs.Order.{IsNext};
@@ -22,6 +23,7 @@ ghost use Rattle.swf_tasks.specs.Views.{IsViewOf};
 ghost use Rattle.swf_strands.specs.Ways.{until_at, listens_at};
 
 use crate::boxed::BoxedMachine;
+use crate::event_types::list_types;
 use crate::offer::{hears_in, offer_in};
 use crate::step::{Change, step_of};
 use crate::view::{InstanceView, Node};
@@ -432,6 +434,15 @@ impl Machine {
             Top::Fault(_) => is_error_shared(around),
             _ => false,
         }
+    }
+
+    /// The types of the events that its strands listen for; none for a filter that takes events of more than one.
+    pub fn event_types(&self, alloc: Global) -> Result<Vec<Option<Text>>, AllocError>
+        ensures { IfOk result (λ v. v.items ≡ event_types self.now.node) }
+    {
+        let mut types = Vec::new(alloc);
+        list_types(&self.forest, self.forest.root(), &mut types)?;
+        Ok(types)
     }
 
     /// Whether a task of it takes an event.

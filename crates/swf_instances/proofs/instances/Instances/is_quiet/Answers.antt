@@ -9,5 +9,5 @@ returns-clause-quiet c =
 
 pub invariant_of-self : goal.invariant_of-self
 invariant_of-self c =
-    kept_turned c.self.inside.machines.entries c.self.inside.moment c.self.inside.turns c.first_enabled.new.turns c.self.inside.alarms.moments
+    kept_turned c.self.inside.machines.entries c.self.inside.moment c.self.inside.turns c.first_enabled.new.turns c.self.inside.alarms.moments c.self.inside.listeners.wanted c.self.inside.stale
     c.self.invariant c.first_enabled.ensures.count (c.first_enabled.ensures.turns c.self.invariant.waiting.queued)

@@ -13,7 +13,7 @@ returns-in_default-clause-none c =
 
 pub invariant_of-self : goal.invariant_of-self
 invariant_of-self c =
-    kept_turned c.self.inside.machines.entries c.self.inside.moment c.self.inside.turns c.first_step.new.turns c.self.inside.alarms.moments
+    kept_turned c.self.inside.machines.entries c.self.inside.moment c.self.inside.turns c.first_step.new.turns c.self.inside.alarms.moments c.self.inside.listeners.wanted c.self.inside.stale
     c.self.invariant c.first_step.ensures.count (c.first_step.ensures.turns c.self.invariant.waiting.queued)
 
 pub invariant_of-self-2 : goal.invariant_of-self-2
@@ -21,7 +21,7 @@ invariant_of-self-2 c =
     let now = c.self.inside.moment in
     let is = instances_in c.self.inside.machines.entries in
     let some = subst (λ (o : Option (ℕ × List ℕ)). IfSome o (λ p. CanGoAt now is p.0 p.1 × (0 < length c.first_step.new.turns.numbers))) c.in-Some.is c.in_ok-step.ensures.some in
-    kept_turned c.self.inside.machines.entries now c.self.inside.turns c.turn.new.self c.self.inside.alarms.moments
+    kept_turned c.self.inside.machines.entries now c.self.inside.turns c.turn.new.self c.self.inside.alarms.moments c.self.inside.listeners.wanted c.self.inside.stale
     c.self.invariant (c.turn.ensures.count ∙ c.first_step.ensures.count)
     (subst (λ queue. Queued now is queue) (sym c.turn.ensures.numbers)
     (queued_turned now is c.first_step.new.turns.numbers some.1 (c.first_step.ensures.turns c.self.invariant.waiting.queued)))

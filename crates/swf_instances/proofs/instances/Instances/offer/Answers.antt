@@ -1,43 +1,62 @@
-use Rattle.std.proofs.Common.{◌≡◌, ◌∙◌, ◌+◌, ap, sym, subst, refl, slice_get, Some, arith}
-use Rattle.std.proofs.lemmas.List.{take_all}
-use Rattle.swf_meaning.specs.Offer.{takers}
-use Rattle.swf_instances.proofs.OfferLemmas.{Offered, offered_none, offered_next, offered_skipped, offered_done, takers_more}
+use Rattle.std.proofs.Common.{◌≡◌, ◌∙◌, ◌+◌, ap, sym, subst, slice_get, Some, arith}
+use Rattle.std.proofs.lemmas.List.{nil_from_length}
+use Rattle.swf_instances.specs.Offers.{Covers}
+use Rattle.swf_instances.proofs.OfferLemmas.{Between, Offered, between_done, between_first, between_more, between_next, offered_next, offered_skipped, takers_more}
 use Rattle.swf_instances.proofs.instances.Instances.offer.Goals as goal
-use Rattle.swf_instances.proofs.instances.Instances.offer.Goals.{then-number-but+in_ok-more+in_ok-taken, else-number-but}
 
 pub loop-number-init : goal.loop-number-init
-loop-number-init c = record {
-  offered = subst (Offered 0 c.args.but c.args.event.now c.args.self.now.instances) (sym c.new-heard.ensures.items) (offered_none c.args.but c.args.event.now c.args.self.now.instances);
-  taken = λ all. refl;
-}
+loop-number-init c =
+    let is = c.args.self.now.instances in
+    let e = c.args.event.now in
+    let same = c.into_iter-number-iterator.ensures.into_iter_gives.0 in
+    subst (λ hs. Between c.args.but e is c.into_iter-number-iterator.result.rest.items hs 0) (sym c.new-heard.ensures.items)
+    (between_first c.args.but e is _ (subst (Covers e is) (sym same) c.in_ok-number-items.ensures))
+
+pub at-requires : goal.at-requires
+at-requires c =
+    let next = between_next c.args.but c.args.event.now c.args.self.now.instances c.in-Some.number c.loop-number.number-iterator.rest.items c.next.new.self.rest.items c.loop-number.heard.items c.loop-number.taken c.in-Some.ensures.steps.0 c.loop-number.invariant in
+    omega (arith, next.all)
+
+pub loop-number-preserved-then-number-but : goal.loop-number-preserved-then-number-but
+loop-number-preserved-then-number-but c =
+    let is = c.args.self.now.instances in
+    let e = c.args.event.now in
+    let but = c.args.but in
+    let k = c.in-Some.number in
+    let left = c.next.new.self.rest.items in
+    let hs = c.loop-number.heard.items in
+    let was = c.loop-number.taken in
+    let i = c.at.result.now in
+    let at : slice_get is k ≡ Some i = c.at.ensures.there in
+    let next = between_next but e is k c.loop-number.number-iterator.rest.items left hs was c.in-Some.ensures.steps.0 c.loop-number.invariant in
+    between_more but e is k left hs c.offer_one.new.heard.items was c.in_ok-taken.taken next (
+      subst (Offered (k + 1) but e is) (sym c.in_ok-more.ensures.heard) (offered_next k but e is hs i c.in_ok-more.more c.if-number-but.true at c.in_ok-more.ensures.taken next.so_far.0),
+      λ all. c.in_ok-taken.ensures ∙ (λ j. next.so_far.1 all j + c.in_ok-more.ensures.taken j) ∙ sym (takers_more e is k i at),
+    )
 
 pub loop-number-preserved : goal.loop-number-preserved
 loop-number-preserved c =
     let is = c.args.self.now.instances in
     let e = c.args.event.now in
-    let k = c.loop-number.number in
-    elim c.if-number-but.branch [
-      | then-number-but+in_ok-more+in_ok-taken w ↦
-          let i = w.at.result.now in
-          let at : slice_get is k ≡ Some i = w.at.ensures.there in
-          record {
-            offered = subst (Offered (k + 1) c.args.but e is) (sym (ap (λ h. h.items) w.heard-is ∙ w.in_ok-more.ensures.heard))
-                (offered_next k c.args.but e is c.loop-number.heard.items i w.in_ok-more.more w.if-number-but.true at w.in_ok-more.ensures.taken c.loop-number.invariant.offered);
-            taken = λ all. w.taken-is ∙ w.in_ok-taken.ensures ∙ (λ j. c.loop-number.invariant.taken all j + w.in_ok-more.ensures.taken j) ∙ sym (takers_more e is k i at);
-          }
-      | else-number-but w ↦ record {
-        offered = subst (Offered (k + 1) c.args.but e is) (sym (ap (λ h. h.items) w.heard-is)) (offered_skipped k c.args.but e is c.loop-number.heard.items w.if-number-but.false c.loop-number.invariant.offered);
-        taken = λ all. absurd (omega (arith, all, w.if-number-but.false, c.loop-number-test.true, c.len-number-end.ensures.len));
-      }
-    ]
+    let but = c.args.but in
+    let k = c.in-Some.number in
+    let left = c.next.new.self.rest.items in
+    let hs = c.loop-number.heard.items in
+    let was = c.loop-number.taken in
+    let next = between_next but e is k c.loop-number.number-iterator.rest.items left hs was c.in-Some.ensures.steps.0 c.loop-number.invariant in
+    between_more but e is k left hs hs was was next (
+      offered_skipped k but e is hs c.if-number-but.false next.so_far.0,
+      λ all. absurd (omega (arith, all, c.if-number-but.false, next.all)),
+    )
 
 pub returns-clause-heard : goal.returns-clause-heard
 returns-clause-heard c =
-    offered_done c.loop-number.number c.args.but c.args.event.now c.args.self.now.instances c.loop-number.heard.items
-    (omega (arith, c.loop-number-test.false, c.loop-number.auto.number-end, c.len-number-end.ensures.len)) c.loop-number.invariant.offered
+    let left = c.loop-number.number-iterator.rest.items in
+    let none = nil_from_length left (omega (arith, c.loop-number.number-iterator.rest.ok.0, c.in-None.ensures.steps.0)) in
+    (between_done c.args.but c.args.event.now c.args.self.now.instances left c.loop-number.heard.items c.loop-number.taken none c.loop-number.invariant).0
 
 pub returns-clause-taken : goal.returns-clause-taken
-returns-clause-taken c = λ all.
-    let is = c.args.self.now.instances in
-    c.loop-number.invariant.taken all
-    ∙ ap (takers c.args.event.now) (take_all c.loop-number.number is (omega (arith, c.loop-number-test.false, c.len-number-end.ensures.len)))
+returns-clause-taken c =
+    let left = c.loop-number.number-iterator.rest.items in
+    let none = nil_from_length left (omega (arith, c.loop-number.number-iterator.rest.ok.0, c.in-None.ensures.steps.0)) in
+    (between_done c.args.but c.args.event.now c.args.self.now.instances left c.loop-number.heard.items c.loop-number.taken none c.loop-number.invariant).1

@@ -23,4 +23,5 @@ invariant_of-self c =
         count = c.wake.ensures.count ∙ c.self.invariant.waiting.count;
         own = c.self.invariant.waiting.own;
       };
+      listening = c.self.invariant.listening;
     }

@@ -1,0 +1,51 @@
+// What each instance listens for is noted.
+ghost use Rattle.std.specs.Prelude.{◌≡◌, ◌<◌, OnErr, OnOk, length, slice_set};
+ghost use Rattle.swf_listeners.specs.Wanted.{wanted_of};
+ghost use Rattle.swf_tasks.specs.EventTypes.{event_types};
+ghost use Rattle.swf_instances.specs.Held.{instances_in};
+ghost use Rattle.swf_instances.specs.Kept.{Listening};
+
+use indexmap::IndexMap;
+use std::alloc::{AllocError, Global};
+use swf_listeners::{Listeners, Wanted};
+use swf_tasks::Machine;
+use swf_text::Text;
+use swf_turns::Turns;
+
+/// What those listen for is noted of which it is not.
+pub fn note_all(
+    alloc: Global,
+    machines: &IndexMap<Text, Machine>,
+    listeners: &mut Listeners,
+    stale: &mut Turns,
+) -> Result<(), AllocError>
+    requires { Listening (instances_in machines.now.entries) listeners.old.wanted stale.old }
+    ensures listening { Listening (instances_in machines.now.entries) listeners.new.wanted stale.new }
+    ensures room { listeners.new.room ≡ listeners.old.room }
+    ensures stale { stale.new.room ≡ stale.old.room }
+{
+    while let Some(number) = stale.first() {
+        note(alloc, number, &machines[number], listeners)?;
+        stale.leave();
+    }
+    Ok(())
+}
+
+// What the instance of a number listens for is noted.
+fn note(
+    alloc: Global,
+    number: usize,
+    instance: &Machine,
+    listeners: &mut Listeners,
+) -> Result<(), AllocError>
+    requires { number < length listeners.old.wanted }
+    ensures err { OnErr result (listeners.new.wanted ≡ listeners.old.wanted) }
+    ensures ok { OnOk result (listeners.new.wanted ≡ slice_set listeners.old.wanted number (wanted_of (event_types instance.now.node))) }
+    ensures room { listeners.new.room ≡ listeners.old.room }
+{
+    let types = instance.event_types(alloc)?;
+    let wanted = Wanted::of(alloc, &types)?;
+    listeners.make_room(alloc, number, &wanted)?;
+    listeners.set(number, wanted);
+    Ok(())
+}
