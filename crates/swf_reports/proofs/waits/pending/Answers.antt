@@ -1,4 +1,4 @@
-use Rattle.std.proofs.Common.{map, []}
+use Rattle.std.proofs.Common.{map}
 use Rattle.swf_meaning.specs.Pending.{listen_value, timer_value, listening, waiting}
 use Rattle.swf_meaning.specs.World.{Instance}
 use Rattle.swf_reports.proofs.StrandsLemmas.{told_more}
