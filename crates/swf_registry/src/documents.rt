@@ -1,5 +1,5 @@
 // The loaded documents.
-ghost use Rattle.std.specs.Prelude.{◌≡◌, ◌<◌, ◌++◌, ◌∷◌, [], length, None, OnOk, option_map};
+ghost use Rattle.std.specs.Prelude.{◌≡◌, ◌<◌, ◌++◌, ◌∷◌, [], length, None, IfOk, OnOk, option_map};
 ghost use Rattle.swf_runs.specs.After.{document_at};
 ghost use Rattle.swf_registry.specs.Loads.{loaded_of};
 ghost use Rattle.swf_registry.specs.Versions.{last_version, same_name};
@@ -8,6 +8,7 @@ use indexmap::IndexMap;
 use std::alloc::{AllocError, Global};
 use std::marker::Model;
 use swf_document::DocKey;
+use swf_stack::{SharedDocument, share_document};
 use swf_text::{Text, same_texts};
 use swf_validate::Accepted;
 use swf_value::Json;
@@ -16,7 +17,17 @@ use swf_value::Json;
 #[derive(Drop)]
 pub struct Loaded {
     pub value: Json,
-    pub document: Accepted,
+    pub document: SharedDocument,
+}
+
+impl Loaded {
+    /// A document that can be run, and the value that it was read from.
+    pub fn new(alloc: Global, value: Json, document: &Accepted) -> Result<Loaded, AllocError>
+        ensures { IfOk result (λ l. l ≡ record { value = value; document = document.now }) }
+    {
+        let document = share_document(alloc, document.shared()?)?;
+        Ok(Loaded { value, document })
+    }
 }
 
 /// The loaded documents. Contracts see them in load order, and how many more fit without memory.
@@ -67,7 +78,7 @@ impl Documents {
     }
 
     /// The document of a key.
-    pub fn get(&self, key: &DocKey) -> Option<&Accepted>
+    pub fn get(&self, key: &DocKey) -> Option<&SharedDocument>
         ensures { option_map (λ d. d.now) result ≡ document_at key.now self.now.documents }
     {
         let loaded = self.by_key.get(key)?;
@@ -81,7 +92,7 @@ impl Documents {
         let mut version = &key.version;
         for number in 0..self.by_key.len() {
             let loaded = &self.by_key[number];
-            let document = loaded.document.document();
+            let document = loaded.document.get().document();
             if same_name(key, &document.key) {
                 version = &document.key.version;
             }

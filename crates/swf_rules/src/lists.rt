@@ -14,7 +14,7 @@ use std::alloc::AllocError;
 use swf_document::Flow;
 use swf_expr::Expr;
 use swf_scene::{Halt, within};
-use swf_stack::{Frame, Made, Round, SharedFrame, TaskRef, Top, Turn};
+use swf_stack::{Frame, Made, Round, TaskRef, Top, Turn};
 use swf_value::{Json, JsonList};
 
 // So many turns have numbers.
@@ -106,16 +106,12 @@ impl Rule<'_> {
     {
         let context = self.scene.context.copy()?;
         let running = self.running.copy()?;
-        let frame = SharedFrame::new(
-            self.alloc,
-            Frame {
+        Ok(Made {
+            frame: Some(Frame {
                 running,
                 round,
                 place,
-            },
-        )?;
-        Ok(Made {
-            frame: Some(frame),
+            }),
             top,
             context,
             emitted: None,

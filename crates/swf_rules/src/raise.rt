@@ -83,7 +83,14 @@ impl Rule<'_> {
         match reference {
             ErrorRef::Written(error) => self.raised(&self.within()?, error),
             ErrorRef::Named(name) => {
-                let errors = self.scene.setting.document.document().errors.as_slice();
+                let errors = self
+                    .scene
+                    .setting
+                    .document
+                    .get()
+                    .document()
+                    .errors
+                    .as_slice();
                 let Some(error) = error_named(name, errors) else {
                     return Err(self.fails(ErrorKind::Configuration, "unknown error"));
                 };

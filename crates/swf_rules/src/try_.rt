@@ -113,7 +113,14 @@ impl Rule<'_> {
         match reference {
             RetryRef::Written(policy) => Some(policy),
             RetryRef::Named(name) => {
-                let retries = self.scene.setting.document.document().retries.as_slice();
+                let retries = self
+                    .scene
+                    .setting
+                    .document
+                    .get()
+                    .document()
+                    .retries
+                    .as_slice();
                 retry_named(name, retries)
             }
         }

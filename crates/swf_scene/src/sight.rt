@@ -13,11 +13,10 @@ ghost use Rattle.swf_stack.specs.TaskRef.{loop_variables};
 
 use crate::scene::Scene;
 use crate::setting::push_named;
-use crate::words::Words;
 use std::alloc::{AllocError, Global};
 use swf_document::{ForSpec, Problem, problem_value};
 use swf_jq_eval::{Variable, Vars};
-use swf_stack::{Round, Running, TaskRef, Turn, Work};
+use swf_stack::{Round, Running, TaskRef, Turn, Words, Work};
 use swf_text::{Place, Text, pointer_text, word};
 use swf_value::Json;
 
@@ -113,6 +112,11 @@ fn name_at(alloc: Global, place: &Place) -> Result<Text, AllocError>
     }
 }
 
+// The names that variables need.
+fn words_of<'a>(scene: &Scene<'a>) -> &'a Words {
+    scene.setting.document.get().words()
+}
+
 // `$task`.
 fn task_value(alloc: Global, words: &Words, task: &TaskRef, raw: &Json) -> Result<Json, AllocError>
     ensures { IfOk result (λ v. v ≡ task_value task.now raw.now) }
@@ -146,7 +150,7 @@ fn of_workflow(alloc: Global, scene: &Scene) -> Result<Vec<Variable>, AllocError
     let mut variables = Vec::with_capacity(alloc, MOST_OFTEN)?;
     push_variable(
         &mut variables,
-        scene.words.workflow(),
+        words_of(scene).workflow(),
         scene.setting.workflow.copy()?,
     )?;
     Ok(variables)
@@ -156,7 +160,11 @@ fn with_context(alloc: Global, scene: &Scene) -> Result<Vec<Variable>, AllocErro
     ensures { IfOk result (λ xs. xs.items ≡ with_context (line_of scene.entry.now)) }
 {
     let mut variables = of_workflow(alloc, scene)?;
-    push_variable(&mut variables, scene.words.context(), scene.context.copy()?)?;
+    push_variable(
+        &mut variables,
+        words_of(scene).context(),
+        scene.context.copy()?,
+    )?;
     Ok(variables)
 }
 
@@ -168,7 +176,7 @@ fn of_task(
 ) -> Result<Vec<Variable>, AllocError>
     ensures { IfOk result (λ xs. xs.items ≡ of_task (line_of scene.entry.now) task.now raw.now) }
 {
-    let words = scene.words;
+    let words = words_of(scene);
     let mut variables = with_context(alloc, scene)?;
     push_variable(
         &mut variables,
@@ -206,7 +214,11 @@ fn inside(alloc: Global, scene: &Scene, running: &Running) -> Result<Vec<Variabl
     ensures { IfOk result (λ xs. xs.items ≡ within (line_of scene.entry.now) running.now) }
 {
     let mut variables = around(alloc, scene, running)?;
-    push_variable(&mut variables, scene.words.input(), running.input().copy()?)?;
+    push_variable(
+        &mut variables,
+        words_of(scene).input(),
+        running.input().copy()?,
+    )?;
     Ok(variables)
 }
 
@@ -227,7 +239,7 @@ pub fn behind(
     ensures { IfOk result (λ r. r ≡ behind (line_of scene.entry.now) running.now output.now) }
 {
     let mut variables = inside(alloc, scene, running)?;
-    push_variable(&mut variables, scene.words.output(), output.copy()?)?;
+    push_variable(&mut variables, words_of(scene).output(), output.copy()?)?;
     Ok(Vars::of(variables))
 }
 

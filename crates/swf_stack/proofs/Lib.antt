@@ -1,4 +1,7 @@
 pub mod TaskLemmas
+pub mod NumberLemmas
+pub mod ChildLemmas
 pub mod RoundLemmas
-pub mod LayerLemmas
+pub mod StandLemmas
 pub mod HeardLemmas
+pub mod Sends

@@ -5,7 +5,7 @@ use Rattle.swf_document.specs.Task.{Task}
 use Rattle.swf_document.specs.TaskNode.{task_of, tasks_of}
 use Rattle.swf_document.specs.declared.tasks.Named.{Named}
 use Rattle.swf_meaning.specs.Next.{task_at}
-use Rattle.swf_stack.specs.Source.{or_nothing}
+use Rattle.swf_stack.specs.Numbers.{or_nothing}
 
 pub task_at-length : (ns : List Named) (i : ℕ) → is_some (task_at (tasks_of ns) i) ≡ true → i < length ns
 task_at-length [] i p = cc

@@ -1,5 +1,6 @@
-pub mod Source
+pub mod Numbers
+pub mod Rows
 pub mod TaskRef
 pub mod Stack
-pub mod FrameCode
-pub mod Layers
+pub mod Stands
+pub mod Words

@@ -8,10 +8,10 @@ use Rattle.swf_document.specs.declared.tasks.TrySpec.{TrySpec}
 use Rattle.swf_meaning.specs.Around.{turn_variables}
 use Rattle.swf_meaning.specs.Parts.{workflow}
 use Rattle.swf_stack.specs.declared.made.Turn.{Turn}
-use Rattle.swf_stack.specs.declared.task.Parts.{Parts}
-use Rattle.swf_stack.specs.declared.task.Parts.TheVariants as parts
-use Rattle.swf_stack.specs.declared.task.Work.{Work}
-use Rattle.swf_stack.specs.declared.task.Work.TheVariants as works
+use Rattle.swf_stack.specs.declared.parts.Parts.{Parts}
+use Rattle.swf_stack.specs.declared.parts.Parts.TheVariants as parts
+use Rattle.swf_stack.specs.declared.parts.Work.{Work}
+use Rattle.swf_stack.specs.declared.parts.Work.TheVariants as works
 
 abbrev pub parts_task : Parts → Task
 parts_task (parts.Workflow d) = workflow d.now

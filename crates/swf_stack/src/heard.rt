@@ -2,7 +2,8 @@
 ghost use Rattle.std.specs.Prelude.{◌≡◌, ◌++◌, ◌∷◌, [], IfOk, option_map};
 ghost use Rattle.swf_meaning.specs.Listen.{data_of, events_of, is_heard, is_met, is_satisfied, read_as, takes};
 
-use crate::task::{TaskRef, Work};
+use crate::parts::Work;
+use crate::task::TaskRef;
 use std::alloc::{AllocError, Global};
 use swf_cloudevents::{Event, NamedValues, Payload, event_json};
 use swf_document::{ListenMode, ListenSpec};

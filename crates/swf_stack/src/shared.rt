@@ -1,50 +1,61 @@
-// The document of an instance, which several share.
+// A value that several share.
 ghost use Rattle.std.specs.Prelude.{◌≡◌, IfOk};
 ghost use Rattle.std.specs.Arc.{arc_value};
 
-use std::alloc::AllocError;
+use crate::numbered::NumberedDocument;
+use std::alloc::{AllocError, Global};
 use std::marker::Model;
 use std::sync::Arc;
 use swf_document::Document;
 
-/// A document. A copy shares it. Contracts see it as the document.
+/// A value. A copy shares it. Contracts see it as the value.
 #[derive(Drop)]
-pub struct SharedDocument {
-    document: Arc<Document>,
+pub struct Shared<T> {
+    inner: Arc<T>,
 }
 
-impl Model for SharedDocument {
+/// The document of an instance, which several share.
+pub type SharedDocument = Shared<NumberedDocument>;
+
+impl<T> Model for Shared<T> {
     ghost use Rattle.std.specs.Arc.{arc_value};
-    ghost use Rattle.swf_document.specs.declared.document.Document.{Document};
-    ghost use Rattle.swf_document.specs.DocumentCode.{document_code};
 
-    ghost Value = { Document };
+    ghost Value = { T };
 
-    ghost coded = { document_code };
+    ghost coded = { T.code };
 
-    ghost view = { λ s. arc_value s.document };
+    ghost view = { λ s. arc_value s.inner };
 }
 
-impl SharedDocument {
-    /// A document that is shared already.
-    pub fn new(document: Arc<Document>) -> SharedDocument
-        ensures { result ≡ arc_value document }
+impl<T> Shared<T> {
+    pub fn new(alloc: Global, value: T) -> Result<Shared<T>, AllocError>
+    where
+        T: Drop,
+        ensures { IfOk result (λ shared. shared ≡ value) }
     {
-        SharedDocument { document }
+        let inner = Arc::new(alloc, value)?;
+        Ok(Shared { inner })
     }
 
-    /// The document.
-    pub fn document(&self) -> &Document
+    /// The value.
+    pub fn get(&self) -> &T
         ensures { result.now ≡ self.now }
     {
-        &self.document
+        &self.inner
     }
 
-    /// The same document once more. It copies nothing that is inside.
-    pub fn copy(&self) -> Result<SharedDocument, AllocError>
-        ensures { IfOk result (λ d. d ≡ self.now) }
+    /// The same once more. It copies nothing that is inside.
+    pub fn copy(&self) -> Result<Shared<T>, AllocError>
+        ensures { IfOk result (λ shared. shared ≡ self.now) }
     {
-        let document = Arc::try_clone(&self.document)?;
-        Ok(SharedDocument { document })
+        let inner = Arc::try_clone(&self.inner)?;
+        Ok(Shared { inner })
     }
+}
+
+/// A document to share, with the numbers of its tasks.
+pub fn share_document(alloc: Global, document: Arc<Document>) -> Result<SharedDocument, AllocError>
+    ensures { IfOk result (λ shared. shared ≡ arc_value document) }
+{
+    Shared::new(alloc, NumberedDocument::new(alloc, document)?)
 }

@@ -1,6 +1,6 @@
 // A task that an instance runs: one of a list, or the workflow itself.
-ghost use Rattle.std.specs.Prelude.{◌≡◌, [], IfOk, IsSome, Some, ◌<◌, ◌-◌, ◌^◌, length, option_map};
-ghost use Rattle.swf_document.specs.TaskNode.{task_of, tasks_of};
+ghost use Rattle.std.specs.Prelude.{◌≡◌, [], IfOk, IsSome, ◌<◌, ◌-◌, ◌^◌, option_map};
+ghost use Rattle.swf_document.specs.TaskNode.{tasks_of};
 ghost use Rattle.swf_meaning.specs.Parts.{common_of, kind_of, place_of, workflow};
 ghost use Rattle.swf_meaning.specs.Line.{is_workflow};
 ghost use Rattle.swf_meaning.specs.Fork.{branches_of, competes};
@@ -8,52 +8,22 @@ ghost use Rattle.swf_meaning.specs.Next.{task_at};
 ghost use Rattle.swf_meaning.specs.Lists.{list_of, guard_of};
 ghost use Rattle.swf_meaning.specs.Shared.{is_shared_kind};
 ghost use Rattle.swf_stack.specs.Stack.{round_of};
-ghost use Rattle.swf_stack.specs.TaskRef.{parts_task, work_kind, listed};
+ghost use Rattle.swf_stack.specs.TaskRef.{parts_task, work_kind};
 
 use crate::made::Round;
+use crate::parts::{Parts, Work};
 use crate::shared::SharedDocument;
 use std::alloc::{AllocError, Global};
 use std::marker::Model;
-use swf_document::{
-    Case, Document, ErrorRef, Flow, ForSpec, ForkSpec, Kind, ListenSpec, Listing, Named, Task,
-    Tasks, Template, TrySpec, unboxed,
-};
+use swf_document::{Flow, Kind, Named, Template, unboxed};
 use swf_expr::Expr;
 use swf_text::Place;
 
-/// A task. A copy shares the document. Contracts see it as a `Task` of specs.
+/// A task of a document, by its number. A copy shares the document. Contracts see it as a `Task` of specs.
 #[derive(Drop)]
 pub struct TaskRef {
-    source: Source,
-}
-
-/// Where a task stands.
-#[derive(Drop)]
-pub enum Source {
-    Workflow(SharedDocument),
-    Listed { tasks: Tasks, place: usize },
-}
-
-/// The parts of a task.
-pub enum Parts<'a> {
-    Workflow(&'a Document),
-    Listed(&'a Task),
-}
-
-/// What a task of a kind that is built does.
-#[derive(Drop)]
-pub enum Work<'a> {
-    Do(&'a Tasks),
-    Emit(&'a Template),
-    For(&'a ForSpec),
-    Fork(&'a ForkSpec),
-    Listen(&'a ListenSpec),
-    Raise(&'a ErrorRef),
-    Set(&'a Template),
-    Switch(&'a Listing<Case>),
-    Try(&'a TrySpec),
-    Wait(u64),
-    Other,
+    document: SharedDocument,
+    number: usize,
 }
 
 impl Model for TaskRef {
@@ -64,11 +34,12 @@ impl Model for TaskRef {
 
     ghost coded = { task_code };
 
-    ghost use Rattle.swf_stack.specs.Source.{source_task, IsListed};
+    ghost use Rattle.std.specs.Prelude.{◌≡◌, is_some, true};
+    ghost use Rattle.swf_stack.specs.Numbers.{numbered, or_nothing};
 
-    ghost view = { λ t. source_task t.source };
+    ghost view = { λ t. or_nothing (numbered t.document t.number) };
 
-    ghost invariant = { λ t. IsListed t.source };
+    ghost invariant = { λ t. is_some (numbered t.document t.number) ≡ true };
 }
 
 impl TaskRef {
@@ -77,7 +48,8 @@ impl TaskRef {
         ensures { result ≡ workflow document }
     {
         TaskRef {
-            source: Source::Workflow(document),
+            document,
+            number: 0,
         }
     }
 
@@ -85,23 +57,16 @@ impl TaskRef {
     pub fn copy(&self) -> Result<TaskRef, AllocError>
         ensures { IfOk result (λ t. t ≡ self.now) }
     {
-        let source = match &self.source {
-            Source::Workflow(document) => Source::Workflow(document.copy()?),
-            Source::Listed { tasks, place } => Source::Listed {
-                tasks: tasks.copy()?,
-                place: *place,
-            },
-        };
-        Ok(TaskRef { source })
+        Ok(TaskRef {
+            document: self.document.copy()?,
+            number: self.number,
+        })
     }
 
     fn parts(&self) -> Parts<'_>
         ensures { parts_task result ≡ self.now }
     {
-        match &self.source {
-            Source::Workflow(document) => Parts::Workflow(document.document()),
-            Source::Listed { tasks, place } => Parts::Listed(at(tasks.as_slice(), *place)),
-        }
+        self.document.get().parts(self.number)
     }
 
     /// Its `if`.
@@ -189,52 +154,14 @@ impl TaskRef {
     pub fn work(&self) -> Work<'_>
         ensures { work_kind result (kind_of self.now) }
     {
-        match self.parts() {
-            Parts::Workflow(document) => Work::Do(&document.tasks),
-            Parts::Listed(task) => match &task.kind {
-                Kind::Do(tasks) => Work::Do(tasks),
-                Kind::Emit(template) => Work::Emit(template),
-                Kind::For(spec) => Work::For(spec),
-                Kind::Fork(spec) => Work::Fork(spec),
-                Kind::Listen(spec) => Work::Listen(spec),
-                Kind::Raise(reference) => Work::Raise(reference),
-                Kind::Set(template) => Work::Set(template),
-                Kind::Switch(cases) => Work::Switch(cases),
-                Kind::Try(spec) => Work::Try(spec),
-                Kind::Wait(duration) => Work::Wait(*duration),
-                Kind::Call(_) | Kind::Run(_) => Work::Other,
-            },
-        }
-    }
-
-    // The list of tasks that it runs in a round.
-    fn tasks(&self, round: &Round) -> Option<&Tasks>
-        ensures { listed (option_map (λ t. t.now) result) ≡ list_of self.now (round_of round.now) }
-    {
-        match (self.work(), round) {
-            (Work::Do(tasks), _) => Some(tasks),
-            (Work::For(spec), _) => Some(&spec.tasks),
-            (Work::Try(spec), Round::Catch(_)) => spec.handler.as_ref(),
-            (Work::Try(spec), _) => Some(&spec.tasks),
-            (
-                Work::Emit(_)
-                | Work::Fork(_)
-                | Work::Listen(_)
-                | Work::Raise(_)
-                | Work::Set(_)
-                | Work::Switch(_)
-                | Work::Wait(_)
-                | Work::Other,
-                _,
-            ) => None,
-        }
+        self.parts().work()
     }
 
     /// The tasks that it runs in a round, in order.
     pub fn named(&self, round: &Round) -> &[Named]
         ensures { tasks_of result.now ≡ list_of self.now (round_of round.now) }
     {
-        match self.tasks(round) {
+        match self.parts().list(round) {
             Some(tasks) => tasks.as_slice(),
             None => &[],
         }
@@ -245,17 +172,13 @@ impl TaskRef {
         ensures task { IfOk result (λ o. o ≡ task_at (list_of self.now (round_of round.now)) place) }
         ensures place { IfOk result (λ o. IsSome o → place < 2 ^ 64 - 1) }
     {
-        let Some(tasks) = self.tasks(round) else {
-            return Ok(None);
-        };
-        if place >= tasks.as_slice().len() {
-            return Ok(None);
+        match self.document.get().child(self.number, round, place) {
+            Some(number) => {
+                let document = self.document.copy()?;
+                Ok(Some(TaskRef { document, number }))
+            }
+            None => Ok(None),
         }
-        let source = Source::Listed {
-            tasks: tasks.copy()?,
-            place,
-        };
-        Ok(Some(TaskRef { source }))
     }
 
     /// Whether it is a `fork` whose branches compete.
@@ -272,17 +195,13 @@ impl TaskRef {
     pub fn branch(&self, number: usize) -> Result<Option<TaskRef>, AllocError>
         ensures { IfOk result (λ o. o ≡ task_at (branches_of self.now) number) }
     {
-        let Work::Fork(spec) = self.work() else {
-            return Ok(None);
-        };
-        if number >= spec.branches.as_slice().len() {
-            return Ok(None);
+        match self.document.get().branch(self.number, number) {
+            Some(number) => {
+                let document = self.document.copy()?;
+                Ok(Some(TaskRef { document, number }))
+            }
+            None => Ok(None),
         }
-        let source = Source::Listed {
-            tasks: spec.branches.copy()?,
-            place: number,
-        };
-        Ok(Some(TaskRef { source }))
     }
 
     /// Whether entering it needs more of the world than the instance itself.
@@ -317,12 +236,4 @@ impl TaskRef {
             _ => None,
         }
     }
-}
-
-// The task of a place.
-fn at(tasks: &[Named], place: usize) -> &Task
-    requires { place < length tasks.now }
-    ensures { task_at (tasks_of tasks.now) place ≡ Some (task_of result.now) }
-{
-    &tasks[place].task
 }

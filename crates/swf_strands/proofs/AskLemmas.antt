@@ -18,10 +18,10 @@ use Rattle.swf_meaning.specs.Top.{top_is}
 use Rattle.swf_meaning.specs.Wake.{waits}
 use Rattle.swf_meaning.specs.declared.heard.Heard.{Heard}
 use Rattle.swf_meaning.proofs.TopsLemmas.{enabled_among, enabled_among-branch, waits-at}
-use Rattle.swf_stack.specs.Layers.{frames_of, top_of}
+use Rattle.swf_stack.specs.Stands.{frames_of, top_of}
 use Rattle.swf_stack.specs.Stack.{plug, top_node, forked, waiting, round_of}
 use Rattle.swf_stack.specs.declared.made.Frame.{Frame}
-use Rattle.swf_stack.specs.declared.made.Layer.{Layer}
+use Rattle.swf_stack.specs.declared.made.Stand.{Stand}
 use Rattle.swf_stack.specs.declared.made.Top.{Top}
 use Rattle.swf_stack.specs.declared.made.Top.TheVariants as tops
 use Rattle.swf_strands.specs.Strands.{nodes_of, node_of, is_fork, IsGrownAt, IsHeld, most_beside}
@@ -31,27 +31,27 @@ use Rattle.swf_strands.proofs.TreeLemmas.{nothing, nth_node, nth_node-of, nth_no
 
 -- ---- how many strands stand below another
 
-abbrev below_in : Option (Branch Layer) → ℕ
+abbrev below_in : Option (Branch Stand) → ℕ
 below_in None = 0
 below_in (Some b) = count b.below
 
-abbrev pub below_held : Tree Layer → ℕ → ℕ
+abbrev pub below_held : Tree Stand → ℕ → ℕ
 below_held t n = below_in (find t.strands n)
 
-count-nth : (ss : Strands Layer) (i : ℕ) (c : Found Layer) → nth ss i ≡ Some c → count c.held.below < count ss
+count-nth : (ss : Strands Stand) (i : ℕ) (c : Found Stand) → nth ss i ≡ Some c → count c.held.below < count ss
 count-nth no_strands i c e = absurd (nothing c e)
-count-nth (strand m ls below after) zero c e = let k : count below ≡ count c.held.below = ap (λ (d : Found Layer). count d.held.below) (same_Some _ c e) in omega (arith, k)
+count-nth (strand m ls below after) zero c e = let k : count below ≡ count c.held.below = ap (λ (d : Found Stand). count d.held.below) (same_Some _ c e) in omega (arith, k)
 count-nth (strand m ls below after) (suc i) c e = let k = count-nth after i c e in omega (arith, k)
 
 -- a child has fewer, also where another tree holds it as it was
-pub fewer-by : (t u : Tree Layer) (n i c : ℕ) (b h : Branch Layer) → find t.strands n ≡ Some b → nth b.below i ≡ Some (record { number = c; held = h }) → find u.strands c ≡ Some h → below_held u c < below_held t n
+pub fewer-by : (t u : Tree Stand) (n i c : ℕ) (b h : Branch Stand) → find t.strands n ≡ Some b → nth b.below i ≡ Some (record { number = c; held = h }) → find u.strands c ≡ Some h → below_held u c < below_held t n
 fewer-by t u n i c b h f e g =
     let k = count-nth b.below i (record { number = c; held = h }) e in
     let one : below_held t n ≡ count b.below = ap below_in f in
     let two : below_held u c ≡ count h.below = ap below_in g in
     omega (arith, k, one, two)
 
-pub fewer : (t : Tree Layer) (n i c : ℕ) → IsHeld t n → IsChild t n i c → below_held t c < below_held t n
+pub fewer : (t : Tree Stand) (n i c : ℕ) → IsHeld t n → IsChild t n i c → below_held t c < below_held t n
 fewer t n i c held is =
     let b = held.1.0 in
     let f = held.1.1.0 in
@@ -59,12 +59,12 @@ fewer t n i c held is =
     fewer-by t t n i c b h.0 f h.1.0 h.1.1.0
 
 -- the place of a child
-pub nth-place : (ss : Strands Layer) (i : ℕ) (c : Found Layer) → nth ss i ≡ Some c → i < length (numbers ss)
+pub nth-place : (ss : Strands Stand) (i : ℕ) (c : Found Stand) → nth ss i ≡ Some c → i < length (numbers ss)
 nth-place no_strands i c e = absurd (nothing c e)
 nth-place (strand m ls below after) zero c e = omega arith
 nth-place (strand m ls below after) (suc i) c e = let k = nth-place after i c e in omega (arith, k)
 
-pub child-place : (t : Tree Layer) (n i c : ℕ) → IsHeld t n → IsChild t n i c → i < most_beside
+pub child-place : (t : Tree Stand) (n i c : ℕ) → IsHeld t n → IsChild t n i c → i < most_beside
 child-place t n i c held is =
     let b = held.1.0 in
     let h = is b held.1.1.0 in
@@ -91,10 +91,10 @@ nodes_from-none (branch m ns) zero e = absurd (nothing m (sym e))
 nodes_from-none (branch m ns) (suc i) e = nodes_from-none ns i e
 
 -- the branches of a strand from a child on
-pub from-child : (b : Branch Layer) (i : ℕ) (c : Found Layer) → nth b.below i ≡ Some c → nodes_from i (nodes_of b.below) ≡ branch (node_of c.held) (nodes_from (suc i) (nodes_of b.below))
+pub from-child : (b : Branch Stand) (i : ℕ) (c : Found Stand) → nth b.below i ≡ Some c → nodes_from i (nodes_of b.below) ≡ branch (node_of c.held) (nodes_from (suc i) (nodes_of b.below))
 from-child b i c e = nodes_from-some (nodes_of b.below) i (node_of c.held) (nth_node-of b.below i c e)
 
-pub from-end : (b : Branch Layer) (i : ℕ) → nth b.below i ≡ None → nodes_from i (nodes_of b.below) ≡ no_nodes
+pub from-end : (b : Branch Stand) (i : ℕ) → nth b.below i ≡ None → nodes_from i (nodes_of b.below) ≡ no_nodes
 from-end b i e = nodes_from-none (nodes_of b.below) i (nth_node-none b.below i e)
 
 -- ---- what stands innermost decides for the strand
@@ -189,7 +189,7 @@ plain-enabled now (f ∷ []) (tops.Hearing r bound hs) e = or-false (is_heard r.
 plain-enabled now (f ∷ []) (tops.Forked r) e = cc
 
 -- a strand itself can, or one below it
-pub enabled-node : (now : ℕ) (b : Branch Layer) → IsGrownAt b → is_enabled now (node_of b) ≡ (can_go now [] (node_of b) || enabled_among now (nodes_of b.below))
+pub enabled-node : (now : ℕ) (b : Branch Stand) → IsGrownAt b → is_enabled now (node_of b) ≡ (can_go now [] (node_of b) || enabled_among now (nodes_of b.below))
 enabled-node now b g = by (is_fork (top_of b.frames)) refl
   where
     by : (x : Bool) → is_fork (top_of b.frames) ≡ x → is_enabled now (node_of b) ≡ (can_go now [] (node_of b) || enabled_among now (nodes_of b.below))
@@ -207,33 +207,33 @@ enabled-node now b g = by (is_fork (top_of b.frames)) refl
 -- ---- one branch after another
 
 -- those before this one can take no step
-abbrev pub IsLeft : ℕ → Tree Layer → ℕ → ℕ → Type 0
-IsLeft now t n i = (b : Branch Layer) → find t.strands n ≡ Some b → is_enabled now (node_of b) ≡ enabled_among now (nodes_from i (nodes_of b.below))
+abbrev pub IsLeft : ℕ → Tree Stand → ℕ → ℕ → Type 0
+IsLeft now t n i = (b : Branch Stand) → find t.strands n ≡ Some b → is_enabled now (node_of b) ≡ enabled_among now (nodes_from i (nodes_of b.below))
 
-pub left-all : (now : ℕ) (t : Tree Layer) (n : ℕ) (here : Bool) → IsHeld t n → ((b : Branch Layer) → find t.strands n ≡ Some b → here ≡ can_go now [] (node_of b)) → here ≡ false → IsLeft now t n 0
+pub left-all : (now : ℕ) (t : Tree Stand) (n : ℕ) (here : Bool) → IsHeld t n → ((b : Branch Stand) → find t.strands n ≡ Some b → here ≡ can_go now [] (node_of b)) → here ≡ false → IsLeft now t n 0
 left-all now t n here held is isnt b f = enabled-node now b (held-is t n b held f) ∙ ap (λ x. x || enabled_among now (nodes_of b.below)) (sym (is b f) ∙ isnt)
 
-pub left-here : (now : ℕ) (t : Tree Layer) (n : ℕ) (here : Bool) → IsHeld t n → ((b : Branch Layer) → find t.strands n ≡ Some b → here ≡ can_go now [] (node_of b)) → here ≡ true → (b : Branch Layer) → find t.strands n ≡ Some b → true ≡ is_enabled now (node_of b)
+pub left-here : (now : ℕ) (t : Tree Stand) (n : ℕ) (here : Bool) → IsHeld t n → ((b : Branch Stand) → find t.strands n ≡ Some b → here ≡ can_go now [] (node_of b)) → here ≡ true → (b : Branch Stand) → find t.strands n ≡ Some b → true ≡ is_enabled now (node_of b)
 left-here now t n here held is so b f = sym (enabled-node now b (held-is t n b held f) ∙ ap (λ x. x || enabled_among now (nodes_of b.below)) (sym (is b f) ∙ so))
 
 -- of a child it is known
-abbrev pub IsOf : ℕ → Tree Layer → ℕ → Bool → Type 0
-IsOf now t c x = (h : Branch Layer) → find t.strands c ≡ Some h → x ≡ is_enabled now (node_of h)
+abbrev pub IsOf : ℕ → Tree Stand → ℕ → Bool → Type 0
+IsOf now t c x = (h : Branch Stand) → find t.strands c ≡ Some h → x ≡ is_enabled now (node_of h)
 
-left-child : (now : ℕ) (t : Tree Layer) (n i c : ℕ) (x : Bool) → IsChild t n i c → IsLeft now t n i → IsOf now t c x → (b : Branch Layer) → find t.strands n ≡ Some b → is_enabled now (node_of b) ≡ (x || enabled_among now (nodes_from (suc i) (nodes_of b.below)))
+left-child : (now : ℕ) (t : Tree Stand) (n i c : ℕ) (x : Bool) → IsChild t n i c → IsLeft now t n i → IsOf now t c x → (b : Branch Stand) → find t.strands n ≡ Some b → is_enabled now (node_of b) ≡ (x || enabled_among now (nodes_from (suc i) (nodes_of b.below)))
 left-child now t n i c x child left of b f =
     let h = child b f in
     left b f ∙ ap (enabled_among now) (from-child b i (record { number = c; held = h.0 }) h.1.0) ∙ enabled_among-branch now (node_of h.0) (nodes_from (suc i) (nodes_of b.below))
     ∙ ap (λ y. y || enabled_among now (nodes_from (suc i) (nodes_of b.below))) (sym (of h.0 h.1.1.0))
 
-pub left-more : (now : ℕ) (t : Tree Layer) (n i c : ℕ) (x : Bool) → IsChild t n i c → IsLeft now t n i → IsOf now t c x → x ≡ false → IsLeft now t n (i + 1)
+pub left-more : (now : ℕ) (t : Tree Stand) (n i c : ℕ) (x : Bool) → IsChild t n i c → IsLeft now t n i → IsOf now t c x → x ≡ false → IsLeft now t n (i + 1)
 left-more now t n i c x child left of isnt b f =
     let same : suc i ≡ i + 1 = omega arith in
     left-child now t n i c x child left of b f ∙ ap (λ y. y || enabled_among now (nodes_from (suc i) (nodes_of b.below))) isnt ∙ ap (λ j. enabled_among now (nodes_from j (nodes_of b.below))) same
 
-pub left-found : (now : ℕ) (t : Tree Layer) (n i c : ℕ) (x : Bool) → IsChild t n i c → IsLeft now t n i → IsOf now t c x → x ≡ true → (b : Branch Layer) → find t.strands n ≡ Some b → true ≡ is_enabled now (node_of b)
+pub left-found : (now : ℕ) (t : Tree Stand) (n i c : ℕ) (x : Bool) → IsChild t n i c → IsLeft now t n i → IsOf now t c x → x ≡ true → (b : Branch Stand) → find t.strands n ≡ Some b → true ≡ is_enabled now (node_of b)
 left-found now t n i c x child left of so b f =
     sym (left-child now t n i c x child left of b f ∙ ap (λ y. y || enabled_among now (nodes_from (suc i) (nodes_of b.below))) so)
 
-pub left-none : (now : ℕ) (t : Tree Layer) (n i : ℕ) → ((b : Branch Layer) → find t.strands n ≡ Some b → nth b.below i ≡ None) → IsLeft now t n i → (b : Branch Layer) → find t.strands n ≡ Some b → false ≡ is_enabled now (node_of b)
+pub left-none : (now : ℕ) (t : Tree Stand) (n i : ℕ) → ((b : Branch Stand) → find t.strands n ≡ Some b → nth b.below i ≡ None) → IsLeft now t n i → (b : Branch Stand) → find t.strands n ≡ Some b → false ≡ is_enabled now (node_of b)
 left-none now t n i none left b f = sym (left b f ∙ ap (enabled_among now) (from-end b i (none b f)))

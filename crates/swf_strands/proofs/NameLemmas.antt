@@ -6,10 +6,10 @@ use Rattle.swf_frames.specs.Paths.{nth}
 use Rattle.swf_meaning.specs.Node.{Node, Live, Forked}
 use Rattle.swf_meaning.specs.Strands.{strands}
 use Rattle.swf_meaning.proofs.TopsLemmas.{strands_from, strands_from-branch, strands-at}
-use Rattle.swf_stack.specs.Layers.{frames_of, top_of}
+use Rattle.swf_stack.specs.Stands.{frames_of, top_of}
 use Rattle.swf_stack.specs.Stack.{plug, top_node, round_of}
 use Rattle.swf_stack.specs.declared.made.Frame.{Frame}
-use Rattle.swf_stack.specs.declared.made.Layer.{Layer}
+use Rattle.swf_stack.specs.declared.made.Stand.{Stand}
 use Rattle.swf_stack.specs.declared.made.Top.{Top}
 use Rattle.swf_stack.specs.declared.made.Top.TheVariants as tops
 use Rattle.swf_strands.specs.Strands.{nodes_of, node_of, is_fork, IsGrownAt, IsHeld}
@@ -29,7 +29,7 @@ plain-strands (tops.Waiting r (Some n) m) e = refl
 plain-strands (tops.Hearing r bound hs) e = refl
 plain-strands (tops.Forked r) e = cc
 
-pub strands-node : (b : Branch Layer) → IsGrownAt b → strands (node_of b) ≡ [] ∷ strands_from 0 (nodes_of b.below)
+pub strands-node : (b : Branch Stand) → IsGrownAt b → strands (node_of b) ≡ [] ∷ strands_from 0 (nodes_of b.below)
 strands-node b g = by (is_fork (top_of b.frames)) refl
   where
     by : (x : Bool) → is_fork (top_of b.frames) ≡ x → strands (node_of b) ≡ [] ∷ strands_from 0 (nodes_of b.below)
@@ -56,10 +56,10 @@ behind-one path i [] = refl
 behind-one path i (x ∷ xs) = (λ j. append_assoc path (i ∷ []) x j ∷ behind-one path i xs j)
 
 -- the names in a list, with those from a branch on, are all
-abbrev pub IsListed : Tree Layer → ℕ → List ℕ → List (List ℕ) → ℕ → List (List ℕ) → Type 0
-IsListed t n path old i new = (b : Branch Layer) → find t.strands n ≡ Some b → new ++ behind path (strands_from i (nodes_from i (nodes_of b.below))) ≡ old ++ behind path (strands (node_of b))
+abbrev pub IsListed : Tree Stand → ℕ → List ℕ → List (List ℕ) → ℕ → List (List ℕ) → Type 0
+IsListed t n path old i new = (b : Branch Stand) → find t.strands n ≡ Some b → new ++ behind path (strands_from i (nodes_from i (nodes_of b.below))) ≡ old ++ behind path (strands (node_of b))
 
-pub listed-first : (t : Tree Layer) (n : ℕ) (name given path : List ℕ) (old new : List (List ℕ)) → IsHeld t n → name ≡ given → given ≡ path → new ≡ old ++ name ∷ [] → IsListed t n path old 0 new
+pub listed-first : (t : Tree Stand) (n : ℕ) (name given path : List ℕ) (old new : List (List ℕ)) → IsHeld t n → name ≡ given → given ≡ path → new ≡ old ++ name ∷ [] → IsListed t n path old 0 new
 listed-first t n name given path old new held same is e b f =
     let rest = behind path (strands_from 0 (nodes_of b.below)) in
     let one : name ≡ path = same ∙ is in
@@ -67,8 +67,8 @@ listed-first t n name given path old new held same is e b f =
     ∙ ap (λ p. old ++ p ∷ rest) (sym (append-nil path))
     ∙ sym (ap (λ ss. old ++ behind path ss) (strands-node b (held-is t n b held f)))
 
-pub listed-more : (t : Tree Layer) (n i c : ℕ) (path inner : List ℕ) (old new more : List (List ℕ)) → IsChild t n i c → inner ≡ path ++ i ∷ [] → IsListed t n path old i new →
-    ((h : Branch Layer) → find t.strands c ≡ Some h → more ≡ new ++ behind inner (strands (node_of h))) → IsListed t n path old (i + 1) more
+pub listed-more : (t : Tree Stand) (n i c : ℕ) (path inner : List ℕ) (old new more : List (List ℕ)) → IsChild t n i c → inner ≡ path ++ i ∷ [] → IsListed t n path old i new →
+    ((h : Branch Stand) → find t.strands c ≡ Some h → more ≡ new ++ behind inner (strands (node_of h))) → IsListed t n path old (i + 1) more
 listed-more t n i c path inner old new more child way is of b f =
     let h = child b f in
     let same : suc i ≡ i + 1 = omega arith in
@@ -82,8 +82,8 @@ listed-more t n i c path inner old new more child way is of b f =
     ∙ ap (λ xs. new ++ xs) (sym (behind-append path names rest) ∙ ap (behind path) (sym from))
     ∙ is b f
 
-pub listed-all : (t : Tree Layer) (n i : ℕ) (path : List ℕ) (old new : List (List ℕ)) → ((b : Branch Layer) → find t.strands n ≡ Some b → nth b.below i ≡ None) → IsListed t n path old i new →
-    (b : Branch Layer) → find t.strands n ≡ Some b → new ≡ old ++ behind path (strands (node_of b))
+pub listed-all : (t : Tree Stand) (n i : ℕ) (path : List ℕ) (old new : List (List ℕ)) → ((b : Branch Stand) → find t.strands n ≡ Some b → nth b.below i ≡ None) → IsListed t n path old i new →
+    (b : Branch Stand) → find t.strands n ≡ Some b → new ≡ old ++ behind path (strands (node_of b))
 listed-all t n i path old new none is b f =
     sym (append-nil new) ∙ ap (λ ns. new ++ behind path (strands_from i ns)) (sym (from-end b i (none b f))) ∙ is b f
 

@@ -10,7 +10,7 @@ use Rattle.swf_meaning.specs.Top.{Top, top_at, top_inside, top_branch, top_is}
 use Rattle.swf_meaning.specs.Wake.{until_top}
 use Rattle.swf_stack.specs.Stack.{plug}
 use Rattle.swf_stack.specs.declared.made.Frame.{Frame}
-use Rattle.swf_stack.specs.declared.made.Layer.{Layer}
+use Rattle.swf_stack.specs.declared.made.Stand.{Stand}
 use Rattle.swf_strands.specs.Strands.{node_of, IsGrownAt}
 use Rattle.swf_strands.specs.Ways.{at, at_inside, at_among, until_at, own_until}
 use Rattle.swf_strands.proofs.TreeLemmas.{at-child, at-no-child}
@@ -52,10 +52,10 @@ mutual
   top-among (suc b) bs (branch n ns) = top-among b bs ns
 
 -- of a branch
-pub top-child : (b : Branch Layer) (i : ℕ) (is : List ℕ) (c : Found Layer) → IsGrownAt b → nth b.below i ≡ Some c → top_at (i ∷ is) (node_of b) ≡ top_at is (node_of c.held)
+pub top-child : (b : Branch Stand) (i : ℕ) (is : List ℕ) (c : Found Stand) → IsGrownAt b → nth b.below i ≡ Some c → top_at (i ∷ is) (node_of b) ≡ top_at is (node_of c.held)
 top-child b i is c g e = top-at (i ∷ is) (node_of b) ∙ ap (option_and_then (top_at [])) (at-child b i is c g e) ∙ sym (top-at is (node_of c.held))
 
-pub top-no-child : (b : Branch Layer) (i : ℕ) (is : List ℕ) → nth b.below i ≡ None → top_at (i ∷ is) (node_of b) ≡ None
+pub top-no-child : (b : Branch Stand) (i : ℕ) (is : List ℕ) → nth b.below i ≡ None → top_at (i ∷ is) (node_of b) ≡ None
 top-no-child b i is e = top-at (i ∷ is) (node_of b) ∙ ap (option_and_then (top_at [])) (at-no-child b i is e)
 
 -- what holds of it

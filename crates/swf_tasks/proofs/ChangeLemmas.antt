@@ -16,56 +16,44 @@ use Rattle.swf_meaning.specs.Strands.{can_go, can_top}
 use Rattle.swf_meaning.specs.Top.{top_branch, top_is, line_branch}
 use Rattle.swf_meaning.specs.Node.{Node, Fresh, Live, Done, Fault, Forked, Nodes, no_nodes, branch, Running}
 use Rattle.swf_rules.specs.Settles.{ending, MakesSome}
-use Rattle.swf_stack.specs.Layers.{frames_of, top_of, running, stacked}
+use Rattle.swf_stack.specs.Stands.{frames_of, inward, top_of}
 use Rattle.swf_stack.specs.Stack.{plug, top_node, made_node, stepped_of, used_by, seen_in}
-use Rattle.swf_stack.proofs.LayerLemmas.{frames_of-running, frames_of-stacked, top_of-stacked}
+use Rattle.swf_stack.proofs.StandLemmas.{inward-more}
 use Rattle.swf_scene.specs.Halts.{Makes}
 use Rattle.swf_scene.specs.declared.halt.Halt.{Halt}
 use Rattle.swf_scene.specs.declared.halt.Halt.TheVariants as halts
 use Rattle.swf_stack.specs.declared.made.Frame.{Frame}
-use Rattle.swf_stack.specs.declared.made.Layer.{Layer}
-use Rattle.swf_stack.specs.declared.made.Layer.TheVariants as layers
+use Rattle.swf_stack.specs.declared.made.Stand.{Stand}
 use Rattle.swf_stack.specs.declared.made.Made.{Made}
 use Rattle.swf_stack.specs.declared.made.Top.{Top}
 use Rattle.swf_stack.specs.declared.made.Top.TheVariants as tops
-use Rattle.swf_tasks.specs.Installed.{put_in, IsStep, AreAround}
-use Rattle.swf_tasks.specs.Stepped.{IsChange, IsChangeOf, IsForkOf, change_at, ended_of, if_ended, has_ended, listed}
-use Rattle.swf_strands.specs.Strands.{IsStack, made_layers, node_of, nodes_of, is_fork, IsGrownAt, IsHeld}
+use Rattle.swf_tasks.specs.Installed.{put_in, IsStep, outer, own_node}
+use Rattle.swf_tasks.specs.Stepped.{IsChange, IsChangeOf, IsForkOf, change_at, ended_in, ended_of, if_ended, has_ended, listed}
+use Rattle.swf_strands.specs.Strands.{made_stand, node_of, nodes_of, is_fork, IsGrownAt, IsHeld}
 use Rattle.swf_strands.specs.Ways.{has_strand, replaced}
 use Rattle.swf_tasks.specs.declared.step.Change.{Change}
-use Rattle.swf_tasks.proofs.StepLemmas.{plug-append, is_open, local-put, local-plug}
+use Rattle.swf_tasks.proofs.StepLemmas.{plug-append, is_open, open-plug, local-put, local-plug}
 use Rattle.swf_strands.proofs.AskLemmas.{can_go-live}
 use Rattle.swf_strands.proofs.TopLemmas.{top-no-child}
 use Rattle.swf_strands.proofs.TreeLemmas.{nth_node, nth_node-of, nothing, yes-no, has-fork, fork-node, at-child, replaced-fork, plain-node, held-is, IsChild}
 use Rattle.swf_strands.proofs.OrderLemmas.{can_go-child}
 
--- ---- a stack of running tasks and a top
-
-pub stack-is : (fs : List Frame) (t : Top) (ls : List Layer) → ls ≡ stacked fs t → IsStack ls
-stack-is fs t ls e =
-    e ∙ sym (ap (λ gs. stacked gs (top_of ls)) (ap frames_of e ∙ frames_of-stacked fs t) ∙ ap (stacked fs) (ap top_of e ∙ top_of-stacked fs t))
-
-pub made-stack : (fs : List Frame) (t : Top) (ls : List Layer) → ls ≡ stacked fs t → made_layers ls ≡ plug fs (made_node t)
-made-stack fs t ls e =
-    ap (λ gs. plug gs (made_node (top_of ls))) (ap frames_of e ∙ frames_of-stacked fs t) ∙ ap (λ x. plug fs (made_node x)) (ap top_of e ∙ top_of-stacked fs t)
-
--- what a rule makes, with these tasks around it
-pub made-around : (os : List Frame) (m : Made) (ls : List Layer) → ls ≡ stacked (os ++ option_to_list m.frame) m.top → made_layers ls ≡ plug os (stepped_of m).node
-made-around os m ls e = made-stack (os ++ option_to_list m.frame) m.top ls e ∙ plug-append os (option_to_list m.frame) (made_node m.top)
-
 -- ---- what stands innermost takes its step
 
-pub own-change : (s : Site) (l : Line) (fs os : List Frame) (t : Top) (m : Made) (c : Change) → AreAround fs t os → IsStep s l fs t (stepped_of m) → c.depth ≡ 0 → c.layers.items ≡ stacked (os ++ option_to_list m.frame) m.top → c.context ≡ m.context → c.emitted ≡ m.emitted →
-    IsChange s l [] (plug fs (top_node t)) c
-own-change s l fs os t m c around step d ls x e = record {
+-- what a rule makes, with these tasks around it
+pub made-around : (fs : List Frame) (m : Made) (h : Stand) → h.around ≡ option_to_list m.frame ++ fs → h.top ≡ m.top → made_stand h ≡ plug (inward fs) (stepped_of m).node
+made-around fs m h a t =
+    (λ i. plug (inward (a i)) (made_node (t i))) ∙ ap (λ gs. plug gs (made_node m.top)) (inward-more fs m.frame) ∙ plug-append (inward fs) (option_to_list m.frame) (made_node m.top)
+
+pub own-change : (s : Site) (l : Line) (h : Stand) (m : Made) (c : Change) → IsStep s l h (stepped_of m) → c.depth ≡ 0 → c.stand.around ≡ option_to_list m.frame ++ outer h.top h.around → c.stand.top ≡ m.top → c.context ≡ m.context → c.emitted ≡ m.emitted → IsChange s l [] (own_node h) c
+own-change s l h m c step d a t x e = record {
   deep = omega (arith, d);
-  there = ap (λ n. has_strand (take n []) (plug fs (top_node t))) d;
-  stack = stack-is (os ++ option_to_list m.frame) m.top c.layers.items ls;
-  step = step os around ∙ ap Some (λ i. record { node = node i; context = sym x i; used = used_by (sym e i); emitted = sym e i });
+  there = ap (λ n. has_strand (take n []) (own_node h)) d;
+  step = step ∙ ap Some (λ i. record { node = node i; context = sym x i; used = used_by (sym e i); emitted = sym e i });
 }
   where
-    node : plug os (stepped_of m).node ≡ replaced (take c.depth []) (made_layers c.layers.items) (plug fs (top_node t))
-    node = sym (made-around os m c.layers.items ls) ∙ sym (ap (λ n. replaced (take n []) (made_layers c.layers.items) (plug fs (top_node t))) d)
+    node : plug (inward (outer h.top h.around)) (stepped_of m).node ≡ replaced (take c.depth []) (made_stand c.stand) (own_node h)
+    node = sym (made-around (outer h.top h.around) m c.stand a t) ∙ sym (ap (λ n. replaced (take n []) (made_stand c.stand) (own_node h)) d)
 
 -- ---- a branch takes its step
 
@@ -102,26 +90,9 @@ open-after l r ns i m e = by m.node refl
     by (Done w f) h = absurd (yes-no (sym e ∙ ap is_open (sym h)))
     by (Fault p) h = absurd (yes-no (sym e ∙ ap is_open (sym h)))
 
-abbrev rest : List Layer → List Layer
-rest [] = []
-rest (l ∷ ls) = ls
-
-abbrev is_running : List Layer → Bool
-is_running [] = false
-is_running (layers.Running f ∷ ls) = true
-is_running (layers.Top t ∷ ls) = false
-
--- what stands innermost with nothing around it stands alone
-top-alone : (t : Top) (ls : List Layer) → IsStack (layers.Top t ∷ ls) → ls ≡ []
-top-alone t ls h = by (frames_of ls) h
-  where
-    by : (fs : List Frame) → layers.Top t ∷ ls ≡ stacked fs t → ls ≡ []
-    by [] e = ap rest e
-    by (f ∷ fs) e = absurd (yes-no (sym (ap is_running e)))
-
 -- what the outermost strand is after the step: what it ended in, or a task that has not ended
-pub open-or-ended : (d : ℕ) (bs : List ℕ) (ls : List Layer) (n : Node) → d ≤ length bs → has_strand (take d bs) n ≡ true → IsStack ls → ended_of d ls ≡ None → is_open (replaced (take d bs) (made_layers ls) n) ≡ true
-open-or-ended zero bs ls n l h stack none = open-layers ls stack none
+pub open-or-ended : (d : ℕ) (bs : List ℕ) (h : Stand) (n : Node) → d ≤ length bs → has_strand (take d bs) n ≡ true → ended_of d h ≡ None → is_open (replaced (take d bs) (made_stand h) n) ≡ true
+open-or-ended zero bs h n l there none = open-in h.around h.top none
   where
     open-top : (t : Top) → if_ended t ≡ None → is_open (made_node t) ≡ true
     open-top (tops.Fresh r v) e = refl
@@ -131,15 +102,14 @@ open-or-ended zero bs ls n l h stack none = open-layers ls stack none
     open-top (tops.Hearing r b hs) e = refl
     open-top (tops.Forked r) e = refl
 
-    open-layers : (ls : List Layer) → IsStack ls → ended_of zero ls ≡ None → is_open (made_layers ls) ≡ true
-    open-layers [] stack e = cc
-    open-layers (layers.Running f ∷ ls) stack e = refl
-    open-layers (layers.Top t ∷ ls) stack e = subst (λ ks. is_open (made_layers (layers.Top t ∷ ks)) ≡ true) (sym (top-alone t ls stack)) (open-top t e)
-open-or-ended (suc d) [] ls n l h stack none = absurd (omega (arith, l))
-open-or-ended (suc d) (b ∷ bs) ls (Fresh t v) l h stack none = absurd (yes-no (sym h))
-open-or-ended (suc d) (b ∷ bs) ls (Live t k) l h stack none = refl
-open-or-ended (suc d) (b ∷ bs) ls (Done w f) l h stack none = absurd (yes-no (sym h))
-open-or-ended (suc d) (b ∷ bs) ls (Fault p) l h stack none = absurd (yes-no (sym h))
+    open-in : (fs : List Frame) (t : Top) → ended_in fs t ≡ None → is_open (plug (inward fs) (made_node t)) ≡ true
+    open-in [] t e = open-top t e
+    open-in (f ∷ fs) t e = ap is_open (plug-append (inward fs) (f ∷ []) (made_node t)) ∙ open-plug (inward fs) (plug (f ∷ []) (made_node t)) refl
+open-or-ended (suc d) [] h n l there none = absurd (omega (arith, l))
+open-or-ended (suc d) (b ∷ bs) h (Fresh t v) l there none = absurd (yes-no (sym there))
+open-or-ended (suc d) (b ∷ bs) h (Live t k) l there none = refl
+open-or-ended (suc d) (b ∷ bs) h (Done w f) l there none = absurd (yes-no (sym there))
+open-or-ended (suc d) (b ∷ bs) h (Fault p) l there none = absurd (yes-no (sym there))
 
 -- ---- the change of a branch is one of the strand
 
@@ -147,13 +117,12 @@ take-first : (d i : ℕ) (is : List ℕ) → take (d + 1) (i ∷ is) ≡ i ∷ t
 take-first d i is = ap (λ n. take n (i ∷ is)) (add-one d)
 
 -- the strand with the branch anew
-goes-on : (s : Site) (l : Line) (b : Branch Layer) (i : ℕ) (h : Found Layer) (inner : List ℕ) (c r : Change) → IsGrownAt b → nth b.below i ≡ Some h → IsChange s (seen_in l (frames_of b.frames)) inner (node_of h.held) c →
+goes-on : (s : Site) (l : Line) (b : Branch Stand) (i : ℕ) (h : Found Stand) (inner : List ℕ) (c r : Change) → IsGrownAt b → nth b.below i ≡ Some h → IsChange s (seen_in l (frames_of b.frames)) inner (node_of h.held) c →
     ((q : Running) → top_of b.frames ≡ tops.Forked q → after_branch (seen_in l (frames_of b.frames)) q (nodes_of b.below) i (change_at c inner (node_of h.held)) ≡ goes_with q (nodes_of b.below) i (change_at c inner (node_of h.held))) →
     r ≡ record c { depth = c.depth + 1 } → IsChange s l (i ∷ inner) (node_of b) r
 goes-on s l b i h inner c r g e change after is = subst (IsChange s l (i ∷ inner) (node_of b)) (sym is) (record {
   deep = omega (arith, change.deep);
   there = ap (λ bs. has_strand bs (node_of b)) (take-first c.depth i inner) ∙ ap is_some (at-child b i (take c.depth inner) h g e) ∙ change.there;
-  stack = change.stack;
   step = ap (local s l (i ∷ inner)) f.1.1
       ∙ local-fork s l fs f.0 ns i inner (node_of h.held) x n change.step
       ∙ ap (λ y. Some (put_in fs y)) (after f.0 f.1.0)
@@ -175,17 +144,17 @@ goes-on s l b i h inner c r g e change after is = subst (IsChange s l (i ∷ inn
     f : (q : Running) × ((top_of b.frames ≡ tops.Forked q) × (node_of b ≡ plug fs (Live q (Forked ns))))
     f = fork-node b.frames ns (has-fork b i h g e)
 
-    node : replaced (take (c.depth + 1) (i ∷ inner)) (made_layers c.layers.items) (node_of b) ≡ plug fs (Live f.0 (Forked (put ns i x.node)))
-    node = ap (λ bs. replaced bs (made_layers c.layers.items) (node_of b)) (take-first c.depth i inner)
-        ∙ ap (replaced (i ∷ take c.depth inner) (made_layers c.layers.items)) f.1.1
-        ∙ replaced-fork i (take c.depth inner) (made_layers c.layers.items) fs f.0 ns (node_of h.held) n
+    node : replaced (take (c.depth + 1) (i ∷ inner)) (made_stand c.stand) (node_of b) ≡ plug fs (Live f.0 (Forked (put ns i x.node)))
+    node = ap (λ bs. replaced bs (made_stand c.stand) (node_of b)) (take-first c.depth i inner)
+        ∙ ap (replaced (i ∷ take c.depth inner) (made_stand c.stand)) f.1.1
+        ∙ replaced-fork i (take c.depth inner) (made_stand c.stand) fs f.0 ns (node_of h.held) n
 
 -- where the branch has not ended
-pub goes-deeper : (s : Site) (l : Line) (b : Branch Layer) (i : ℕ) (h : Found Layer) (inner : List ℕ) (c r : Change) → IsGrownAt b → nth b.below i ≡ Some h → IsChange s (seen_in l (frames_of b.frames)) inner (node_of h.held) c →
-    ended_of c.depth c.layers.items ≡ None → r ≡ record c { depth = c.depth + 1 } → IsChange s l (i ∷ inner) (node_of b) r
+pub goes-deeper : (s : Site) (l : Line) (b : Branch Stand) (i : ℕ) (h : Found Stand) (inner : List ℕ) (c r : Change) → IsGrownAt b → nth b.below i ≡ Some h → IsChange s (seen_in l (frames_of b.frames)) inner (node_of h.held) c →
+    ended_of c.depth c.stand ≡ None → r ≡ record c { depth = c.depth + 1 } → IsChange s l (i ∷ inner) (node_of b) r
 goes-deeper s l b i h inner c r g e change none =
     goes-on s l b i h inner c r g e change
-    (λ q top. open-after (seen_in l (frames_of b.frames)) q (nodes_of b.below) i (change_at c inner (node_of h.held)) (open-or-ended c.depth inner c.layers.items (node_of h.held) change.deep change.there change.stack none))
+    (λ q top. open-after (seen_in l (frames_of b.frames)) q (nodes_of b.below) i (change_at c inner (node_of h.held)) (open-or-ended c.depth inner c.stand (node_of h.held) change.deep change.there none))
 
 -- ---- a branch ends
 
@@ -228,47 +197,46 @@ made-ended (tops.Done w f) e = refl
 made-ended (tops.Fault p) e = refl
 
 -- the node of a branch that ended, where that is put anew
-pub ended-node : (d : ℕ) (bs : List ℕ) (ls : List Layer) (n : Node) (x : Top) → IsStack ls → ended_of d ls ≡ Some x → (has_ended x ≡ true) × (replaced (take d bs) (made_layers ls) n ≡ top_node x)
-ended-node zero bs (layers.Top t ∷ ls) n x stack e =
-    let h = ended-top t x e in
-    (h.1, ap (λ ks. made_layers (layers.Top t ∷ ks)) (top-alone t ls stack) ∙ ap made_node h.0 ∙ made-ended x h.1)
-ended-node zero bs (layers.Running f ∷ ls) n x stack e = absurd (nothing x e)
-ended-node zero bs [] n x stack e = absurd (nothing x e)
-ended-node (suc d) bs ls n x stack e = absurd (nothing x e)
+ended-alone : (fs : List Frame) (t x : Top) → ended_in fs t ≡ Some x → (has_ended x ≡ true) × (plug (inward fs) (made_node t) ≡ top_node x)
+ended-alone [] t x e = let h = ended-top t x e in (h.1, ap made_node h.0 ∙ made-ended x h.1)
+ended-alone (f ∷ fs) t x e = absurd (nothing x e)
+
+pub ended-node : (d : ℕ) (bs : List ℕ) (h : Stand) (n : Node) (x : Top) → ended_of d h ≡ Some x → (has_ended x ≡ true) × (replaced (take d bs) (made_stand h) n ≡ top_node x)
+ended-node zero bs h n x e = ended-alone h.around h.top x e
+ended-node (suc d) bs h n x e = absurd (nothing x e)
 
 -- what the `fork` ends in that sees the branch that ended
-abbrev ends : Line → Branch Layer → ℕ → Change → Top → Running → Option Stepped
+abbrev ends : Line → Branch Stand → ℕ → Change → Top → Running → Option Stepped
 ends l b i c x r = let k = record l { context = c.context } in option_map (step_of k) (ending k r (competes r.task) (option_map listed (outputs (put (nodes_of b.below) i (top_node x)))) x)
 
-after-ended : (l : Line) (b : Branch Layer) (i : ℕ) (c : Change) (inner : List ℕ) (n : Node) (x : Top) (r : Running) → IsStack c.layers.items → ended_of c.depth c.layers.items ≡ Some x →
+after-ended : (l : Line) (b : Branch Stand) (i : ℕ) (c : Change) (inner : List ℕ) (n : Node) (x : Top) (r : Running) → ended_of c.depth c.stand ≡ Some x →
     after_branch l r (nodes_of b.below) i (change_at c inner n) ≡ record (or_on (record l { context = c.context }) r (put (nodes_of b.below) i (top_node x)) (ends l b i c x r)) { used = used_by c.emitted; emitted = c.emitted }
-after-ended l b i c inner n x r stack e =
+after-ended l b i c inner n x r e =
     let k = record l { context = c.context } in
-    let h = ended-node c.depth inner c.layers.items n x stack e in
+    let h = ended-node c.depth inner c.stand n x e in
     ap (λ y. record (step_of k (settled k r (competes r.task) (put (nodes_of b.below) i y) y)) { used = used_by c.emitted; emitted = c.emitted }) h.1
     ∙ ap (λ (y : Stepped). record y { used = used_by c.emitted; emitted = c.emitted }) (settled-ending k r (competes r.task) (put (nodes_of b.below) i (top_node x)) x h.0)
 
 -- it goes on
-pub settle-on : (s : Site) (l : Line) (b : Branch Layer) (i : ℕ) (h : Found Layer) (inner : List ℕ) (c r : Change) (x : Top) → IsGrownAt b → nth b.below i ≡ Some h → IsChange s (seen_in l (frames_of b.frames)) inner (node_of h.held) c →
-    ended_of c.depth c.layers.items ≡ Some x → ((q : Running) → top_of b.frames ≡ tops.Forked q → ends (seen_in l (frames_of b.frames)) b i c x q ≡ None) → r ≡ record c { depth = c.depth + 1 } → IsChange s l (i ∷ inner) (node_of b) r
+pub settle-on : (s : Site) (l : Line) (b : Branch Stand) (i : ℕ) (h : Found Stand) (inner : List ℕ) (c r : Change) (x : Top) → IsGrownAt b → nth b.below i ≡ Some h → IsChange s (seen_in l (frames_of b.frames)) inner (node_of h.held) c →
+    ended_of c.depth c.stand ≡ Some x → ((q : Running) → top_of b.frames ≡ tops.Forked q → ends (seen_in l (frames_of b.frames)) b i c x q ≡ None) → r ≡ record c { depth = c.depth + 1 } → IsChange s l (i ∷ inner) (node_of b) r
 settle-on s l b i h inner c r x g e change ended none =
     let z = seen_in l (frames_of b.frames) in
     goes-on s l b i h inner c r g e change (λ q top.
-    after-ended z b i c inner (node_of h.held) x q change.stack ended
+    after-ended z b i c inner (node_of h.held) x q ended
     ∙ ap (λ o. record (or_on (record z { context = c.context }) q (put (nodes_of b.below) i (top_node x)) o) { used = used_by c.emitted; emitted = c.emitted }) (none q top)
-    ∙ ap (λ y. record (change_at c inner (node_of h.held)) { node = Live q (Forked (put (nodes_of b.below) i y)) }) (sym (ended-node c.depth inner c.layers.items (node_of h.held) x change.stack ended).1))
+    ∙ ap (λ y. record (change_at c inner (node_of h.held)) { node = Live q (Forked (put (nodes_of b.below) i y)) }) (sym (ended-node c.depth inner c.stand (node_of h.held) x ended).1))
 
 -- it ends
-pub settle-off : (s : Site) (l : Line) (b : Branch Layer) (i : ℕ) (h : Found Layer) (inner : List ℕ) (c r : Change) (x : Top) (m : Made) → IsGrownAt b → nth b.below i ≡ Some h → IsChange s (seen_in l (frames_of b.frames)) inner (node_of h.held) c →
-    ended_of c.depth c.layers.items ≡ Some x → ((q : Running) → top_of b.frames ≡ tops.Forked q → ends (seen_in l (frames_of b.frames)) b i c x q ≡ Some (stepped_of m)) →
-    r.depth ≡ 0 → r.layers.items ≡ stacked (frames_of b.frames ++ option_to_list m.frame) m.top → r.context ≡ m.context → r.emitted ≡ c.emitted → IsChange s l (i ∷ inner) (node_of b) r
-settle-off s l b i h inner c r x m g e change ended some d ls k o = record {
+pub settle-off : (s : Site) (l : Line) (b : Branch Stand) (i : ℕ) (h : Found Stand) (inner : List ℕ) (c r : Change) (x : Top) (m : Made) (top : Stand) → IsGrownAt b → nth b.below i ≡ Some h → IsChange s (seen_in l (frames_of b.frames)) inner (node_of h.held) c →
+    ended_of c.depth c.stand ≡ Some x → ((q : Running) → top_of b.frames ≡ tops.Forked q → ends (seen_in l (frames_of b.frames)) b i c x q ≡ Some (stepped_of m)) →
+    b.frames ≡ top ∷ [] → r.depth ≡ 0 → r.stand.around ≡ option_to_list m.frame ++ top.around → r.stand.top ≡ m.top → r.context ≡ m.context → r.emitted ≡ c.emitted → IsChange s l (i ∷ inner) (node_of b) r
+settle-off s l b i h inner c r x m top g e change ended some one d a t k o = record {
   deep = omega (arith, d);
   there = ap (λ n. has_strand (take n (i ∷ inner)) (node_of b)) d;
-  stack = stack-is (fs ++ option_to_list m.frame) m.top r.layers.items ls;
   step = ap (local s l (i ∷ inner)) f.1.1
       ∙ local-fork s l fs f.0 (nodes_of b.below) i inner (node_of h.held) (change_at c inner (node_of h.held)) (nth_node-of b.below i h e) change.step
-      ∙ ap (λ y. Some (put_in fs y)) (after-ended z b i c inner (node_of h.held) x f.0 change.stack ended)
+      ∙ ap (λ y. Some (put_in fs y)) (after-ended z b i c inner (node_of h.held) x f.0 ended)
       ∙ ap (λ o. Some (put_in fs (record (or_on (record z { context = c.context }) f.0 (put (nodes_of b.below) i (top_node x)) o) { used = used_by c.emitted; emitted = c.emitted }))) (some f.0 f.1.0)
       ∙ ap Some (λ j. record { node = node j; context = sym k j; used = used_by (sym o j); emitted = sym o j });
 }
@@ -282,8 +250,8 @@ settle-off s l b i h inner c r x m g e change ended some d ls k o = record {
     f : (q : Running) × ((top_of b.frames ≡ tops.Forked q) × (node_of b ≡ plug fs (Live q (Forked (nodes_of b.below)))))
     f = fork-node b.frames (nodes_of b.below) (has-fork b i h g e)
 
-    node : plug fs (stepped_of m).node ≡ replaced (take r.depth (i ∷ inner)) (made_layers r.layers.items) (node_of b)
-    node = sym (made-around fs m r.layers.items ls) ∙ sym (ap (λ n. replaced (take n (i ∷ inner)) (made_layers r.layers.items) (node_of b)) d)
+    node : plug fs (stepped_of m).node ≡ replaced (take r.depth (i ∷ inner)) (made_stand r.stand) (node_of b)
+    node = ap (λ ls. plug (frames_of ls) (stepped_of m).node) one ∙ sym (made-around top.around m r.stand a t) ∙ sym (ap (λ n. replaced (take n (i ∷ inner)) (made_stand r.stand) (node_of b)) d)
 
 -- ---- what the rule of a `fork` gives
 
@@ -292,7 +260,7 @@ on_fork P (tops.Forked r) = P r
 on_fork P t = Unit {0}
 
 -- what it makes of the branch that ended is what the definition does
-pub settles-to : (z l : Line) (b : Branch Layer) (i : ℕ) (c : Change) (x : Top) (a : Running) (k : Value) (compete : Bool) (o : Option Value) (e : Option Stepped) → z ≡ record l { context = k } → k ≡ c.context → compete ≡ competes a.task →
+pub settles-to : (z l : Line) (b : Branch Stand) (i : ℕ) (c : Change) (x : Top) (a : Running) (k : Value) (compete : Bool) (o : Option Value) (e : Option Stepped) → z ≡ record l { context = k } → k ≡ c.context → compete ≡ competes a.task →
     o ≡ option_map listed (outputs (put (nodes_of b.below) i (top_node x))) → option_map (step_of z) (ending z a compete o x) ≡ e → top_of b.frames ≡ tops.Forked a → (r : Running) → top_of b.frames ≡ tops.Forked r → ends l b i c x r ≡ e
 settles-to z l b i c x a k compete o e hz hk hc ho he ha r hr = subst (on_fork (λ q. ends l b i c x q ≡ e)) (sym ha ∙ hr) here
   where
@@ -319,7 +287,7 @@ some-of f o p x e is = sym e ∙ ap (option_map f) is
 
 -- ---- the branch that a way begins with
 
-pub own-fork : (now : ℕ) (b : Branch Layer) → can_go now [] (node_of b) ≡ true → is_fork (top_of b.frames) ≡ false
+pub own-fork : (now : ℕ) (b : Branch Stand) → can_go now [] (node_of b) ≡ true → is_fork (top_of b.frames) ≡ false
 own-fork now b can = by (is_fork (top_of b.frames)) refl
   where
     by : (x : Bool) → is_fork (top_of b.frames) ≡ x → is_fork (top_of b.frames) ≡ false
@@ -328,7 +296,7 @@ own-fork now b can = by (is_fork (top_of b.frames)) refl
         let f = fork-node b.frames (nodes_of b.below) e in
         absurd (yes-no (sym can ∙ ap (can_go now []) f.1.1 ∙ can_go-live now (frames_of b.frames) f.0 (Forked (nodes_of b.below))))
 
-pub nowhere-goes : (now : ℕ) (is : List ℕ) (i : ℕ) (b : Branch Layer) → nth b.below i ≡ None → can_go now (i ∷ is) (node_of b) ≡ true → ⊥
+pub nowhere-goes : (now : ℕ) (is : List ℕ) (i : ℕ) (b : Branch Stand) → nth b.below i ≡ None → can_go now (i ∷ is) (node_of b) ≡ true → ⊥
 nowhere-goes now is i b none can = yes-no (sym can ∙ ap (top_is (can_top now)) (top-no-child b i is none))
 
 pub no-numbers : (bs : List ℕ) → length bs ≡ 0 → bs ≡ []
@@ -338,58 +306,54 @@ no-numbers (b ∷ bs) e = absurd (omega (arith, e))
 -- ---- the step of a strand itself, told of the strand
 
 -- what stands on the strand of a number
-abbrev pub Around : Tree Layer → ℕ → List Layer → Type 0
-Around t n ls = (b : Branch Layer) → find t.strands n ≡ Some b → ls ≡ running (frames_of b.frames)
+abbrev pub OnStrand : Tree Stand → ℕ → Stand → Type 0
+OnStrand t n h = (b : Branch Stand) → find t.strands n ≡ Some b → b.frames ≡ h ∷ []
 
-abbrev pub OnTop : Tree Layer → ℕ → Top → Type 0
-OnTop t n x = (b : Branch Layer) → find t.strands n ≡ Some b → x ≡ top_of b.frames
+abbrev pub Goes : ℕ → Tree Stand → ℕ → List ℕ → Type 0
+Goes now t n bs = (b : Branch Stand) → find t.strands n ≡ Some b → can_go now bs (node_of b) ≡ true
 
-abbrev pub Goes : ℕ → Tree Layer → ℕ → List ℕ → Type 0
-Goes now t n bs = (b : Branch Layer) → find t.strands n ≡ Some b → can_go now bs (node_of b) ≡ true
+own-is : (now : ℕ) (b : Branch Stand) (h : Stand) → b.frames ≡ h ∷ [] → can_go now [] (node_of b) ≡ true → node_of b ≡ own_node h
+own-is now b h one can = plain-node b.frames (nodes_of b.below) (own-fork now b can) ∙ ap (λ ls. plug (frames_of ls) (top_node (top_of ls))) one
 
-own-node : (now : ℕ) (t : Tree Layer) (n : ℕ) (x : Top) (b : Branch Layer) → OnTop t n x → find t.strands n ≡ Some b → can_go now [] (node_of b) ≡ true → node_of b ≡ plug (frames_of b.frames) (top_node x)
-own-node now t n x b top f can = plain-node b.frames (nodes_of b.below) (own-fork now b can) ∙ ap (λ y. plug (frames_of b.frames) (top_node y)) (sym (top b f))
-
-pub own-goes : (now : ℕ) (t : Tree Layer) (n : ℕ) (bs : List ℕ) (ls : List Layer) (x : Top) → IsHeld t n → bs ≡ [] → Goes now t n bs → Around t n ls → OnTop t n x →
-    (fs : List Frame) × ((ls ≡ running fs) × (can_go now [] (plug fs (top_node x)) ≡ true))
-own-goes now t n bs ls x held empty goes around top =
+pub own-goes : (now : ℕ) (t : Tree Stand) (n : ℕ) (bs : List ℕ) (h : Stand) → IsHeld t n → bs ≡ [] → Goes now t n bs → OnStrand t n h → can_go now [] (own_node h) ≡ true
+own-goes now t n bs h held empty goes on =
     let b = held.1.0 in
     let f = held.1.1.0 in
     let can = subst (λ is. can_go now is (node_of b) ≡ true) empty (goes b f) in
-    (frames_of b.frames, (around b f, ap (can_go now []) (sym (own-node now t n x b top f can)) ∙ can))
+    ap (can_go now []) (sym (own-is now b h (on b f) can)) ∙ can
 
-pub own-told : {E : Type 0} (s : Site) (l : Line) (t : Tree Layer) (n : ℕ) (bs : List ℕ) (ls : List Layer) (x : Top) (r : Result Change E) → bs ≡ [] → Goes s.now t n bs → Around t n ls → OnTop t n x →
-    IfOk r (λ c. (fs : List Frame) → ls ≡ running fs → IsChange s l [] (plug fs (top_node x)) c) → IfOk r (λ c. (b : Branch Layer) → find t.strands n ≡ Some b → IsChange s l bs (node_of b) c)
-own-told s l t n bs ls x (Err e) empty goes around top h = tt
-own-told s l t n bs ls x (Ok c) empty goes around top h = λ b f.
+pub own-told : {E : Type 0} (s : Site) (l : Line) (t : Tree Stand) (n : ℕ) (bs : List ℕ) (h : Stand) (r : Result Change E) → bs ≡ [] → Goes s.now t n bs → OnStrand t n h →
+    IfOk r (λ c. IsChange s l [] (own_node h) c) → IfOk r (λ c. (b : Branch Stand) → find t.strands n ≡ Some b → IsChange s l bs (node_of b) c)
+own-told s l t n bs h (Err e) empty goes on is = tt
+own-told s l t n bs h (Ok c) empty goes on is = λ b f.
     let can = subst (λ is. can_go s.now is (node_of b) ≡ true) empty (goes b f) in
-    subst (λ is. IsChange s l is (node_of b) c) (sym empty) (subst (λ m. IsChange s l [] m c) (sym (own-node s.now t n x b top f can)) (h (frames_of b.frames) (around b f)))
+    subst (λ is. IsChange s l is (node_of b) c) (sym empty) (subst (λ m. IsChange s l [] m c) (sym (own-is s.now b h (on b f) can)) is)
 
 -- ---- the step of a branch, told of the strand
 
-pub child-goes : (now : ℕ) (t : Tree Layer) (n i c : ℕ) (bs is : List ℕ) → IsHeld t n → IsChild t n i c → bs ≡ i ∷ is → Goes now t n bs → Goes now t c is
+pub child-goes : (now : ℕ) (t : Tree Stand) (n i c : ℕ) (bs is : List ℕ) → IsHeld t n → IsChild t n i c → bs ≡ i ∷ is → Goes now t n bs → Goes now t c is
 child-goes now t n i c bs is held child e goes h g =
     let b = held.1.0 in
     let f = held.1.1.0 in
     let k = child b f in
     let same : k.0 ≡ h = same_Some k.0 h (sym k.1.1.0 ∙ g) in
-    subst (λ (x : Branch Layer). can_go now is (node_of x) ≡ true) same
+    subst (λ (x : Branch Stand). can_go now is (node_of x) ≡ true) same
     (sym (can_go-child now i is b (record { number = c; held = k.0 }) held.1.1.1 k.1.0) ∙ subst (λ xs. can_go now xs (node_of b) ≡ true) e (goes b f))
 
-pub fork-there : (t : Tree Layer) (n i c : ℕ) → IsHeld t n → IsChild t n i c → (b : Branch Layer) → find t.strands n ≡ Some b → IsForkOf b i
+pub fork-there : (t : Tree Stand) (n i c : ℕ) → IsHeld t n → IsChild t n i c → (b : Branch Stand) → find t.strands n ≡ Some b → IsForkOf b i
 fork-there t n i c held child b f =
     let h = child b f in
-    let d : Found Layer = record { number = c; held = h.0 } in
+    let d : Found Stand = record { number = c; held = h.0 } in
     (has-fork b i d (held-is t n b held f) h.1.0, (d, h.1.0))
 
-pub branch-told : {E : Type 0} (s p q : Site) (l z y : Line) (t : Tree Layer) (n i c : ℕ) (bs is : List ℕ) (ls : List Layer) (x : Change) (r : Result Change E) → IsHeld t n → IsChild t n i c → bs ≡ i ∷ is → Around t n ls → p ≡ s → q ≡ p → z ≡ seen_in l (frames_of ls) → y ≡ z →
-    ((h : Branch Layer) → find t.strands c ≡ Some h → IsChange q y is (node_of h) x) →
-    IfOk r (λ k. (b : Branch Layer) (l : Line) (inner : List ℕ) → find t.strands n ≡ Some b → z ≡ seen_in l (frames_of b.frames) → IsChangeOf p z inner b i x → IsChange p l (i ∷ inner) (node_of b) k) →
-    IfOk r (λ k. (b : Branch Layer) → find t.strands n ≡ Some b → IsChange s l bs (node_of b) k)
-branch-told s p q l z y t n i c bs is ls x (Err e) held child eq around place same seen copied inner h = tt
-branch-told s p q l z y t n i c bs is ls x (Ok k) held child eq around place same seen copied inner h = λ b f.
+pub branch-told : {E : Type 0} (s p q : Site) (l z y : Line) (t : Tree Stand) (n i c : ℕ) (bs is : List ℕ) (top : Stand) (x : Change) (r : Result Change E) → IsHeld t n → IsChild t n i c → bs ≡ i ∷ is → OnStrand t n top → p ≡ s → q ≡ p → z ≡ seen_in l (inward top.around) → y ≡ z →
+    ((h : Branch Stand) → find t.strands c ≡ Some h → IsChange q y is (node_of h) x) →
+    IfOk r (λ k. (b : Branch Stand) (l : Line) (inner : List ℕ) → find t.strands n ≡ Some b → z ≡ seen_in l (frames_of b.frames) → IsChangeOf p z inner b i x → IsChange p l (i ∷ inner) (node_of b) k) →
+    IfOk r (λ k. (b : Branch Stand) → find t.strands n ≡ Some b → IsChange s l bs (node_of b) k)
+branch-told s p q l z y t n i c bs is top x (Err e) held child eq on place same seen copied inner h = tt
+branch-told s p q l z y t n i c bs is top x (Ok k) held child eq on place same seen copied inner h = λ b f.
     let d = child b f in
-    let fs : frames_of ls ≡ frames_of b.frames = ap frames_of (around b f) ∙ frames_of-running (frames_of b.frames) in
+    let fs : inward top.around ≡ frames_of b.frames = sym (ap frames_of (on b f)) in
     let change : IsChange p z is (node_of d.0) x = subst (λ w. IsChange p w is (node_of d.0) x) copied (subst (λ w. IsChange w y is (node_of d.0) x) same (inner d.0 d.1.1.0)) in
     subst (λ js. IsChange s l js (node_of b) k) (sym eq)
     (subst (λ w. IsChange w l (i ∷ is) (node_of b) k) place (h b l is f (seen ∙ ap (seen_in l) fs) (record { number = c; held = d.0 }, (d.1.0, change))))

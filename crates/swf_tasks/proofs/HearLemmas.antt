@@ -50,11 +50,11 @@ one-taken x r bound hs None e z = absurd (one-zero z)
 one-taken x r bound hs (Some p) e z = hearing-top x r p.0 p.1 e
 
 pub offered-some : (e : Event) (t x : Top) → IsOffered t e (Some x) → offered_top e t ≡ x
-offered-some e (tops.Fresh r v) x h = absurd (one-zero (ap (λ (o : Node × ℕ). o.1) h.0))
-offered-some e (tops.Done w d) x h = absurd (one-zero (ap (λ (o : Node × ℕ). o.1) h.0))
-offered-some e (tops.Fault p) x h = absurd (one-zero (ap (λ (o : Node × ℕ). o.1) h.0))
-offered-some e (tops.Waiting r None m) x h = absurd (one-zero (ap (λ (o : Node × ℕ). o.1) h.0))
-offered-some e (tops.Waiting r (Some n) m) x h = absurd (one-zero (ap (λ (o : Node × ℕ). o.1) h.0))
+offered-some e (tops.Fresh r v) x h = absurd (one-zero (ap (λ (o : Node × ℕ). o.1) h))
+offered-some e (tops.Done w d) x h = absurd (one-zero (ap (λ (o : Node × ℕ). o.1) h))
+offered-some e (tops.Fault p) x h = absurd (one-zero (ap (λ (o : Node × ℕ). o.1) h))
+offered-some e (tops.Waiting r None m) x h = absurd (one-zero (ap (λ (o : Node × ℕ). o.1) h))
+offered-some e (tops.Waiting r (Some n) m) x h = absurd (one-zero (ap (λ (o : Node × ℕ). o.1) h))
 offered-some e (tops.Hearing r bound hs) x h =
-    one-taken x r bound hs (takes_by (listen_in (kind_of r.task)) bound hs e) (ap (λ (o : Node × ℕ). o.0) h.0) (ap (λ (o : Node × ℕ). o.1) h.0)
-offered-some e (tops.Forked r) x h = absurd (one-zero (ap (λ (o : Node × ℕ). o.1) h.0))
+    one-taken x r bound hs (takes_by (listen_in (kind_of r.task)) bound hs e) (ap (λ (o : Node × ℕ). o.0) h) (ap (λ (o : Node × ℕ). o.1) h)
+offered-some e (tops.Forked r) x h = absurd (one-zero (ap (λ (o : Node × ℕ). o.1) h))

@@ -8,17 +8,17 @@ use Rattle.swf_meaning.specs.Line.{Line, Site}
 use Rattle.swf_meaning.specs.Strands.{branches_in, can_go}
 use Rattle.swf_meaning.specs.World.{Instance, line_of, site_of, with_step}
 use Rattle.swf_meaning.proofs.TopsLemmas.{strands_among, strands_among-branch, branches_in-at, branches_in-fork}
-use Rattle.swf_stack.specs.Layers.{frames_of, top_of}
+use Rattle.swf_stack.specs.Stands.{frames_of, top_of}
 use Rattle.swf_stack.specs.Stack.{plug, top_node, used_by, round_of}
 use Rattle.swf_scene.specs.Setting.{setting_line, instance_of}
 use Rattle.swf_stack.specs.declared.made.Frame.{Frame}
-use Rattle.swf_stack.specs.declared.made.Layer.{Layer}
+use Rattle.swf_stack.specs.declared.made.Stand.{Stand}
 use Rattle.swf_stack.specs.declared.made.Top.{Top}
 use Rattle.swf_stack.specs.declared.made.Top.TheVariants as tops
 use Rattle.swf_scene.specs.declared.setting.Setting.{Setting}
 use Rattle.swf_tasks.specs.Prepares.{applied, changed, Fits, IsPrepared, Puts}
 use Rattle.swf_tasks.specs.Stepped.{IsChange, change_at}
-use Rattle.swf_strands.specs.Strands.{strand_node, nodes_of, node_of, root_node, is_fork, made_layers, Stands, IsGrown}
+use Rattle.swf_strands.specs.Strands.{strand_node, nodes_of, node_of, root_node, is_fork, made_stand, IsStrand, IsGrown}
 use Rattle.swf_tasks.specs.Taken.{taken}
 use Rattle.swf_strands.specs.Ways.{replaced}
 use Rattle.swf_tasks.specs.declared.machine.Part.{Part}
@@ -42,7 +42,7 @@ plain-branches (tops.Waiting r (Some n) m) e = refl
 plain-branches (tops.Hearing r bound hs) e = refl
 plain-branches (tops.Forked r) e = cc
 
-branches-node : (ls : List Layer) (below : Strands Layer) → Stands ls below → branches_in (strand_node ls (nodes_of below)) ≡ strands_among (nodes_of below)
+branches-node : (ls : List Stand) (below : Strands Stand) → IsStrand ls below → branches_in (strand_node ls (nodes_of below)) ≡ strands_among (nodes_of below)
 branches-node ls below s = by (is_fork (top_of ls)) refl
   where
     by : (x : Bool) → is_fork (top_of ls) ≡ x → branches_in (strand_node ls (nodes_of below)) ≡ strands_among (nodes_of below)
@@ -53,7 +53,7 @@ branches-node ls below s = by (is_fork (top_of ls)) refl
         ap branches_in (plain-node ls (nodes_of below) e) ∙ branches-plug (frames_of ls) (top_node (top_of ls)) ∙ plain-branches (top_of ls) e
         ∙ sym (ap (λ ss. strands_among (nodes_of ss)) (s.1 e))
 
-count-strands : (ss : Strands Layer) → IsGrown ss → count ss ≡ strands_among (nodes_of ss)
+count-strands : (ss : Strands Stand) → IsGrown ss → count ss ≡ strands_among (nodes_of ss)
 count-strands no_strands g = refl
 count-strands (strand m ls below after) g =
     let here = branches-node ls below g.0 in
@@ -63,7 +63,7 @@ count-strands (strand m ls below after) g =
     omega (arith, here, inner, others, all)
 
 -- all strands but the root
-pub count-branches : (t : Tree Layer) (r : ℕ) → numbers t.strands ≡ r ∷ [] → IsGrown t.strands → count t.strands ≡ branches_in (root_node t.strands) + 1
+pub count-branches : (t : Tree Stand) (r : ℕ) → numbers t.strands ≡ r ∷ [] → IsGrown t.strands → count t.strands ≡ branches_in (root_node t.strands) + 1
 count-branches t r e g =
     let b = root-holds t r e g in
     let all : count t.strands ≡ count (strand r b.0.frames b.0.below no_strands) = ap count b.1.1.1.0 in
@@ -73,8 +73,8 @@ count-branches t r e g =
     omega (arith, all, inner, here, root)
 
 -- the change that the root tells is that of the instance
-pub root-change : (t : Tree Layer) (r k now : ℕ) (s : Setting) (i : Instance) (at : Site) (l : Line) (bs : List ℕ) (c : Change) → instance_of s (root_node t.strands) ≡ i → numbers t.strands ≡ r ∷ [] → IsGrown t.strands → k ≡ count t.strands →
-    at ≡ record { number = s.number; branches = k - 1; now = now } → l ≡ setting_line s → ((b : Branch Layer) → find t.strands r ≡ Some b → IsChange at l bs (node_of b) c) → IsChange (site_of now i) (line_of i) bs i.node c
+pub root-change : (t : Tree Stand) (r k now : ℕ) (s : Setting) (i : Instance) (at : Site) (l : Line) (bs : List ℕ) (c : Change) → instance_of s (root_node t.strands) ≡ i → numbers t.strands ≡ r ∷ [] → IsGrown t.strands → k ≡ count t.strands →
+    at ≡ record { number = s.number; branches = k - 1; now = now } → l ≡ setting_line s → ((b : Branch Stand) → find t.strands r ≡ Some b → IsChange at l bs (node_of b) c) → IsChange (site_of now i) (line_of i) bs i.node c
 root-change t r k now s i at l bs c view e g many place line change =
     let b = root-holds t r e g in
     let n = root_node t.strands in
@@ -86,13 +86,13 @@ root-change t r k now s i at l bs c view e g many place line change =
     subst (λ (j : Instance). IsChange (site_of now j) (line_of j) bs j.node c) view seen
 
 -- what the root is told: the strand of the instance can take a step
-pub root-can : (t : Tree Layer) (r now then : ℕ) (s : Setting) (i : Instance) (bs ws : List ℕ) → instance_of s (root_node t.strands) ≡ i → numbers t.strands ≡ r ∷ [] → IsGrown t.strands → then ≡ now → ws ≡ bs → can_go now bs i.node ≡ true →
-    (b : Branch Layer) → find t.strands r ≡ Some b → can_go then ws (node_of b) ≡ true
+pub root-can : (t : Tree Stand) (r now then : ℕ) (s : Setting) (i : Instance) (bs ws : List ℕ) → instance_of s (root_node t.strands) ≡ i → numbers t.strands ≡ r ∷ [] → IsGrown t.strands → then ≡ now → ws ≡ bs → can_go now bs i.node ≡ true →
+    (b : Branch Stand) → find t.strands r ≡ Some b → can_go then ws (node_of b) ≡ true
 root-can t r now then s i bs ws view e g moment same can b f =
     let x = root-holds t r e g in
     ap (λ k. can_go k ws (node_of b)) moment
     ∙ ap (λ w. can_go now w (node_of b)) same
-    ∙ ap (λ (y : Branch Layer). can_go now bs (node_of y)) (sym (same_Some x.0 b (sym x.1.0 ∙ f)))
+    ∙ ap (λ (y : Branch Stand). can_go now bs (node_of y)) (sym (same_Some x.0 b (sym x.1.0 ∙ f)))
     ∙ ap (can_go now bs) (sym x.1.1.1.1)
     ∙ ap (λ (j : Instance). can_go now bs j.node) view
     ∙ can
@@ -100,10 +100,10 @@ root-can t r now then s i bs ws view e g moment same can b f =
 -- ---- a strand that is put anew
 
 -- with all branches of a `fork` that begins on it
-pub puts-whole : (s : Setting) (old new : Strands Layer) (i m : Instance) (p : Part) (ws : List ℕ) → instance_of s (root_node old) ≡ i → ws ≡ p.strand → root_node new ≡ replaced (take p.depth ws) (made_layers p.layers.items) (root_node old) →
+pub puts-whole : (s : Setting) (old new : Strands Stand) (i m : Instance) (p : Part) (ws : List ℕ) → instance_of s (root_node old) ≡ i → ws ≡ p.strand → root_node new ≡ replaced (take p.depth ws) (made_stand p.stand) (root_node old) →
     m ≡ record i { node = root_node new; context = p.context; number = p.number } → Puts (steps.Whole m) p i
 puts-whole s old new i m p ws view same node is =
-    let x = made_layers p.layers.items in
+    let x = made_stand p.stand in
     record {
       fits = ap (λ (j : Instance). j.id) is;
       becomes = is ∙ ap (λ n. record i { node = n; context = p.context; number = p.number }) (node ∙ ap (λ w. replaced (take p.depth w) x (root_node old)) same ∙ ap (λ (j : Instance). replaced (changed p) x j.node) view);
@@ -116,10 +116,10 @@ abbrev pub instance_after : Instance → List ℕ → Change → Instance
 instance_after i bs c = with_step i (change_at c bs i.node)
 
 pub becomes-after : (s : Setting) (n : Node) (i j : Instance) (bs ws : List ℕ) (c : Change) (k : ℕ) → instance_of s n ≡ i → ws ≡ bs → k ≡ s.number + used_by c.emitted →
-    j ≡ record i { node = replaced (take c.depth ws) (made_layers c.layers.items) i.node; context = c.context; number = k } → j ≡ instance_after i bs c
+    j ≡ record i { node = replaced (take c.depth ws) (made_stand c.stand) i.node; context = c.context; number = k } → j ≡ instance_after i bs c
 becomes-after s n i j bs ws c k view same next is =
     let number : k ≡ i.number + used_by c.emitted = next ∙ ap (λ (x : Instance). x.number + used_by c.emitted) view in
-    is ∙ λ a. record i { node = replaced (take c.depth (same a)) (made_layers c.layers.items) i.node; context = c.context; number = number a }
+    is ∙ λ a. record i { node = replaced (take c.depth (same a)) (made_stand c.stand) i.node; context = c.context; number = number a }
 
 pub prepared-by : (now : ℕ) (bs : List ℕ) (i : Instance) (c : Change) (p : Prepared) → IsChange (site_of now i) (line_of i) bs i.node c → Fits p.step i → applied p.step i ≡ instance_after i bs c → p.emitted ≡ c.emitted → IsPrepared now bs i p
 prepared-by now bs i c p change fits is same = record {

@@ -1,5 +1,5 @@
 -- What an offer leaves of the strands of an instance.
-use Rattle.std.specs.Prelude.{◌≡◌, ℕ, zero, suc, List, Option, Some, None}
+use Rattle.std.specs.Prelude.{◌≡◌, ℕ, zero, suc, List, map, Option, Some, None}
 use Rattle.swf_value.specs.Value.{Members}
 use Rattle.swf_cloudevents.specs.declared.event.Event.{Event}
 use Rattle.swf_frames.specs.Paths.{edit, AreDistinct}
@@ -8,9 +8,9 @@ use Rattle.swf_meaning.specs.Node.{Running}
 use Rattle.swf_meaning.specs.Offer.{offered, takes_by}
 use Rattle.swf_meaning.specs.Parts.{kind_of, listen_in}
 use Rattle.swf_meaning.specs.declared.heard.Heard.{Heard}
-use Rattle.swf_stack.specs.Layers.{frames_of, top_of, stacked}
+use Rattle.swf_stack.specs.Stands.{top_of}
 use Rattle.swf_stack.specs.Stack.{top_node}
-use Rattle.swf_stack.specs.declared.made.Layer.{Layer}
+use Rattle.swf_stack.specs.declared.made.Stand.{Stand}
 use Rattle.swf_stack.specs.declared.made.Top.{Top}
 use Rattle.swf_stack.specs.declared.made.Top.TheVariants as tops
 use Rattle.swf_strands.specs.Strands.{node_of}
@@ -28,33 +28,36 @@ offered_top e (tops.Fault p) = tops.Fault p
 offered_top e (tops.Waiting r n m) = tops.Waiting r n m
 offered_top e (tops.Forked r) = tops.Forked r
 
-abbrev pub offered_layers : Event → List Layer → List Layer
-offered_layers e ls = stacked (frames_of ls) (offered_top e (top_of ls))
+abbrev pub offered_stand : Event → Stand → Stand
+offered_stand e h = record h { top = offered_top e h.top }
 
-abbrev pub offered_strands : Event → Strands Layer → Strands Layer
+abbrev pub offered_stands : Event → List Stand → List Stand
+offered_stands e hs = map (offered_stand e) hs
+
+abbrev pub offered_strands : Event → Strands Stand → Strands Stand
 offered_strands e no_strands = no_strands
-offered_strands e (strand m ls below after) = strand m (offered_layers e ls) (offered_strands e below) (offered_strands e after)
+offered_strands e (strand m ls below after) = strand m (offered_stands e ls) (offered_strands e below) (offered_strands e after)
 
 -- the first ones only
-abbrev pub offered_first : Event → ℕ → Strands Layer → Strands Layer
+abbrev pub offered_first : Event → ℕ → Strands Stand → Strands Stand
 offered_first e zero ss = ss
 offered_first e (suc i) no_strands = no_strands
-offered_first e (suc i) (strand m ls below after) = strand m (offered_layers e ls) (offered_strands e below) (offered_first e i after)
+offered_first e (suc i) (strand m ls below after) = strand m (offered_stands e ls) (offered_strands e below) (offered_first e i after)
 
 -- a strand alone, and with the first of its branches
-abbrev pub offered_here : Event → Branch Layer → Branch Layer
-offered_here e b = record b { frames = offered_layers e b.frames }
+abbrev pub offered_here : Event → Branch Stand → Branch Stand
+offered_here e b = record b { frames = offered_stands e b.frames }
 
-abbrev pub offered_to : Event → ℕ → Branch Layer → Branch Layer
-offered_to e i b = record { frames = offered_layers e b.frames; below = offered_first e i b.below }
+abbrev pub offered_to : Event → ℕ → Branch Stand → Branch Stand
+offered_to e i b = record { frames = offered_stands e b.frames; below = offered_first e i b.below }
 
-abbrev pub offered_held : Event → Branch Layer → Branch Layer
-offered_held e b = record { frames = offered_layers e b.frames; below = offered_strands e b.below }
+abbrev pub offered_held : Event → Branch Stand → Branch Stand
+offered_held e b = record { frames = offered_stands e b.frames; below = offered_strands e b.below }
 
 -- the event was offered to that strand alone
-abbrev pub IsOfferHere : Event → ℕ → Branch Layer → Tree Layer → Tree Layer → ℕ → Type 0
+abbrev pub IsOfferHere : Event → ℕ → Branch Stand → Tree Stand → Tree Stand → ℕ → Type 0
 IsOfferHere e n b old new taken = (new.strands ≡ edit (offered_here e) old.strands n) × ((taken ≡ (offered e (top_node (top_of b.frames))).1) × AreDistinct new.strands)
 
 -- and to those below it as well
-abbrev pub IsOfferIn : Event → ℕ → Branch Layer → Tree Layer → Tree Layer → ℕ → Type 0
+abbrev pub IsOfferIn : Event → ℕ → Branch Stand → Tree Stand → Tree Stand → ℕ → Type 0
 IsOfferIn e n b old new taken = (new.strands ≡ edit (offered_held e) old.strands n) × ((taken ≡ (offered e (node_of b)).1) × AreDistinct new.strands)

@@ -12,9 +12,7 @@ use Rattle.swf_meaning.specs.declared.heard.Heard.{Heard}
 use Rattle.swf_scene.specs.Halts.{Makes}
 use Rattle.swf_stack.specs.Stack.{top_node}
 use Rattle.swf_scene.specs.declared.halt.Halt.{Halt}
-use Rattle.swf_stack.specs.declared.made.Frame.{Frame}
 use Rattle.swf_stack.specs.declared.made.Made.{Made}
-use Rattle.swf_tasks.specs.Installed.{AreAround}
 use Rattle.swf_stack.specs.declared.made.Top.{Top}
 use Rattle.swf_tasks.specs.declared.machine.StepResult.{StepResult}
 use Rattle.swf_tasks.specs.declared.machine.StepResult.TheVariants.{Quiet, Emitted}
@@ -30,7 +28,7 @@ emitted_of (Emitted e) = Some e
 -- what stands innermost after an event that it takes, where it takes it
 abbrev pub IsOffered : Top → Event → Option Top → Type 0
 IsOffered t e None = offered e (top_node t) ≡ (top_node t, 0)
-IsOffered t e (Some x) = (offered e (top_node t) ≡ (top_node x, 1)) × ((fs : List Frame) → AreAround fs t fs)
+IsOffered t e (Some x) = offered e (top_node t) ≡ (top_node x, 1)
 
 -- the step of a task that heard all
 abbrev pub IsListened : Line → Running → List Heard → Result Made Halt → Type 0

@@ -1,7 +1,7 @@
 // What the strands of an instance listen for, by the types of events.
 ghost use Rattle.std.specs.Prelude.{◌≡◌, ◌++◌, IfOk, OnOk, Some, option_map};
 ghost use Rattle.swf_frames.specs.Tree.{Branch, find};
-ghost use Rattle.swf_stack.specs.declared.made.Layer.{Layer as TheLayer};
+ghost use Rattle.swf_stack.specs.declared.made.Stand.{Stand as TheStand};
 ghost use Rattle.swf_strands.specs.Strands.{IsHeld, node_of};
 ghost use Rattle.swf_tasks.specs.EventTypes.{event_types, own_types, text_in, type_told, types_left, types_told};
 
@@ -9,21 +9,21 @@ use std::alloc::AllocError;
 use swf_document::{Field, Filter, Template, TemplateNode};
 use swf_frames::{Forest, StrandId};
 use swf_meaning::Heard;
-use swf_stack::{Layer, TaskRef, Top, Work, is_heard};
-use swf_strands::{child_of, stack_of};
+use swf_stack::{Stand, TaskRef, Top, Work, is_heard};
+use swf_strands::{child_of, stand_of};
 use swf_text::{Text, is_word};
 use swf_value::JsonNode;
 
 /// Adds the types of the events that a strand, and those below it, listen for.
 pub fn list_types(
-    forest: &Forest<Layer>,
+    forest: &Forest<Stand>,
     strand: StrandId,
     types: &mut Vec<Option<Text>>,
 ) -> Result<(), AllocError>
     requires { IsHeld forest.now strand }
-    ensures { OnOk result ((b : Branch TheLayer) → find forest.now.strands strand ≡ Some b → types.new.items ≡ types.old.items ++ event_types (node_of b)) }
+    ensures { OnOk result ((b : Branch TheStand) → find forest.now.strands strand ≡ Some b → types.new.items ≡ types.old.items ++ event_types (node_of b)) }
 {
-    list_own(stack_of(forest, strand).top, types)?;
+    list_own(&stand_of(forest, strand).top, types)?;
     let mut number = 0;
     while let Some(child) = child_of(forest, strand, number) {
         list_types(forest, child, types)?;

@@ -12,6 +12,5 @@ mod view;
 
 pub use boxed::BoxedMachine;
 pub use machine::{Machine, Part, Prepared, Step, StepFault, StepResult};
-pub use swf_scene::{Site, Words};
 pub use swf_stack::SentEvent;
 pub use view::{InstanceView, Node};

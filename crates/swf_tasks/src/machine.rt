@@ -8,9 +8,8 @@ ghost use Rattle.swf_meaning.specs.Parts.{kind_of};
 ghost use Rattle.swf_meaning.specs.Shared.{advanced, is_shared, is_shared_error};
 ghost use Rattle.swf_meaning.specs.Strands.{can_go, strands};
 ghost use Rattle.swf_meaning.specs.World.{new_instance, step_at};
-ghost use Rattle.swf_stack.specs.Layers.{running};
+ghost use Rattle.swf_stack.specs.Stands.{inward};
 ghost use Rattle.swf_stack.specs.Stack.{plug, round_of, used_by};
-ghost use Rattle.swf_stack.specs.declared.made.Frame.{Frame as TheFrame};
 ghost use Rattle.swf_tasks.specs.EventTypes.{event_types};
 ghost use Rattle.swf_tasks.specs.Installed.{output_in, problem_in};
 ghost use Rattle.swf_strands.specs.Alarm.{alarm_of};
@@ -29,18 +28,18 @@ use crate::step::{Change, step_of};
 use crate::view::{InstanceView, Node};
 use std::alloc::{AllocError, Global};
 use std::marker::Model;
+use swf_chain::Chain;
 use swf_cloudevents::Event;
 use swf_document::Problem;
 use swf_duration::Moment;
 use swf_frames::Forest;
-use swf_scene::{Scene, Setting, Site};
-use swf_stack::{Frame, Layer, Round, SentEvent, SharedDocument, TaskRef, Top, Work, is_heard};
+use swf_scene::{Scene, Setting};
+use swf_stack::{Frame, Round, SentEvent, SharedDocument, Stand, TaskRef, Top, Work, is_heard};
 use swf_strands::{
-    Standing, alarm_in, branches_of, enabled_here, enabled_in, forked, lead_in, lead_on,
-    list_strands, named, own_until, put_kept, stack_of, strand_at,
+    alarm_in, branches_of, enabled_here, enabled_in, forked, lead_in, lead_on, list_strands, named,
+    own_until, put_kept, stand_of, strand_at,
 };
 use swf_text::{Strand, Text};
-use swf_validate::Accepted;
 use swf_value::Json;
 use thiserror::Error;
 
@@ -49,7 +48,7 @@ use thiserror::Error;
 pub struct Machine {
     /// On each strand the tasks that run, and at the top what stands innermost. The branches of a `fork` are the strands below its
     /// own.
-    forest: Forest<Layer>,
+    forest: Forest<Stand>,
     setting: Setting,
     /// The strand that took the last step.
     turn: Strand,
@@ -72,7 +71,7 @@ pub struct Part {
     /// The strand that takes the step. The first of its branch numbers, so many, lead to the one that is put anew.
     pub strand: Strand,
     pub depth: usize,
-    pub layers: Vec<Layer>,
+    pub stand: Stand,
     pub context: Json,
     /// The number of its next event.
     pub number: u64,
@@ -126,18 +125,17 @@ impl Machine {
     pub fn begin(
         alloc: Global,
         id: Text,
-        document: Accepted,
+        document: SharedDocument,
         input: Json,
-        site: &Site,
+        now: Moment,
     ) -> Result<Machine, AllocError>
-        ensures { IfOk result (λ m. m ≡ new_instance id input site.entry.now.now document) }
+        ensures { IfOk result (λ m. m ≡ new_instance id input now document) }
     {
-        let document = SharedDocument::new(document.shared()?);
         let task = TaskRef::workflow(document.copy()?);
         let raw = input.copy()?;
         Ok(Machine {
-            setting: Setting::new(alloc, document, id, input, site)?,
-            forest: Forest::new(alloc, Layer::Top(Top::Fresh { task, raw }))?,
+            setting: Setting::new(alloc, document, id, input, now)?,
+            forest: Forest::new(alloc, Stand::alone(Top::Fresh { task, raw }))?,
             turn: Strand::root(alloc),
             alarm: None,
         })
@@ -203,7 +201,7 @@ impl Machine {
         let Some(strand) = strand_at(&self.forest, self.forest.root(), strand.as_slice()) else {
             return false;
         };
-        match stack_of(&self.forest, strand).top {
+        match &stand_of(&self.forest, strand).top {
             Top::Hearing { running, heard, .. } => !is_heard(running.task(), heard.as_slice()),
             _ => false,
         }
@@ -232,7 +230,7 @@ impl Machine {
         let (input, context) = (input.copy()?, context.copy()?);
         let id = id.copy()?;
         let forest = self.forest.copy(alloc)?;
-        let key = document.document().key.copy()?;
+        let key = document.get().document().key.copy()?;
         Ok(InstanceView {
             id,
             key,
@@ -249,15 +247,15 @@ impl Machine {
         &self,
         alloc: Global,
         strand: &Strand,
-        site: &Site,
+        now: Moment,
     ) -> Result<Prepared, StepFault>
-        ensures ok { IfOk result (λ p. IsPrepared site.entry.now.now strand.now self.now p) }
-        ensures not_enabled { (result ≡ Err StepFault.NotEnabled) ↔ (can_go site.entry.now.now strand.now self.now.node ≡ false) }
+        ensures ok { IfOk result (λ p. IsPrepared now strand.now self.now p) }
+        ensures not_enabled { (result ≡ Err StepFault.NotEnabled) ↔ (can_go now strand.now self.now.node ≡ false) }
     {
-        if !self.enabled(strand, site.now) {
+        if !self.enabled(strand, now) {
             return Err(StepFault::NotEnabled);
         }
-        match self.prepared(alloc, strand, site) {
+        match self.prepared(alloc, strand, now) {
             Ok(prepared) => Ok(prepared),
             Err(_) => Err(StepFault::OutOfMemory),
         }
@@ -282,36 +280,36 @@ impl Machine {
         let Part {
             strand,
             depth,
-            layers,
+            stand,
             context,
             number,
         } = part;
         let changed = &strand.as_slice()[..depth];
-        self.alarm = put_kept(&mut self.forest, changed, layers, self.alarm);
+        self.alarm = put_kept(&mut self.forest, changed, stand, self.alarm);
         self.setting.context = context;
         self.setting.number = number;
         self.turn = strand;
     }
 
     // What the step of a strand makes of the instance.
-    fn prepared(&self, alloc: Global, strand: &Strand, site: &Site) -> Result<Prepared, AllocError>
-        requires { can_go site.now.now strand.now self.now.node ≡ true }
-        ensures { IfOk result (λ p. IsPrepared site.entry.now.now strand.now self.now p) }
+    fn prepared(&self, alloc: Global, strand: &Strand, now: Moment) -> Result<Prepared, AllocError>
+        requires { can_go now strand.now self.now.node ≡ true }
+        ensures { IfOk result (λ p. IsPrepared now strand.now self.now p) }
     {
         let root = self.forest.root();
-        let scene = Scene::of(alloc, &self.setting, self.forest.count() - 1, site)?;
+        let scene = Scene::of(alloc, &self.setting, self.forest.count() - 1, now)?;
         let change = step_of(alloc, &self.forest, root, strand.as_slice(), scene)?;
         let number = number_after(self.setting.number, &change.emitted)?;
         let Change {
             depth,
-            layers,
+            stand,
             context,
             emitted,
         } = change;
         let part = Part {
             strand: named(alloc, strand.as_slice())?,
             depth,
-            layers,
+            stand,
             context,
             number,
         };
@@ -326,18 +324,18 @@ impl Machine {
         requires { Fits (Step.Part part) self.now }
         ensures { IfOk result (λ s. Puts s part self.now) }
     {
-        let Some(branches) = branches_of(alloc, &part.layers)? else {
+        let Some(branches) = branches_of(alloc, &part.stand.top)? else {
             return Ok(Step::Part(part));
         };
         let Part {
             strand,
             depth,
-            layers,
+            stand,
             context,
             number,
         } = part;
         let changed = &strand.as_slice()[..depth];
-        let forest = forked(alloc, &self.forest, changed, layers, branches)?;
+        let forest = forked(alloc, &self.forest, changed, stand, branches)?;
         let machine = self.with(forest, strand, context, number)?;
         Ok(Step::Whole(BoxedMachine::new(alloc, machine)?))
     }
@@ -345,7 +343,7 @@ impl Machine {
     // The instance with other strands, after that one took a step.
     fn with(
         &self,
-        forest: Forest<Layer>,
+        forest: Forest<Stand>,
         strand: Strand,
         context: Json,
         number: u64,
@@ -370,13 +368,13 @@ impl Machine {
         &mut self,
         alloc: Global,
         strand: &Strand,
-        site: &Site,
+        now: Moment,
     ) -> Result<StepResult, StepFault>
-        ensures ok { IfOk result (λ r. option_map (taken self.old) (step_at site.entry.now.now strand.now self.old) ≡ Some (self.new, emitted_of r)) }
+        ensures ok { IfOk result (λ r. option_map (taken self.old) (step_at now strand.now self.old) ≡ Some (self.new, emitted_of r)) }
         ensures err { OnErr result (self.new ≡ self.old) }
-        ensures not_enabled { (result ≡ Err StepFault.NotEnabled) ↔ (can_go site.entry.now.now strand.now self.old.node ≡ false) }
+        ensures not_enabled { (result ≡ Err StepFault.NotEnabled) ↔ (can_go now strand.now self.old.node ≡ false) }
     {
-        let Prepared { step, emitted } = self.prepare(alloc, strand, site)?;
+        let Prepared { step, emitted } = self.prepare(alloc, strand, now)?;
         self.take(step);
         match emitted {
             None => Ok(StepResult::Quiet),
@@ -391,14 +389,14 @@ impl Machine {
         alloc: Global,
         strand: &Strand,
         fuel: u32,
-        site: &Site,
+        now: Moment,
     ) -> Result<u32, AllocError>
-        ensures ok { IfOk result (λ steps. (self.new, steps) ≡ advanced site.entry.now.now strand.now fuel self.old) }
-        ensures err { OnErr result ((steps : ℕ) × (advanced site.entry.now.now strand.now steps self.old ≡ (self.new, steps))) }
+        ensures ok { IfOk result (λ steps. (self.new, steps) ≡ advanced now strand.now fuel self.old) }
+        ensures err { OnErr result ((steps : ℕ) × (advanced now strand.now steps self.old ≡ (self.new, steps))) }
     {
         let mut steps = 0;
-        while steps < fuel && !self.is_shared(strand) && self.enabled(strand, site.now) {
-            let Prepared { step, .. } = self.prepared(alloc, strand, site)?;
+        while steps < fuel && !self.is_shared(strand) && self.enabled(strand, now) {
+            let Prepared { step, .. } = self.prepared(alloc, strand, now)?;
             self.take(step);
             steps += 1;
         }
@@ -428,7 +426,7 @@ impl Machine {
         let Some(strand) = strand_at(&self.forest, self.forest.root(), strand.as_slice()) else {
             return false;
         };
-        let Standing { around, top } = stack_of(&self.forest, strand);
+        let Stand { around, top } = stand_of(&self.forest, strand);
         match top {
             Top::Fresh { task, .. } => task.is_shared(),
             Top::Fault(_) => is_error_shared(around),
@@ -482,7 +480,7 @@ impl Machine {
     pub fn output(&self) -> Option<&Json>
         ensures { option_map (λ v. v.now) result ≡ output_in self.now.node }
     {
-        let Standing { around, top } = stack_of(&self.forest, self.forest.root());
+        let Stand { around, top } = stand_of(&self.forest, self.forest.root());
         match top {
             Top::Done { output, .. } if around.is_empty() => Some(output),
             _ => None,
@@ -493,7 +491,7 @@ impl Machine {
     pub fn problem(&self) -> Option<&Problem>
         ensures { option_map (λ p. p.now) result ≡ problem_in self.now.node }
     {
-        let Standing { around, top } = stack_of(&self.forest, self.forest.root());
+        let Stand { around, top } = stand_of(&self.forest, self.forest.root());
         match top {
             Top::Fault(problem) if around.is_empty() => Some(problem),
             _ => None,
@@ -522,12 +520,11 @@ fn may_try_again(frame: &Frame) -> bool
 }
 
 // Whether an error inside these running tasks may lead to another try.
-fn is_error_shared(around: &[Layer]) -> bool
-    ensures { (fs : List TheFrame) (p : Problem) → around.now ≡ running fs → result ≡ is_shared [] (plug fs (Fault p)) }
+fn is_error_shared(around: &Chain<Frame>) -> bool
+    ensures { (p : Problem) → result ≡ is_shared [] (plug (inward around.now) (Fault p)) }
 {
-    match around.split_last() {
-        Some((Layer::Running(frame), _)) => may_try_again(frame.frame()),
-        Some((Layer::Top(_), _)) => false,
+    match around.split_first() {
+        Some((frame, _)) => may_try_again(frame),
         None => false,
     }
 }

@@ -1,8 +1,8 @@
 // An event is offered to all strands that listen (DSL 1.0.0, "Events").
-ghost use Rattle.std.specs.Prelude.{◌≡◌, IfOk, Some, nat_lt};
+ghost use Rattle.std.specs.Prelude.{◌≡◌, ◌∷◌, [], IfOk, Some, nat_lt};
 ghost use Rattle.swf_frames.specs.Tree.{Branch, find};
 ghost use Rattle.swf_meaning.specs.Offer.{offered};
-ghost use Rattle.swf_stack.specs.declared.made.Layer.{Layer as TheLayer};
+ghost use Rattle.swf_stack.specs.declared.made.Stand.{Stand as TheStand};
 ghost use Rattle.swf_tasks.specs.Offers.{IsOfferIn, IsOfferHere};
 ghost use Rattle.swf_strands.specs.Strands.{IsHeld, node_of};
 
@@ -10,20 +10,20 @@ use crate::hear::{hears, offered};
 use std::alloc::{AllocError, Global};
 use swf_cloudevents::Event;
 use swf_frames::{Forest, StrandId};
-use swf_stack::Layer;
-use swf_strands::{Standing, child_of, layers_of, stack_of};
+use swf_stack::Stand;
+use swf_strands::{child_of, stand_of};
 
 /// Whether a strand, or one below it, takes an event.
 pub fn hears_in(
     alloc: Global,
-    forest: &Forest<Layer>,
+    forest: &Forest<Stand>,
     strand: StrandId,
     event: &Event,
 ) -> Result<bool, AllocError>
     requires { IsHeld forest.now strand }
-    ensures { IfOk result (λ h. (b : Branch TheLayer) → find forest.now.strands strand ≡ Some b → h ≡ nat_lt 0 (offered event.now (node_of b)).1) }
+    ensures { IfOk result (λ h. (b : Branch TheStand) → find forest.now.strands strand ≡ Some b → h ≡ nat_lt 0 (offered event.now (node_of b)).1) }
 {
-    if hears(alloc, stack_of(forest, strand).top, event)? {
+    if hears(alloc, &stand_of(forest, strand).top, event)? {
         return Ok(true);
     }
     let mut number = 0;
@@ -39,12 +39,12 @@ pub fn hears_in(
 /// Offers an event to a strand and to those below it. Answers how many took it.
 pub fn offer_in(
     alloc: Global,
-    forest: &mut Forest<Layer>,
+    forest: &mut Forest<Stand>,
     strand: StrandId,
     event: &Event,
 ) -> Result<u32, AllocError>
     requires { IsHeld forest.old strand }
-    ensures { IfOk result (λ taken. (b : Branch TheLayer) → find forest.old.strands strand ≡ Some b → IsOfferIn event.now strand b forest.old forest.new taken) }
+    ensures { IfOk result (λ taken. (b : Branch TheStand) → find forest.old.strands strand ≡ Some b → IsOfferIn event.now strand b forest.old forest.new taken) }
 {
     let mut taken = offer_here(alloc, forest, strand, event)?;
     let mut number = 0;
@@ -59,18 +59,28 @@ pub fn offer_in(
 // Offers an event to a strand alone.
 fn offer_here(
     alloc: Global,
-    forest: &mut Forest<Layer>,
+    forest: &mut Forest<Stand>,
     strand: StrandId,
     event: &Event,
 ) -> Result<u32, AllocError>
     requires { IsHeld forest.old strand }
-    ensures { IfOk result (λ taken. (b : Branch TheLayer) → find forest.old.strands strand ≡ Some b → IsOfferHere event.now strand b forest.old forest.new taken) }
+    ensures { IfOk result (λ taken. (b : Branch TheStand) → find forest.old.strands strand ≡ Some b → IsOfferHere event.now strand b forest.old forest.new taken) }
 {
-    let Standing { around, top } = stack_of(forest, strand);
-    let Some(top) = offered(alloc, top, event)? else {
+    let stand = stand_of(forest, strand);
+    let Some(top) = offered(alloc, &stand.top, event)? else {
         return Ok(0);
     };
-    let layers = layers_of(alloc, around, None, top)?;
-    let _ = forest.replace(strand, layers);
+    let around = stand.around.copy()?;
+    let stands = one(alloc, Stand { around, top })?;
+    let _ = forest.replace(strand, stands);
     Ok(1)
+}
+
+// All that a strand holds.
+fn one(alloc: Global, stand: Stand) -> Result<Vec<Stand>, AllocError>
+    ensures { IfOk result (λ stands. stands.items ≡ stand ∷ []) }
+{
+    let mut stands = Vec::with_capacity(alloc, 1)?;
+    stands.push(stand)?;
+    Ok(stands)
 }

@@ -7,23 +7,23 @@ ghost use Rattle.swf_meaning.specs.Fork.{outputs, put};
 ghost use Rattle.swf_meaning.specs.Line.{Line};
 ghost use Rattle.swf_meaning.specs.Strands.{can_go};
 ghost use Rattle.swf_scene.specs.Halts.{Makes};
-ghost use Rattle.swf_stack.specs.Layers.{frames_of, running};
-ghost use Rattle.swf_stack.specs.Stack.{plug, seen_in, stepped_of, top_node};
+ghost use Rattle.swf_stack.specs.Stands.{frames_of};
+ghost use Rattle.swf_stack.specs.Stack.{seen_in, stepped_of, top_node};
 ghost use Rattle.swf_scene.specs.Setting.{line_of, site_of};
-ghost use Rattle.swf_stack.specs.declared.made.Frame.{Frame as TheFrame};
-ghost use Rattle.swf_stack.specs.declared.made.Layer.{Layer as TheLayer};
-ghost use Rattle.swf_tasks.specs.Installed.{AreAround, IsStep};
-ghost use Rattle.swf_tasks.specs.Stepped.{IsChange, IsChangeOf, IsForkOf, ended_of, has_ended, listed, output_on};
+ghost use Rattle.swf_stack.specs.declared.made.Stand.{Stand as TheStand};
+ghost use Rattle.swf_tasks.specs.Installed.{IsStep, behind, outer, own_node};
+ghost use Rattle.swf_tasks.specs.Stepped.{IsChange, IsChangeOf, IsForkOf, ended_of, has_ended, listed, output_of_top, output_on};
 ghost use Rattle.swf_strands.specs.Strands.{IsHeld, node_of, nodes_of};
 
 use crate::enter::enter;
 use crate::hear::listened;
 use std::alloc::{AllocError, Global};
+use swf_chain::Chain;
 use swf_frames::{Forest, StrandId};
 use swf_rules::{Rule, failed, moved_on};
 use swf_scene::{Halt, Scene};
-use swf_stack::{Layer, Made, SentEvent, Top};
-use swf_strands::{Standing, child_of, innermost, layers_of, stack_of};
+use swf_stack::{Frame, Made, SentEvent, Stand, Top};
+use swf_strands::{child_of, stand_of};
 use swf_value::Json;
 
 /// What a step changes: what the strand holds then that so many branch numbers lead to, below which no others stand but those of
@@ -31,7 +31,7 @@ use swf_value::Json;
 #[derive(Drop)]
 pub struct Change {
     pub depth: usize,
-    pub layers: Vec<Layer>,
+    pub stand: Stand,
     pub context: Json,
     pub emitted: Option<SentEvent>,
 }
@@ -39,24 +39,24 @@ pub struct Change {
 /// The step of the strand that these branch numbers lead to from this one.
 pub fn step_of(
     alloc: Global,
-    forest: &Forest<Layer>,
+    forest: &Forest<Stand>,
     strand: StrandId,
     branches: &[u16],
     scene: Scene,
 ) -> Result<Change, AllocError>
     requires held { IsHeld forest.now strand }
-    requires can { (b : Branch TheLayer) → find forest.now.strands strand ≡ Some b → can_go scene.now branches.now (node_of b) ≡ true }
-    ensures { IfOk result (λ c. (b : Branch TheLayer) → find forest.now.strands strand ≡ Some b → IsChange (site_of scene.entry) (line_of scene.entry) branches.now (node_of b) c) }
+    requires can { (b : Branch TheStand) → find forest.now.strands strand ≡ Some b → can_go scene.now branches.now (node_of b) ≡ true }
+    ensures { IfOk result (λ c. (b : Branch TheStand) → find forest.now.strands strand ≡ Some b → IsChange (site_of scene.entry) (line_of scene.entry) branches.now (node_of b) c) }
 {
-    let Standing { around, top } = stack_of(forest, strand);
+    let stand = stand_of(forest, strand);
     let Some((number, inner)) = branches.split_first() else {
-        return own_step(alloc, scene, around, top);
+        return own_step(alloc, scene, stand);
     };
     let number = *number as usize;
     let Some(child) = child_of(forest, strand, number) else {
         unreachable!();
     };
-    let scene = scene.inside(alloc, around)?;
+    let scene = scene.inside(alloc, &stand.around)?;
     let change = step_of(alloc, forest, child, inner, scene.copy(alloc)?)?;
     settle(alloc, forest, strand, number, scene, change)
 }
@@ -64,20 +64,20 @@ pub fn step_of(
 // The step of a branch, with what becomes of its `fork`.
 fn settle(
     alloc: Global,
-    forest: &Forest<Layer>,
+    forest: &Forest<Stand>,
     strand: StrandId,
     number: usize,
     scene: Scene,
     change: Change,
 ) -> Result<Change, AllocError>
     requires held { IsHeld forest.now strand }
-    requires fork { (b : Branch TheLayer) → find forest.now.strands strand ≡ Some b → IsForkOf b number }
-    ensures { IfOk result (λ c. (b : Branch TheLayer) (l : Line) (inner : List ℕ) → find forest.now.strands strand ≡ Some b → line_of scene.entry ≡ seen_in l (frames_of b.frames) → IsChangeOf (site_of scene.entry) (line_of scene.entry) inner b number change → IsChange (site_of scene.entry) l (number ∷ inner) (node_of b) c) }
+    requires fork { (b : Branch TheStand) → find forest.now.strands strand ≡ Some b → IsForkOf b number }
+    ensures { IfOk result (λ c. (b : Branch TheStand) (l : Line) (inner : List ℕ) → find forest.now.strands strand ≡ Some b → line_of scene.entry ≡ seen_in l (frames_of b.frames) → IsChangeOf (site_of scene.entry) (line_of scene.entry) inner b number change → IsChange (site_of scene.entry) l (number ∷ inner) (node_of b) c) }
 {
     let Some(ended) = ended(&change) else {
         return deeper(change);
     };
-    let Standing { around, top } = stack_of(forest, strand);
+    let Stand { around, top } = stand_of(forest, strand);
     let Top::Forked(running) = top else {
         unreachable!();
     };
@@ -96,7 +96,7 @@ fn settle(
     };
     Ok(Change {
         depth: 0,
-        layers: layers_of(alloc, around, made.frame, made.top)?,
+        stand: Stand::inside(alloc, around, made.frame, made.top)?,
         context: made.context,
         emitted: change.emitted,
     })
@@ -112,11 +112,13 @@ fn deeper(mut change: Change) -> Result<Change, AllocError>
 
 // What the outermost strand ended in, where it did.
 fn ended(change: &Change) -> Option<&Top>
-    ensures { option_map (λ t. t.now) result ≡ ended_of change.now.depth change.now.layers.items }
+    ensures { option_map (λ t. t.now) result ≡ ended_of change.now.depth change.now.stand }
 {
-    match change.layers.first() {
-        Some(Layer::Top(top)) if change.depth == 0 && has_ended(top) => Some(top),
-        _ => None,
+    let Stand { around, top } = &change.stand;
+    if change.depth == 0 && around.is_empty() && has_ended(top) {
+        Some(top)
+    } else {
+        None
     }
 }
 
@@ -126,35 +128,45 @@ fn has_ended(top: &Top) -> bool
     matches!(top, Top::Done { .. } | Top::Fault(_))
 }
 
-// The output of what ended on a strand, where nothing stands around it.
-fn output_of<'a>(around: &[Layer], top: &'a Top) -> Option<&'a Json>
-    ensures { option_map (λ w. w.now) result ≡ output_on around.now top.now }
+// The output of what ended.
+fn output_of(top: &Top) -> Option<&Json>
+    ensures { option_map (λ w. w.now) result ≡ output_of_top top.now }
 {
     match top {
-        Top::Done { output, .. } if around.is_empty() => Some(output),
+        Top::Done { output, .. } => Some(output),
         _ => None,
+    }
+}
+
+// The output of what ended on a strand, where nothing stands around it.
+fn output_on(stand: &Stand) -> Option<&Json>
+    ensures { option_map (λ w. w.now) result ≡ output_on stand.now.around stand.now.top }
+{
+    if stand.around.is_empty() {
+        output_of(&stand.top)
+    } else {
+        None
     }
 }
 
 // The outputs of all branches of a strand, of which that one has just ended, once all are done.
 fn outputs_of(
     alloc: Global,
-    forest: &Forest<Layer>,
+    forest: &Forest<Stand>,
     strand: StrandId,
     number: usize,
     ended: &Top,
 ) -> Result<Option<Json>, AllocError>
     requires held { IsHeld forest.now strand }
-    ensures { IfOk result (λ o. (b : Branch TheLayer) → find forest.now.strands strand ≡ Some b → o ≡ option_map listed (outputs (put (nodes_of b.below) number (top_node ended.now)))) }
+    ensures { IfOk result (λ o. (b : Branch TheStand) → find forest.now.strands strand ≡ Some b → o ≡ option_map listed (outputs (put (nodes_of b.below) number (top_node ended.now)))) }
 {
     let mut outputs = Vec::new(alloc);
     let mut next = 0;
     while let Some(branch) = child_of(forest, strand, next) {
-        let Standing { around, top } = stack_of(forest, branch);
         let output = if next == number {
-            output_of(&[], ended)
+            output_of(ended)
         } else {
-            output_of(around, top)
+            output_on(stand_of(forest, branch))
         };
         let Some(output) = output else {
             return Ok(None);
@@ -166,36 +178,36 @@ fn outputs_of(
 }
 
 // What stands innermost on a strand takes its step.
-fn own_step(alloc: Global, scene: Scene, around: &[Layer], top: &Top) -> Result<Change, AllocError>
-    requires { (fs : List TheFrame) × ((around.now ≡ running fs) × (can_go scene.now [] (plug fs (top_node top.now)) ≡ true)) }
-    ensures { IfOk result (λ c. (fs : List TheFrame) → around.now ≡ running fs → IsChange (site_of scene.entry) (line_of scene.entry) [] (plug fs (top_node top.now)) c) }
+fn own_step(alloc: Global, scene: Scene, stand: &Stand) -> Result<Change, AllocError>
+    requires { can_go scene.now [] (own_node stand.now) ≡ true }
+    ensures { IfOk result (λ c. IsChange (site_of scene.entry) (line_of scene.entry) [] (own_node stand.now) c) }
 {
-    let made = next_of(alloc, scene, around, top)?;
+    let made = next_of(alloc, scene, stand)?;
     Ok(Change {
         depth: 0,
-        layers: layers_of(alloc, outer_of(around, top), made.frame, made.top)?,
+        stand: Stand::inside(alloc, outer_of(stand), made.frame, made.top)?,
         context: made.context,
         emitted: made.emitted,
     })
 }
 
 // The tasks that still run around what a step puts anew.
-fn outer_of<'a>(around: &'a [Layer], top: &Top) -> &'a [Layer]
-    ensures { (fs os : List TheFrame) → around.now ≡ running fs → AreAround fs top.now os → result.now ≡ running os }
+fn outer_of(stand: &Stand) -> &Chain<Frame>
+    ensures { result.now ≡ outer stand.now.top stand.now.around }
 {
-    match around.split_last() {
-        Some((_, outer)) if has_ended(top) => outer,
-        _ => around,
+    match stand.around.split_first() {
+        Some((_, outer)) if has_ended(&stand.top) => outer,
+        _ => &stand.around,
     }
 }
 
 // What the step makes of what stands innermost.
-fn next_of(alloc: Global, scene: Scene, around: &[Layer], top: &Top) -> Result<Made, AllocError>
-    requires { (fs : List TheFrame) × ((around.now ≡ running fs) × (can_go scene.now [] (plug fs (top_node top.now)) ≡ true)) }
-    ensures { IfOk result (λ m. (fs : List TheFrame) → around.now ≡ running fs → IsStep (site_of scene.entry) (line_of scene.entry) fs top.now (stepped_of m)) }
+fn next_of(alloc: Global, scene: Scene, stand: &Stand) -> Result<Made, AllocError>
+    requires { can_go scene.now [] (own_node stand.now) ≡ true }
+    ensures { IfOk result (λ m. IsStep (site_of scene.entry) (line_of scene.entry) stand.now (stepped_of m)) }
 {
-    let scene = scene.inside(alloc, outer_of(around, top))?;
-    let given = match top {
+    let scene = scene.inside(alloc, outer_of(stand))?;
+    let given = match &stand.top {
         Top::Fresh { task, raw } => enter(alloc, &scene, task, raw),
         Top::Waiting {
             running,
@@ -218,16 +230,21 @@ fn next_of(alloc: Global, scene: Scene, around: &[Layer], top: &Top) -> Result<M
             listened(&rule, heard.as_slice())
         }
         Top::Forked(_) => unreachable!(),
-        Top::Done { output, flow } => {
-            let (frame, _) = innermost(around);
-            moved_on(alloc, &scene, frame, output, flow)
-        }
-        Top::Fault(problem) => {
-            let (frame, _) = innermost(around);
-            failed(alloc, &scene, frame, problem)
-        }
+        Top::Done { output, flow } => moved_on(alloc, &scene, innermost(stand), output, flow),
+        Top::Fault(problem) => failed(alloc, &scene, innermost(stand), problem),
     };
     made_of(&scene, given)
+}
+
+// The task that runs innermost.
+fn innermost(stand: &Stand) -> &Frame
+    requires { stand.now.around ≡ [] → ⊥ }
+    ensures { stand.now.around ≡ result.now ∷ behind stand.now.around }
+{
+    let Some((frame, _)) = stand.around.split_first() else {
+        unreachable!();
+    };
+    frame
 }
 
 // What a rule gives, an error included.

@@ -4,7 +4,7 @@ use std::alloc::{AllocError, Global};
 use std::io;
 use swf_duration::Moment;
 use swf_frames::{CopyFrame, Forest, StrandId};
-use swf_tasks::{InstanceView, Machine, Site, Words};
+use swf_tasks::{InstanceView, Machine};
 use swf_test_tables::{no_meaning, number_of, split};
 use swf_text::Strand;
 
@@ -79,8 +79,8 @@ fn seen(alloc: Global, view: &InstanceView) -> io::Result<String> {
 }
 
 // How many steps an instance takes on its root strand with that fuel, and its output.
-fn advanced(alloc: Global, machine: &mut Machine, fuel: u32, site: &Site) -> io::Result<String> {
-    let steps = machine.advance(alloc, &Strand::root(alloc), fuel, site)?;
+fn advanced(alloc: Global, machine: &mut Machine, fuel: u32, now: Moment) -> io::Result<String> {
+    let steps = machine.advance(alloc, &Strand::root(alloc), fuel, now)?;
     let output = orders::output_of(alloc, machine)?;
     Ok(format!(in alloc; "{steps} steps, output {output}")?)
 }
@@ -92,21 +92,17 @@ fn viewed(alloc: Global, machine: &Machine) -> io::Result<String> {
 }
 
 // Both, in this order.
-fn told_of(alloc: Global, machine: &mut Machine, fuel: u32, site: &Site) -> io::Result<String> {
-    let advanced = advanced(alloc, machine, fuel, site)?;
+fn told_of(alloc: Global, machine: &mut Machine, fuel: u32, now: Moment) -> io::Result<String> {
+    let advanced = advanced(alloc, machine, fuel, now)?;
     let seen = viewed(alloc, machine)?;
     Ok(format!(in alloc; "{advanced}; {seen}")?)
 }
 
 // What an instance of these tasks comes to with that fuel.
 fn advance_by(alloc: Global, fuel: u32, tasks: &str) -> io::Result<String> {
-    let words = Words::new(alloc)?;
-    let site = Site {
-        now: Moment::new(7),
-        words: &words,
-    };
-    let mut machine = orders::begun(alloc, tasks, &site)?;
-    told_of(alloc, &mut machine, fuel, &site)
+    let now = Moment::new(7);
+    let mut machine = orders::begun(alloc, tasks, now)?;
+    told_of(alloc, &mut machine, fuel, now)
 }
 
 // A row has the fuel, and the tasks of a workflow.

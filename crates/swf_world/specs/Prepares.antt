@@ -5,6 +5,7 @@ use Rattle.swf_cloudevents.specs.declared.event.Event.{Event}
 use Rattle.swf_document.specs.declared.document.Document.{Document}
 use Rattle.swf_meaning.specs.declared.key.Key.TheVariants as keys
 use Rattle.swf_meaning.specs.declared.label.Label.{Label}
+use Rattle.swf_meaning.specs.declared.label.Label.TheVariants.{Step}
 use Rattle.swf_meaning.specs.Complete.{Stepped}
 use Rattle.swf_meaning.specs.Offer.{takers}
 use Rattle.swf_meaning.specs.World.{World, Instance, new_instance, step_at, with_step}
@@ -15,7 +16,6 @@ use Rattle.swf_world.specs.declared.change.ChangeKind.TheVariants as kinds
 use Rattle.swf_world.specs.declared.refusal.PrepareFault.{PrepareFault}
 use Rattle.swf_world.specs.declared.refusal.PrepareFault.TheVariants.{Refused, OutOfMemory}
 use Rattle.swf_world.specs.Changes.{IsReady, Suits, changed}
-use Rattle.swf_world.specs.Enabled.{CanGo}
 use Rattle.swf_instances.specs.Offers.{put_at, IsOffer}
 use Rattle.swf_instances.specs.declared.offer.Hearing.{Hearing}
 use Rattle.swf_world.specs.Refusals.{refusal}
@@ -74,7 +74,15 @@ Prepares w l (Ok c) = Suits w c × (after w l ≡ Some (changed w c)) × (refusa
 Prepares w l (Err (Refused r)) = refusal w l ≡ Some r
 Prepares w l (Err OutOfMemory) = Unit {0}
 
--- a step that a strand of some instance can take now, and the change that its label makes
+-- a step that a strand of some instance can take now
+pub record CanGo (w : World) (l : Label) : Type 0 where
+  pub id : List ℕ
+  pub strand : List ℕ
+  pub step : l ≡ Step id strand
+  pub next : World
+  pub after : after w l ≡ Some next
+
+-- such a step, and the change that its label makes
 pub record IsPreparedStep (w : World) (p : Label × Change) : Type 0 where
   pub goes : CanGo w p.0
   pub prepares : Prepares w p.0 (Ok p.1)

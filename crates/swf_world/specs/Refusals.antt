@@ -62,11 +62,3 @@ refusal w (Step id strand) = refusal_of_step w.now strand (instance_at id w.inst
 abbrev pub refused_by : {T : Type 0} → Result T Refusal → Option Refusal
 refused_by (Ok u) = None
 refused_by (Err r) = Some r
-
-abbrev pub IsLoad : Label → Type 0
-IsLoad (Load v) = Unit {0}
-IsLoad (Start id key input) = ⊥
-IsLoad (Event e) = ⊥
-IsLoad (Reply a r) = ⊥
-IsLoad (Moment moment) = ⊥
-IsLoad (Step id strand) = ⊥

@@ -13,8 +13,9 @@ use crate::refusal::{PrepareFault, Refusal};
 use crate::world::World;
 use std::alloc::{AllocError, Global};
 use swf_cloudevents::Event;
+use swf_duration::Moment;
 use swf_instances::{Hearing, Instances};
-use swf_tasks::{BoxedMachine, Machine, SentEvent, Site, Step};
+use swf_tasks::{BoxedMachine, Machine, SentEvent, Step};
 use swf_text::{Strand, Text};
 
 impl World {
@@ -36,14 +37,10 @@ impl World {
     pub(crate) fn prepare_step(&self, id: &Text, strand: &Strand) -> Result<Change, PrepareFault>
         ensures { Prepares self.now.world (Label.Step id.now strand.now) result }
     {
-        let Some(words) = &self.words else {
-            return Err(PrepareFault::OutOfMemory);
-        };
         let now = self.now();
-        let site = Site { now, words };
         match self.steppable(id, strand) {
             Err(refusal) => Err(PrepareFault::Refused(refusal)),
-            Ok(number) => ready(step_change(self.alloc, number, &self.instances, strand, &site)),
+            Ok(number) => ready(step_change(self.alloc, number, &self.instances, strand, now)),
         }
     }
 
@@ -72,13 +69,13 @@ pub fn step_change(
     number: usize,
     instances: &Instances,
     strand: &Strand,
-    site: &Site<'_>,
+    now: Moment,
 ) -> Result<Change, AllocError>
     requires { number < length instances.now.instances }
-    ensures { IfOk result (IsStepping site.entry.now.now number strand.now instances.now.instances) }
+    ensures { IfOk result (IsStepping now number strand.now instances.now.instances) }
 {
     let instance = instances.at(number);
-    let Ok(prepared) = instance.prepare(alloc, strand, site) else {
+    let Ok(prepared) = instance.prepare(alloc, strand, now) else {
         return Err(AllocError);
     };
     let step = offered_step(alloc, instance, prepared.step, &prepared.emitted)?;

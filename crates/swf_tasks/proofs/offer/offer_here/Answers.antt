@@ -1,7 +1,7 @@
-use Rattle.std.proofs.Common.{◌∙◌, ap, subst, append-nil, Option}
+use Rattle.std.proofs.Common.{◌∙◌, [], ◌∷◌, ap, subst, sym, Option}
 use Rattle.swf_frames.specs.Tree.{Tree}
-use Rattle.swf_stack.specs.Layers.{frames_of, stacked}
-use Rattle.swf_stack.specs.declared.made.Layer.{Layer}
+use Rattle.swf_stack.specs.Stands.{top_of}
+use Rattle.swf_stack.specs.declared.made.Stand.{Stand}
 use Rattle.swf_stack.specs.declared.made.Top.{Top}
 use Rattle.swf_tasks.specs.Taken.{IsOffered}
 use Rattle.swf_tasks.proofs.OfferLemmas.{here-none, here-some}
@@ -9,14 +9,15 @@ use Rattle.swf_tasks.proofs.offer.offer_here.Goals as goal
 
 pub returns-in_default : goal.returns-in_default
 returns-in_default c =
-    let top = c.stack_of.result.top.now in
+    let top = c.stand_of-stand.result.now.top in
     let off = subst (λ (o : Option Top). IsOffered top c.args.event.now o) c.in_default.is c.in_ok-top.ensures in
-    here-none c.args.event.now c.args.forest.now c.args.strand top c.requires c.stack_of.ensures.top off
+    here-none c.args.event.now c.args.forest.now c.args.strand top c.requires (λ b f. sym (ap top_of (c.stand_of-stand.ensures b f))) off
 
 pub returns : goal.returns
 returns c =
-    let top = c.stack_of.result.top.now in
-    let off = subst (λ (o : Option Top). IsOffered top c.args.event.now o) c.in-Some.is c.in_ok-top.ensures in
-    here-some c.args.event.now c.args.forest.now c.replace.new.self c.args.strand top c.in-Some.top c.in_ok-layers.layers.items c.requires c.stack_of.ensures.top off
-    (λ b f. c.in_ok-layers.ensures (frames_of b.frames) (c.stack_of.ensures.around b f) ∙ ap (λ fs. stacked fs c.in-Some.top) (append-nil (frames_of b.frames)))
-    (ap (λ (t : Tree Layer). t.strands) c.replace.ensures.replaced) c.replace.ensures.distinct
+    let h = c.stand_of-stand.result.now in
+    let x = c.in-Some.top in
+    let off = subst (λ (o : Option Top). IsOffered h.top c.args.event.now o) c.in-Some.is c.in_ok-top.ensures in
+    here-some c.args.event.now c.args.forest.now c.replace.new.self c.args.strand h x c.in_ok-stands.stands.items c.requires c.stand_of-stand.ensures off
+    (c.in_ok-stands.ensures ∙ (λ i. (record { around = c.in_ok-around.ensures i; top = x }) ∷ []))
+    (ap (λ (t : Tree Stand). t.strands) c.replace.ensures.replaced) c.replace.ensures.distinct

@@ -10,11 +10,11 @@ use Rattle.swf_tasks.proofs.step.+step_of.Goals as goal
 
 pub own_step-requires : goal.own_step-requires
 own_step-requires t c =
-    own-goes c.args.scene.now c.args.forest.now c.args.strand c.args.branches.now c.stack_of.result.around.now c.stack_of.result.top.now c.requires.held (no-numbers c.args.branches.now c.in_default.ensures.cases) c.requires.can c.stack_of.ensures.around c.stack_of.ensures.top
+    own-goes c.args.scene.now c.args.forest.now c.args.strand c.args.branches.now c.stand_of-stand.result.now c.requires.held (no-numbers c.args.branches.now c.in_default.ensures.cases) c.requires.can c.stand_of-stand.ensures
 
 pub returns-in_default : goal.returns-in_default
 returns-in_default t c =
-    own-told (site_of c.args.scene) (line_of c.args.scene) c.args.forest.now c.args.strand c.args.branches.now c.stack_of.result.around.now c.stack_of.result.top.now c.own_step.result (no-numbers c.args.branches.now c.in_default.ensures.cases) c.requires.can c.stack_of.ensures.around c.stack_of.ensures.top c.own_step.ensures
+    own-told (site_of c.args.scene) (line_of c.args.scene) c.args.forest.now c.args.strand c.args.branches.now c.stand_of-stand.result.now c.own_step.result (no-numbers c.args.branches.now c.in_default.ensures.cases) c.requires.can c.stand_of-stand.ensures c.own_step.ensures
 
 pub unreachable-requires : goal.unreachable-requires
 unreachable-requires t c =
@@ -39,5 +39,5 @@ settle-requires-clause-fork t c =
 
 pub returns : goal.returns
 returns t c =
-    branch-told (site_of c.args.scene) (site_of c.in_ok-scene.scene) (site_of c.in_ok-copy.field-0) (line_of c.args.scene) (line_of c.in_ok-scene.scene) (line_of c.in_ok-copy.field-0) c.args.forest.now c.args.strand c.in-Some.number.now c.in-Some-child_of.child c.args.branches.now c.in-Some.inner.now c.stack_of.result.around.now c.in_ok-change.change c.settle.result
-    c.requires.held c.in-Some-child_of.ensures.child c.in-Some.ensures.cases.0 c.stack_of.ensures.around c.in_ok-scene.ensures.site c.in_ok-copy.ensures.site c.in_ok-scene.ensures.line c.in_ok-copy.ensures.line c.in_ok-change.ensures c.settle.ensures
+    branch-told (site_of c.args.scene) (site_of c.in_ok-scene.scene) (site_of c.in_ok-copy.field-0) (line_of c.args.scene) (line_of c.in_ok-scene.scene) (line_of c.in_ok-copy.field-0) c.args.forest.now c.args.strand c.in-Some.number.now c.in-Some-child_of.child c.args.branches.now c.in-Some.inner.now c.stand_of-stand.result.now c.in_ok-change.change c.settle.result
+    c.requires.held c.in-Some-child_of.ensures.child c.in-Some.ensures.cases.0 c.stand_of-stand.ensures c.in_ok-scene.ensures.site c.in_ok-copy.ensures.site c.in_ok-scene.ensures.line c.in_ok-copy.ensures.line c.in_ok-change.ensures c.settle.ensures

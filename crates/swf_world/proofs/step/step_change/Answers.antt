@@ -7,7 +7,7 @@ use Rattle.swf_world.proofs.step.step_change.Goals as goal
 pub returns : goal.returns
 returns c =
     let is = c.args.instances.now.instances in
-    let now = c.args.site.now.now in
+    let now = c.args.now in
     let n = c.args.number in
     let strand = c.args.strand.now in
     let i = c.at-instance.result.now in

@@ -8,9 +8,9 @@ pub loop-number-preserved : goal.loop-number-preserved
 loop-number-preserved c =
     elim c.if-same_name.branch [
       | then-same_name w ↦ more_versions c.args.key.now c.self.inside.by_key.entries c.loop-number.number c.args.key.now.version c.loop-number.version.now c.index-loaded.result.now true
-          c.index-loaded.ensures c.loop-number.invariant (sym w.if-same_name.true ∙ c.same_name.ensures ∙ ap (λ d. same_name c.args.key.now d.key) c.document-document.ensures.value)
-          ∙ sym (ap (λ d. d.key.version) c.document-document.ensures.value) ∙ sym (ap (λ r. r.now) w.version-is)
+          c.index-loaded.ensures c.loop-number.invariant (sym w.if-same_name.true ∙ c.same_name.ensures ∙ ap (λ d. same_name c.args.key.now d.key) (c.document-document.ensures ∙ c.get.ensures))
+          ∙ sym (ap (λ d. d.key.version) (c.document-document.ensures ∙ c.get.ensures)) ∙ sym (ap (λ r. r.now) w.version-is)
       | else-same_name w ↦ more_versions c.args.key.now c.self.inside.by_key.entries c.loop-number.number c.args.key.now.version c.loop-number.version.now c.index-loaded.result.now false
-          c.index-loaded.ensures c.loop-number.invariant (sym w.if-same_name.false ∙ c.same_name.ensures ∙ ap (λ d. same_name c.args.key.now d.key) c.document-document.ensures.value)
+          c.index-loaded.ensures c.loop-number.invariant (sym w.if-same_name.false ∙ c.same_name.ensures ∙ ap (λ d. same_name c.args.key.now d.key) (c.document-document.ensures ∙ c.get.ensures))
           ∙ sym (ap (λ r. r.now) w.version-is)
     ]

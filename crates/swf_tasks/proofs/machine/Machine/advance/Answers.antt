@@ -6,11 +6,11 @@ use Rattle.swf_tasks.proofs.AdvanceLemmas.{so_far, goes_on, finished, used_up, o
 use Rattle.swf_tasks.proofs.machine.Machine.advance.Goals as goal
 
 pub returns-in_err-step-clause-err : goal.returns-in_err-step-clause-err
-returns-in_err-step-clause-err c = on_err c.from_residual.result (c.loop-steps.steps, so_far c.args.site.now.now c.args.strand.now c.loop-steps.steps c.args.self.now c.loop-steps.self c.loop-steps.invariant.1)
+returns-in_err-step-clause-err c = on_err c.from_residual.result (c.loop-steps.steps, so_far c.args.now c.args.strand.now c.loop-steps.steps c.args.self.now c.loop-steps.self c.loop-steps.invariant.1)
 
 pub loop-steps-preserved : goal.loop-steps-preserved
 loop-steps-preserved c =
-    let now = c.args.site.now.now in
+    let now = c.args.now in
     let bs = c.args.strand.now in
     let i = c.loop-steps.self in
     let x = c.in_ok-step.field-0.emitted in
@@ -22,7 +22,7 @@ loop-steps-preserved c =
 
 pub returns-else-enabled-clause-ok : goal.returns-else-enabled-clause-ok
 returns-else-enabled-clause-ok c =
-    let now = c.args.site.now.now in
+    let now = c.args.now in
     let bs = c.args.strand.now in
     let i = c.loop-steps.self in
     let alone : is_shared bs i.node ≡ false = sym c.is_shared.ensures ∙ c.if-not-is_shared.true in
@@ -31,7 +31,7 @@ returns-else-enabled-clause-ok c =
 
 pub returns-else-not-is_shared-clause-ok : goal.returns-else-not-is_shared-clause-ok
 returns-else-not-is_shared-clause-ok c =
-    let now = c.args.site.now.now in
+    let now = c.args.now in
     let bs = c.args.strand.now in
     let i = c.loop-steps.self in
     let shared : is_shared bs i.node ≡ true = sym c.is_shared.ensures ∙ c.if-not-is_shared.false in
@@ -39,4 +39,4 @@ returns-else-not-is_shared-clause-ok c =
 
 pub returns-after-loop-steps-clause-ok : goal.returns-after-loop-steps-clause-ok
 returns-after-loop-steps-clause-ok c =
-    sym (used_up c.args.site.now.now c.args.strand.now c.loop-steps.steps c.args.fuel c.args.self.now c.loop-steps.self c.loop-steps.invariant.0 (omega (arith, c.loop-steps-test.false)) c.loop-steps.invariant.1)
+    sym (used_up c.args.now c.args.strand.now c.loop-steps.steps c.args.fuel c.args.self.now c.loop-steps.self c.loop-steps.invariant.0 (omega (arith, c.loop-steps-test.false)) c.loop-steps.invariant.1)
