@@ -9,7 +9,7 @@ use Rattle.swf_listeners.specs.Wanted.{Wanted, nothing, wanted_of}
 use Rattle.swf_meaning.specs.World.{Instance}
 use Rattle.swf_tasks.specs.EventTypes.{event_types}
 use Rattle.swf_tasks.specs.declared.machine.Step.{Step}
-use Rattle.swf_turns.specs.Line.{Line, is_among}
+use Rattle.swf_queue.specs.Queue.{Queue, is_among}
 use Rattle.swf_instances.specs.Kept.{Listening}
 use Rattle.swf_instances.specs.Takes.{take_at}
 
@@ -27,7 +27,7 @@ others_take (suc n) zero step (i ∷ is) other = refl
 others_take (suc n) (suc m) step (i ∷ is) other = others_take n m step is (λ e. other (ap suc e))
 
 -- one that took a step is stale
-pub noted_stale : (is : List Instance) (wanted : List Wanted) (stale next : Line) (n : ℕ) (step : Step) → Listening is wanted stale → ((m : ℕ) → is_among m next.numbers ≡ (is_among m stale.numbers || (m == n))) → next.count ≡ stale.count → Listening (take_at n step is) wanted next
+pub noted_stale : (is : List Instance) (wanted : List Wanted) (stale next : Queue) (n : ℕ) (step : Step) → Listening is wanted stale → ((m : ℕ) → is_among m next.numbers ≡ (is_among m stale.numbers || (m == n))) → next.count ≡ stale.count → Listening (take_at n step is) wanted next
 noted_stale is wanted stale next n step l among count = record {
   many = l.many ∙ sym (length_take n step is);
   count = count ∙ l.count ∙ sym (length_take n step is);
@@ -63,7 +63,7 @@ first_among n [] e = cc
 first_among n (k ∷ ns) e = ap (λ b. b || is_among n ns) (eq-eqb n k (sym (same_Some k n e)))
 
 -- the first of the stale ones was noted
-pub noted_left : (is : List Instance) (wanted : List Wanted) (stale next : Line) (n : ℕ) (i : Instance) → Listening is wanted stale → slice_get stale.numbers 0 ≡ Some n → n < length is → slice_get is n ≡ Some i → next.numbers ≡ drop 1 stale.numbers → next.count ≡ stale.count →
+pub noted_left : (is : List Instance) (wanted : List Wanted) (stale next : Queue) (n : ℕ) (i : Instance) → Listening is wanted stale → slice_get stale.numbers 0 ≡ Some n → n < length is → slice_get is n ≡ Some i → next.numbers ≡ drop 1 stale.numbers → next.count ≡ stale.count →
     Listening is (slice_set wanted n (wanted_of (event_types i.node))) next
 noted_left is wanted stale next n i l first within there rest count = record {
   many = set_length wanted n _ ∙ l.many;
@@ -87,7 +87,7 @@ old_at (x ∷ is) j zero i e other = e
 old_at (x ∷ is) j (suc n) i e other = old_at is j n i e (λ f. other (ap suc f))
 
 -- a new one is stale
-pub noted_pushed : (is : List Instance) (wanted : List Wanted) (stale next : Line) (i : Instance) → Listening is wanted stale → next.numbers ≡ stale.numbers ++ stale.count ∷ [] → next.count ≡ stale.count + 1 → Listening (is ++ i ∷ []) (wanted ++ nothing ∷ []) next
+pub noted_pushed : (is : List Instance) (wanted : List Wanted) (stale next : Queue) (i : Instance) → Listening is wanted stale → next.numbers ≡ stale.numbers ++ stale.count ∷ [] → next.count ≡ stale.count + 1 → Listening (is ++ i ∷ []) (wanted ++ nothing ∷ []) next
 noted_pushed is wanted stale next i l numbers count = record {
   many = length-append wanted (nothing ∷ []) ∙ ap (λ n. n + 1) l.many ∙ sym (length-append is (i ∷ []));
   count = count ∙ ap (λ n. n + 1) l.count ∙ sym (length-append is (i ∷ []));

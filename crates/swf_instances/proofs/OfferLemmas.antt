@@ -17,7 +17,7 @@ use Rattle.swf_listeners.specs.Listeners.{numbers_where, wanted_by, who}
 use Rattle.swf_listeners.specs.Wanted.{Wanted, wants}
 use Rattle.swf_listeners.proofs.WantedLemmas.{wants_of}
 use Rattle.swf_listeners.proofs.WhoLemmas.{Passes, numbers_from, to_next, to_end, where_from}
-use Rattle.swf_turns.specs.Line.{Line, is_among}
+use Rattle.swf_queue.specs.Queue.{Queue, is_among}
 use Rattle.swf_tasks.specs.EventTypes.{event_types}
 use Rattle.swf_tasks.specs.declared.machine.Step.TheVariants.{Whole}
 
@@ -254,7 +254,7 @@ empty [] e = refl
 empty (n ∷ ns) e = cc
 
 -- who wants an event's type, where it is noted of all what they want
-pub covers_who : (e : Event) (is : List Instance) (wanted : List Wanted) (stale : Line) (ns : List ℕ) → Listening is wanted stale → slice_get stale.numbers 0 ≡ None → ns ≡ who e.kind wanted → Covers e is ns
+pub covers_who : (e : Event) (is : List Instance) (wanted : List Wanted) (stale : Queue) (ns : List ℕ) → Listening is wanted stale → slice_get stale.numbers 0 ≡ None → ns ≡ who e.kind wanted → Covers e is ns
 covers_who e is wanted stale ns l fresh are = record {
   test = λ n. wants e.kind (wanted_by wanted n);
   are = are ∙ ap (numbers_where (λ n. wants e.kind (wanted_by wanted n))) l.many;

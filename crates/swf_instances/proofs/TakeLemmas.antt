@@ -18,12 +18,12 @@ use Rattle.swf_instances.specs.Queued.{Queued}
 use Rattle.std.proofs.lemmas.List.{map-append}
 use Rattle.swf_meaning.specs.Wake.{waits}
 use Rattle.swf_instances.specs.Waits.{alarms_of}
-use Rattle.swf_instances.proofs.QueueLemmas.{queued_put, queued_pushed, length_put}
+use Rattle.swf_instances.proofs.QueuedLemmas.{queued_put, queued_pushed, length_put}
 use Rattle.swf_instances.proofs.NoteLemmas.{noted_pushed}
 use Rattle.swf_listeners.specs.Wanted.{Wanted, nothing}
 use Rattle.swf_instances.proofs.WaitLemmas.{alarms_set, alarms_pushed}
 use Rattle.swf_strands.specs.Alarm.{alarm_of}
-use Rattle.swf_turns.specs.Line.{Line, is_among}
+use Rattle.swf_queue.specs.Queue.{Queue, is_among}
 
 placed_pushed : (is : List (List ℕ × Instance)) (e : List ℕ × Instance) → AllByRecursion IsPlaced is → IsPlaced e → AllByRecursion IsPlaced (is ++ e ∷ [])
 placed_pushed [] e placed own = (own, tt)
@@ -74,31 +74,31 @@ pub fits_there : (es : List (List ℕ × Instance)) (n : ℕ) (step : Step) (is 
 fits_there es n step is i e f there = subst (Fits step) (same_Some f.0 i (sym f.1 ∙ sym (ap (λ is. slice_get is n) e) ∙ there)) f.2
 
 -- with its step it goes on to agree with the queue and the alarms
-pub waiting_put : (es fs : List (List ℕ × Instance)) (now n : ℕ) (turns next : Line) (alarms : List (Option ℕ)) (step : Step) (i k : Instance) → Waiting (instances_in es) now turns alarms →
-    slice_get (instances_in es) n ≡ Some i → instances_in fs ≡ take_at n step (instances_in es) → ((m : ℕ) → is_among m next.numbers ≡ (is_among m turns.numbers || (m == n))) → next.count ≡ turns.count →
+pub waiting_put : (es fs : List (List ℕ × Instance)) (now n : ℕ) (queue next : Queue) (alarms : List (Option ℕ)) (step : Step) (i k : Instance) → Waiting (instances_in es) now queue alarms →
+    slice_get (instances_in es) n ≡ Some i → instances_in fs ≡ take_at n step (instances_in es) → ((m : ℕ) → is_among m next.numbers ≡ (is_among m queue.numbers || (m == n))) → next.count ≡ queue.count →
     slice_get (instances_in fs) n ≡ Some k → Waiting (instances_in fs) now next (slice_set alarms n (alarm_of k.node))
-waiting_put es fs now n turns next alarms step i k w there took among count stands =
+waiting_put es fs now n queue next alarms step i k w there took among count stands =
     let is = instances_in es in
     let j = applied step i in
     let put : instances_in fs ≡ put_at n j is = took ∙ take_put n step is i there in
     record {
-      queued = subst (λ xs. Queued now xs next.numbers) (sym put) (queued_put now is turns.numbers next.numbers n j among w.queued);
+      queued = subst (λ xs. Queued now xs next.numbers) (sym put) (queued_put now is queue.numbers next.numbers n j among w.queued);
       count = count ∙ w.count ∙ sym (length_put is n j) ∙ sym (ap length put);
       own = ap (λ os. slice_set os n (alarm_of k.node)) w.own ∙ alarms_set is (instances_in fs) n i j k there put stands;
     }
 
 -- those with one more, which does not wait, agree with the queue and the alarms
-pub kept_pushed : (es fs : List (List ℕ × Instance)) (now : ℕ) (turns next : Line) (alarms more : List (Option ℕ)) (wanted with : List Wanted) (stale fresh : Line) (id : List ℕ) (i : Instance) → Kept es now turns alarms wanted stale → id ≡ i.id → waits i.node ≡ [] → fs ≡ es ++ (id, i) ∷ [] →
-    IsDistinct same (keys_of fs) → next.numbers ≡ turns.numbers ++ turns.count ∷ [] → next.count ≡ turns.count + 1 → more ≡ alarms ++ None ∷ [] →
+pub kept_pushed : (es fs : List (List ℕ × Instance)) (now : ℕ) (queue next : Queue) (alarms more : List (Option ℕ)) (wanted with : List Wanted) (stale fresh : Queue) (id : List ℕ) (i : Instance) → Kept es now queue alarms wanted stale → id ≡ i.id → waits i.node ≡ [] → fs ≡ es ++ (id, i) ∷ [] →
+    IsDistinct same (keys_of fs) → next.numbers ≡ queue.numbers ++ queue.count ∷ [] → next.count ≡ queue.count + 1 → more ≡ alarms ++ None ∷ [] →
     with ≡ wanted ++ nothing ∷ [] → fresh.numbers ≡ stale.numbers ++ stale.count ∷ [] → fresh.count ≡ stale.count + 1 → Kept fs now next more with fresh
-kept_pushed es fs now turns next alarms more wanted with stale fresh id i kept own awake pushed apart numbers count added noted stales stale_count =
+kept_pushed es fs now queue next alarms more wanted with stale fresh id i kept own awake pushed apart numbers count added noted stales stale_count =
     let is = instances_in es in
     let all : instances_in fs ≡ is ++ i ∷ [] = ap instances_in pushed ∙ map-append (λ e. e.1) es ((id, i) ∷ []) in
     record {
       held = held_pushed es id i fs kept.held own pushed apart;
       waiting = record {
         queued = subst (λ xs. Queued now xs next.numbers) (sym all) (subst (λ q. Queued now (is ++ i ∷ []) q) (sym numbers)
-            (queued_pushed now is i turns.numbers turns.count kept.waiting.count kept.waiting.queued));
+            (queued_pushed now is i queue.numbers queue.count kept.waiting.count kept.waiting.queued));
         count = count ∙ ap (λ n. n + 1) kept.waiting.count ∙ sym (length-append is (i ∷ [])) ∙ sym (ap length all);
         own = added ∙ ap (λ xs. xs ++ None ∷ []) kept.waiting.own ∙ alarms_pushed is i awake ∙ sym (ap alarms_of all);
       };

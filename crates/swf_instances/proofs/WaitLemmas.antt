@@ -13,9 +13,9 @@ use Rattle.swf_meaning.specs.Top.{Top, Begins, Moves, Fails, Retries, Sleeps, He
 use Rattle.swf_meaning.specs.Wake.{waits, until_top, is_due as is_due_in}
 use Rattle.swf_meaning.specs.World.{Instance}
 use Rattle.swf_strands.specs.Alarm.{alarm_of}
-use Rattle.swf_turns.specs.Alarms.{is_by, is_due}
-use Rattle.swf_turns.specs.Line.{is_among}
-use Rattle.swf_turns.proofs.AlarmLemmas.{is_by_sooner}
+use Rattle.swf_queue.specs.Alarms.{is_by, is_due}
+use Rattle.swf_queue.specs.Queue.{is_among}
+use Rattle.swf_queue.proofs.AlarmLemmas.{is_by_sooner}
 use Rattle.swf_instances.specs.Offers.{put_at}
 use Rattle.swf_instances.specs.Queued.{Queued, enabled_at}
 use Rattle.swf_instances.specs.Waits.{alarms_of}

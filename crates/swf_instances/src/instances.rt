@@ -14,20 +14,20 @@ use swf_duration::Moment;
 use swf_listeners::Listeners;
 use swf_tasks::{BoxedMachine, Machine, Step};
 use swf_text::Text;
-use swf_turns::{Alarms, Turns};
+use swf_queue::{Alarms, Queue};
 
 /// The instances at a moment. Contracts see them in start order, the moment, and how many more fit without memory.
 #[derive(Drop)]
 pub struct Instances {
     alloc: Global,
     pub(crate) machines: IndexMap<Text, Machine>,
-    pub(crate) turns: Turns,
+    pub(crate) queue: Queue,
     /// Of each instance, the least moment that a strand of it waits for.
     pub(crate) alarms: Alarms,
     /// Of each instance, what it listens for.
     pub(crate) listeners: Listeners,
     /// Those of which that is not noted yet: they came or took a step since room was made last.
-    pub(crate) stale: Turns,
+    pub(crate) stale: Queue,
     /// The one that was reached last.
     pub(crate) moment: Moment,
 }
@@ -43,9 +43,9 @@ impl Model for Instances {
 
     ghost use Rattle.swf_instances.specs.Kept.{Kept};
 
-    ghost view = { λ i. record { instances = instances_in i.machines.entries; moment = i.moment; room = min (min (spare i.machines) i.turns.room) (min i.alarms.room (min i.listeners.room i.stale.room)) } };
+    ghost view = { λ i. record { instances = instances_in i.machines.entries; moment = i.moment; room = min (min (spare i.machines) i.queue.room) (min i.alarms.room (min i.listeners.room i.stale.room)) } };
 
-    ghost invariant = { λ i. Kept i.machines.entries i.moment i.turns i.alarms.moments i.listeners.wanted i.stale };
+    ghost invariant = { λ i. Kept i.machines.entries i.moment i.queue i.alarms.moments i.listeners.wanted i.stale };
 }
 
 impl Instances {
@@ -57,10 +57,10 @@ impl Instances {
         Instances {
             alloc,
             machines: IndexMap::new(alloc),
-            turns: Turns::new(alloc),
+            queue: Queue::new(alloc),
             alarms: Alarms::new(alloc),
             listeners: Listeners::new(alloc),
-            stale: Turns::new(alloc),
+            stale: Queue::new(alloc),
             moment: Moment::new(0),
         }
     }
@@ -74,7 +74,7 @@ impl Instances {
         let (listeners, stale) = (&mut self.listeners, &mut self.stale);
         note_all(self.alloc, &self.machines, listeners, stale)?;
         self.machines.reserve(1)?;
-        self.turns.reserve(1)?;
+        self.queue.reserve(1)?;
         self.alarms.reserve(1)?;
         self.listeners.reserve(1)?;
         self.stale.reserve(1)
@@ -143,30 +143,30 @@ impl Instances {
         ensures moment { self.new.moment ≡ self.old.moment }
     {
         self.machines.insert(id, instance.into_machine()).unwrap();
-        self.turns.add();
+        self.queue.add();
         self.alarms.add();
         self.listeners.add(self.alloc);
         self.stale.add();
     }
 
-    /// The instance of a number takes a step that was prepared, and gets a turn. It takes no memory.
+    /// The instance of a number takes a step that was prepared, and joins the queue. It takes no memory.
     pub fn take(&mut self, number: usize, step: Step)
         requires { FitsAt number step self.old.instances }
         ensures instances { self.new.instances ≡ take_at number step self.old.instances }
         ensures moment { self.new.moment ≡ self.old.moment }
     {
-        self.turns.put(number);
+        self.queue.put(number);
         self.stale.put(number);
         self.machines[number].take(step);
         self.alarms.set(number, self.machines[number].alarm());
     }
 
-    /// A moment is reached: the instances whose wait is over get turns. It takes no memory.
+    /// A moment is reached: the instances whose wait is over get queue. It takes no memory.
     pub fn reach(&mut self, moment: Moment)
         ensures instances { self.new.instances ≡ self.old.instances }
         ensures moment { self.new.moment ≡ moment }
     {
-        self.alarms.wake(&mut self.turns, moment.milliseconds());
+        self.alarms.wake(&mut self.queue, moment.milliseconds());
         self.moment = moment;
     }
 }

@@ -10,14 +10,14 @@ use std::alloc::{AllocError, Global};
 use swf_listeners::{Listeners, Wanted};
 use swf_tasks::Machine;
 use swf_text::Text;
-use swf_turns::Turns;
+use swf_queue::Queue;
 
 /// What those listen for is noted of which it is not.
 pub fn note_all(
     alloc: Global,
     machines: &IndexMap<Text, Machine>,
     listeners: &mut Listeners,
-    stale: &mut Turns,
+    stale: &mut Queue,
 ) -> Result<(), AllocError>
     requires { Listening (instances_in machines.now.entries) listeners.old.wanted stale.old }
     ensures listening { Listening (instances_in machines.now.entries) listeners.new.wanted stale.new }

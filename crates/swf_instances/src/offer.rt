@@ -52,7 +52,7 @@ impl Instances {
         }
     }
 
-    /// Those that took an event are in their places now, and get turns. It takes no memory.
+    /// Those that took an event are in their places now, and get queue. It takes no memory.
     pub fn hear(&mut self, heard: Vec<Hearing>)
         requires from { AllByRecursion (IsHeardFrom self.old.instances) heard.items }
         ensures instances { self.new.instances ≡ put_all heard.items self.old.instances }

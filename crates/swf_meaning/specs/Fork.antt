@@ -85,9 +85,9 @@ settled l r compete ns (Done w flows.End) = Ok (becomes l (Done w flows.End))
 settled l r compete ns (Done w f) = if compete then complete l r w else joined l r ns (outputs ns)
 settled l r compete ns (Fault p) = Err p
 
--- what the `fork` comes to where it sees the context that the branch left
+-- what the `fork` comes to. A branch leaves the context as it was
 abbrev pub settling : Line → Running → Nodes → ℕ → Stepped → Stepped
-settling l r ns b m = let k = record l { context = m.context } in step_of k (settled k r (competes r.task) (put ns b m.node) m.node)
+settling l r ns b m = step_of l (settled l r (competes r.task) (put ns b m.node) m.node)
 
 -- a branch took its step
 abbrev pub after_branch : Line → Running → Nodes → ℕ → Stepped → Stepped

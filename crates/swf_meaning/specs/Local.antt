@@ -10,7 +10,7 @@ use Rattle.swf_meaning.specs.Line.{Line, Site}
 use Rattle.swf_meaning.specs.Listen.{heard}
 use Rattle.swf_meaning.specs.Lists.{list_of, goes_to}
 use Rattle.swf_meaning.specs.Next.{next}
-use Rattle.swf_meaning.specs.Node.{Node, Round, Seq, Each, Try, Catch, Running}
+use Rattle.swf_meaning.specs.Node.{Node, Round, Seq, Each, Try, Catch, Fun, Sub, Running}
 use Rattle.swf_meaning.specs.Parts.{Catching, kind_of, try_in}
 use Rattle.swf_meaning.specs.Put.{put_at}
 use Rattle.swf_meaning.specs.Strands.{tops, can_top}
@@ -32,6 +32,8 @@ failed s l r Seq p = Err p
 failed s l r (Each items j) p = Err p
 failed s l r (Try n) p = caught_by s l r n p (try_in (kind_of r.task))
 failed s l r (Catch q) p = Err p
+failed s l r Fun p = Err p
+failed s l r (Sub d v c) p = Err p
 
 -- Enter, Next, Catch and Pass up, and Wake: the rule that applies to the top of a strand; none where it waits on, splits or is over
 abbrev pub rule : Site → Line → Top → Option (Result Stepped Problem)

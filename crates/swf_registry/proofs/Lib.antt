@@ -1,3 +1,2 @@
 pub mod BuiltLemmas
 pub mod Lookups
-pub mod Versions

@@ -12,7 +12,8 @@ use crate::rule::Rule;
 use std::alloc::{AllocError, Global};
 use swf_document::{ErrorKind, Flow};
 use swf_scene::{Halt, Scene, before, behind, value_of};
-use swf_stack::{Made, TaskRef, Top};
+use swf_catalog::TaskRef;
+use swf_stack::{Made, Top};
 use swf_transform::{fill, is_within};
 use swf_value::Json;
 

@@ -6,7 +6,7 @@ ghost use Rattle.swf_meaning.specs.Local.{moved_on, failed};
 ghost use Rattle.swf_rules.specs.Goals.{goal_of};
 ghost use Rattle.swf_rules.specs.Rules.{line_in};
 ghost use Rattle.swf_scene.specs.Halts.{Makes};
-ghost use Rattle.swf_stack.specs.Stack.{round_of};
+ghost use Rattle.swf_catalog.specs.Rounds.{round_of};
 ghost use Rattle.swf_scene.specs.Setting.{line_of, site_of};
 
 use crate::completion::finished;
@@ -14,7 +14,8 @@ use crate::rule::Rule;
 use std::alloc::Global;
 use swf_document::{Flow, Named, Problem};
 use swf_scene::{Halt, Scene};
-use swf_stack::{Frame, Made, Round, Work};
+use swf_catalog::{Round, Work};
+use swf_stack::{Frame, Made};
 use swf_text::{Text, same_texts};
 use swf_value::Json;
 

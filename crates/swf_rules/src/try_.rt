@@ -5,7 +5,7 @@ ghost use Rattle.swf_meaning.specs.Try.{allows, retry_named, unless, conditions,
 ghost use Rattle.swf_rules.specs.Rules.{line_in, site_in};
 ghost use Rattle.swf_rules.specs.Verdicts.{verdict_of, Finds};
 ghost use Rattle.swf_scene.specs.Halts.{Gives, Makes};
-ghost use Rattle.swf_stack.specs.TaskRef.{catch_of};
+ghost use Rattle.swf_catalog.specs.TaskRef.{catch_of};
 
 use crate::rule::Rule;
 use std::alloc::AllocError;
@@ -15,7 +15,8 @@ use swf_document::{
 use swf_expr::Expr;
 use swf_jq_eval::Vars;
 use swf_scene::{Halt, catching, retrying};
-use swf_stack::{Made, Round};
+use swf_catalog::Round;
+use swf_stack::Made;
 use swf_text::{Text, same_texts};
 
 /// What is done about an error: it passes, since it is not caught; the list is tried again after a delay, in milliseconds; another

@@ -12,7 +12,8 @@ ghost use Rattle.swf_stack.specs.Stack.{waiting};
 use crate::completion::becoming;
 use crate::rule::Rule;
 use swf_scene::Halt;
-use swf_stack::{Made, Round, Top};
+use swf_catalog::Round;
+use swf_stack::{Made, Top};
 
 impl Rule<'_> {
     // The task waits for so long from now, a `try` for the retry of this number.

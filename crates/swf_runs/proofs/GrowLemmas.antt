@@ -7,7 +7,8 @@ use Rattle.swf_meaning.specs.World.{World, new_instance}
 use Rattle.swf_meaning.specs.declared.key.Key.TheVariants.{Document as OfDocument, Instance as OfInstance, Event as OfEvent, Moment as OfMoment}
 use Rattle.swf_meaning.specs.declared.label.Label.{Label}
 use Rattle.swf_meaning.specs.declared.label.Label.TheVariants.{Load, Start, Event as Told, Reply, Moment, Step}
-use Rattle.swf_runs.specs.After.{is_used, with_document, loaded, accepted, most_documents, document_at, with_instance, most_instances, with_event, stepped, sent, with_instances, counted, after}
+use Rattle.swf_meaning.specs.Documents.{document_at}
+use Rattle.swf_runs.specs.After.{is_used, with_document, loaded, accepted, most_documents, with_instance, most_instances, with_event, stepped, sent, with_instances, counted, after}
 use Rattle.swf_runs.specs.Grows.{Begins, origin, Grows}
 use Rattle.swf_runs.specs.Runs.{run_from, world_at, Legal}
 use Rattle.swf_runs.proofs.OnceLemmas.{mapped_some, refused_some}

@@ -25,7 +25,8 @@ use Rattle.swf_meaning.specs.declared.key.Key.TheVariants.{Document as OfDocumen
 use Rattle.swf_meaning.specs.declared.label.Label.{Label}
 use Rattle.swf_meaning.specs.declared.label.Label.TheVariants.{Load, Start, Event as Told, Reply, Moment, Step}
 use Rattle.swf_meaning.proofs.TopsLemmas.{strands_among, strands_among-branch, branches_in-fork, branches_in-at}
-use Rattle.swf_runs.specs.After.{is_used, with_document, loaded, accepted, most_documents, document_at, with_instance, most_instances, with_event, stepped, sent, with_instances, counted, after}
+use Rattle.swf_meaning.specs.Documents.{document_at}
+use Rattle.swf_runs.specs.After.{is_used, with_document, loaded, accepted, most_documents, with_instance, most_instances, with_event, stepped, sent, with_instances, counted, after}
 use Rattle.swf_runs.specs.Kept.{ids}
 use Rattle.swf_runs.specs.Within.{IsWithin}
 use Rattle.swf_runs.specs.Runs.{world_at, Legal}

@@ -17,7 +17,8 @@ use Rattle.swf_runs.specs.Keys.{same_key, doc_key, key_of, are_distinct, Once}
 use Rattle.swf_meaning.specs.declared.key.Key.{Key}
 use Rattle.swf_meaning.specs.declared.key.Key.TheVariants.{Document as OfDocument, Instance as OfInstance, Event as OfEvent, Activity as OfActivity, Moment as OfMoment}
 use Rattle.swf_meaning.specs.World.{World, empty, new_instance}
-use Rattle.swf_runs.specs.After.{is_used, with_document, loaded, load_faults, if_none, accepted, most_documents, document_at, with_instance, most_instances, with_event, stepped, sent, with_instances, counted, after}
+use Rattle.swf_meaning.specs.Documents.{document_at}
+use Rattle.swf_runs.specs.After.{is_used, with_document, loaded, load_faults, if_none, accepted, most_documents, with_instance, most_instances, with_event, stepped, sent, with_instances, counted, after}
 use Rattle.swf_runs.specs.Runs.{run_from, Legal}
 
 -- what is mapped to a value is a value

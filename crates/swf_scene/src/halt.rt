@@ -9,7 +9,7 @@ ghost use Rattle.swf_scene.specs.Halts.{IsFault, Gives};
 
 use std::alloc::{AllocError, AllocFailed, Global};
 use swf_document::{ErrorKind, Problem, standard_error};
-use swf_stack::TaskRef;
+use swf_catalog::TaskRef;
 use swf_transform::{Got, message};
 use swf_value::Json;
 

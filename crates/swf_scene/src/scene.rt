@@ -2,7 +2,8 @@
 ghost use Rattle.std.specs.Prelude.{◌≡◌, ◌++◌, [], IfOk};
 ghost use Rattle.swf_meaning.specs.Around.{seen};
 ghost use Rattle.swf_stack.specs.Stands.{inward};
-ghost use Rattle.swf_stack.specs.Stack.{seen_in, round_of};
+ghost use Rattle.swf_stack.specs.Stack.{seen_in};
+ghost use Rattle.swf_catalog.specs.Rounds.{round_of};
 ghost use Rattle.swf_scene.specs.Setting.{line_of, site_of, setting_line, alone};
 
 use crate::setting::Setting;
@@ -11,7 +12,8 @@ use std::alloc::{AllocError, Global};
 use swf_chain::Chain;
 use swf_duration::Moment;
 use swf_jq_eval::Variable;
-use swf_stack::{Frame, Round, TaskRef};
+use swf_catalog::{Round, TaskRef};
+use swf_stack::Frame;
 use swf_value::Json;
 
 /// What a step goes by: the instance's setting, its context, how many branches it has, the moment, and the variables around the task

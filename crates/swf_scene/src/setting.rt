@@ -6,7 +6,7 @@ ghost use Rattle.swf_meaning.specs.Line.{epoch, workflow_value};
 
 use std::alloc::{AllocError, Global};
 use swf_duration::Moment;
-use swf_stack::{SharedDocument, Words};
+use swf_catalog::{SharedDocument, Words};
 use swf_text::Text;
 use swf_value::{Json, Member};
 

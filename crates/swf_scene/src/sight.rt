@@ -7,16 +7,17 @@ ghost use Rattle.swf_meaning.specs.Line.{variable, last_part, task_value, of_wor
 ghost use Rattle.swf_meaning.specs.Around.{round_variables};
 ghost use Rattle.swf_meaning.specs.Parts.{kind_of};
 ghost use Rattle.swf_meaning.specs.Try.{catching, retrying};
-ghost use Rattle.swf_stack.specs.Stack.{round_of};
+ghost use Rattle.swf_catalog.specs.Rounds.{round_of};
 ghost use Rattle.swf_scene.specs.Setting.{line_of};
-ghost use Rattle.swf_stack.specs.TaskRef.{loop_variables};
+ghost use Rattle.swf_catalog.specs.TaskRef.{loop_variables};
 
 use crate::scene::Scene;
 use crate::setting::push_named;
 use std::alloc::{AllocError, Global};
 use swf_document::{ForSpec, Problem, problem_value};
 use swf_jq_eval::{Variable, Vars};
-use swf_stack::{Round, Running, TaskRef, Turn, Words, Work};
+use swf_catalog::{Round, TaskRef, Iteration, Words, Work};
+use swf_stack::Running;
 use swf_text::{Place, Text, pointer_text, word};
 use swf_value::Json;
 
@@ -69,17 +70,17 @@ fn position(number: u64) -> Json
     Json::int(number as i64)
 }
 
-// Adds the item of a turn and its position.
-fn push_turn(variables: &mut Vec<Variable>, spec: &ForSpec, turn: &Turn) -> Result<(), AllocError>
-    ensures { IfOk result (λ _. variables.new.items ≡ variables.old.items ++ loop_variables spec.now turn.now) }
+// Adds the item of a iteration and its position.
+fn push_iteration(variables: &mut Vec<Variable>, spec: &ForSpec, iteration: &Iteration) -> Result<(), AllocError>
+    ensures { IfOk result (λ _. variables.new.items ≡ variables.old.items ++ loop_variables spec.now iteration.now) }
 {
-    let items = turn.items.as_slice();
-    let place = turn.number as usize;
+    let items = iteration.items.as_slice();
+    let place = iteration.number as usize;
     if place >= items.len() {
         return Ok(());
     }
     push_variable(variables, &spec.each, items[place].copy()?)?;
-    push_variable(variables, &spec.at, position(turn.number))?;
+    push_variable(variables, &spec.at, position(iteration.number))?;
     Ok(())
 }
 
@@ -93,7 +94,7 @@ pub fn push_seen(
     ensures { IfOk result (λ _. variables.new.items ≡ variables.old.items ++ round_variables (kind_of task.now) (round_of round.now)) }
 {
     match (task.work(), round) {
-        (Work::For(spec), Round::Each(turn)) => push_turn(variables, spec, turn),
+        (Work::For(spec), Round::Each(iteration)) => push_iteration(variables, spec, iteration),
         (Work::Try(spec), Round::Catch(problem)) => {
             push_variable(variables, &spec.name, problem_value(alloc, problem)?)
         }

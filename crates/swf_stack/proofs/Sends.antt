@@ -1,41 +1,24 @@
 -- Which parts of an instance may go to another thread, and be lent to several: all of them. A lemma for each type, by those of its parts.
-use denote.RattleType.{RattleType}
 use denote.Param.Send.{IsSend, IsSync, sendable}
 use Rattle.std.proofs.Crossing.{crosses}
 use Rattle.std.proofs.option.Option.TheSendSync as option
 use Rattle.swf_value.proofs.list.JsonList.TheLaws.TheKnot as json_knot
-use Rattle.swf_value.specs.contracts.list.JsonList as json_list
 use Rattle.swf_chain.proofs.chain.Chain.TheLaws.TheKnot as chain_knot
 use Rattle.swf_chain.specs.contracts.chain.Chain as chain
 use Rattle.swf_cloudevents.specs.contracts.named.NamedValues as named
 use Rattle.swf_cloudevents.specs.contracts.event.Payload as payload
 use Rattle.swf_cloudevents.specs.contracts.event.Event as event
 use Rattle.swf_meaning.specs.contracts.heard.Heard as heard
-use Rattle.swf_document.proofs.Sent.{text_send, text_sync, json_send, json_sync, tasks_send, tasks_sync, document_send, document_sync, flow_inside_send, flow_inside_sync, listing_send, listing_sync, problem_inside_send, problem_inside_sync}
-use Rattle.swf_stack.specs.contracts.shared.Shared as shared
-use Rattle.swf_stack.specs.contracts.row.Begins as begins
-use Rattle.swf_stack.specs.contracts.row.Row as row
-use Rattle.swf_stack.specs.contracts.words.Variables as variables
-use Rattle.swf_stack.specs.contracts.words.Members as members
-use Rattle.swf_stack.specs.contracts.words.Words as words
-use Rattle.swf_stack.specs.contracts.numbered.NumberedDocument as numbered
-use Rattle.swf_stack.specs.contracts.task.TaskRef as task
+use Rattle.swf_document.proofs.Sent.{text_send, text_sync, json_send, json_sync, flow_inside_send, flow_inside_sync, listing_send, listing_sync, problem_inside_send, problem_inside_sync}
+use Rattle.swf_catalog.proofs.TaskSends.{task_send, task_sync, round_inside_send, round_inside_sync}
 use Rattle.swf_stack.specs.contracts.running.Running as running
 use Rattle.swf_stack.specs.contracts.sent.SentEvent as sent
-use Rattle.swf_stack.specs.contracts.made.Turn as turn
-use Rattle.swf_stack.specs.contracts.made.Round as round
 use Rattle.swf_stack.specs.contracts.made.Frame as frame
 use Rattle.swf_stack.specs.contracts.made.Top as top
 use Rattle.swf_stack.specs.contracts.made.Stand as stand
 use Rattle.swf_stack.specs.contracts.made.Made as made
 
 -- ---- what the crates below have
-
-pub json_list_send : IsSend json_list.the_row
-json_list_send = search (sendable, crosses, json_knot.crosses, text_send, text_sync) depth 20
-
-pub json_list_sync : IsSync json_list.the_row
-json_list_sync = search (sendable, crosses, json_knot.crosses, text_send, text_sync) depth 20
 
 pub named_send : IsSend named.the_row
 named_send = search (sendable, crosses, json_knot.crosses, text_send, text_sync) depth 20
@@ -73,70 +56,7 @@ heard_inside_sync = search (sendable, event_inside_sync) depth 20
 pub heard_sync : IsSync heard.the_row
 heard_sync = search (sendable, heard_inside_sync) depth 4
 
--- ---- what several share
-pub shared_send : (T : RattleType) → IsSend T → IsSync T → IsSend (shared.the_row T)
-shared_send T s y = search (sendable, crosses) depth 20
-
-pub shared_sync : (T : RattleType) → IsSend T → IsSync T → IsSync (shared.the_row T)
-shared_sync T s y = search (sendable, crosses) depth 20
-
--- ---- a document with its tasks by number
-
-pub begins_inside_send : IsSend (begins.the_field).row
-begins_inside_send = search (sendable) depth 20
-
-pub begins_inside_sync : IsSync (begins.the_field).row
-begins_inside_sync = search (sendable) depth 20
-
-pub row_inside_send : IsSend (row.the_field).row
-row_inside_send = search (sendable, tasks_send, begins_inside_send) depth 20
-
-pub row_send : IsSend row.the_row
-row_send = search (sendable, row_inside_send) depth 4
-
-pub row_inside_sync : IsSync (row.the_field).row
-row_inside_sync = search (sendable, tasks_sync, begins_inside_sync) depth 20
-
-pub row_sync : IsSync row.the_row
-row_sync = search (sendable, row_inside_sync) depth 4
-
-pub variables_inside_send : IsSend (variables.the_field).row
-variables_inside_send = search (sendable, text_send) depth 20
-
-pub variables_inside_sync : IsSync (variables.the_field).row
-variables_inside_sync = search (sendable, text_sync) depth 20
-
-pub members_inside_send : IsSend (members.the_field).row
-members_inside_send = search (sendable, text_send) depth 20
-
-pub members_inside_sync : IsSync (members.the_field).row
-members_inside_sync = search (sendable, text_sync) depth 20
-
-pub words_send : IsSend words.the_row
-words_send = search (sendable, variables_inside_send, members_inside_send) depth 20
-
-pub words_sync : IsSync words.the_row
-words_sync = search (sendable, variables_inside_sync, members_inside_sync) depth 20
-
-pub numbered_send : IsSend numbered.the_row
-numbered_send = search (sendable, crosses, document_send, document_sync, begins_inside_send, row_send, words_send) depth 20
-
-pub numbered_sync : IsSync numbered.the_row
-numbered_sync = search (sendable, crosses, document_send, document_sync, begins_inside_sync, row_sync, words_sync) depth 20
-
-pub shared_document_send : IsSend (shared.the_row numbered.the_row)
-shared_document_send = search (sendable, shared_send, numbered_send, numbered_sync) depth 20
-
-pub shared_document_sync : IsSync (shared.the_row numbered.the_row)
-shared_document_sync = search (sendable, shared_sync, numbered_send, numbered_sync) depth 20
-
 -- ---- a task, and what a strand holds
-
-pub task_send : IsSend task.the_row
-task_send = search (sendable, shared_document_send) depth 20
-
-pub task_sync : IsSync task.the_row
-task_sync = search (sendable, shared_document_sync) depth 20
 
 pub running_send : IsSend running.the_row
 running_send = search (sendable, task_send, json_send) depth 20
@@ -149,18 +69,6 @@ sent_send = search (sendable, crosses, event_send) depth 20
 
 pub sent_sync : IsSync sent.the_row
 sent_sync = search (sendable, crosses, event_sync) depth 20
-
-pub turn_inside_send : IsSend (turn.the_field).row
-turn_inside_send = search (sendable, json_list_send) depth 20
-
-pub turn_inside_sync : IsSync (turn.the_field).row
-turn_inside_sync = search (sendable, json_list_sync) depth 20
-
-pub round_inside_send : IsSend (round.the_field).row
-round_inside_send = search (sendable, turn_inside_send, problem_inside_send) depth 20
-
-pub round_inside_sync : IsSync (round.the_field).row
-round_inside_sync = search (sendable, turn_inside_sync, problem_inside_sync) depth 20
 
 pub frame_inside_send : IsSend (frame.the_field).row
 frame_inside_send = search (sendable, running_send, round_inside_send) depth 20

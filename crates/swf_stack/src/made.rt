@@ -3,34 +3,14 @@ ghost use Rattle.std.specs.Prelude.{◌≡◌, ◌<◌, ◌-◌, ◌^◌, ◌++�
 
 use crate::running::Running;
 use crate::sent::SentEvent;
-use crate::task::TaskRef;
 use std::alloc::{AllocError, Global};
+use swf_catalog::{Round, TaskRef};
 use swf_chain::Chain;
 use swf_cloudevents::NamedValues;
 use swf_document::{Flow, Listing, Problem};
 use swf_frames::CopyFrame;
 use swf_meaning::Heard;
-use swf_value::{Json, JsonList};
-
-/// A turn of a `for` over some items.
-#[derive(Drop)]
-pub struct Turn {
-    pub items: JsonList,
-    pub number: u64,
-    ghost few: { number < 2 ^ 53 },
-}
-
-/// For what a task runs its list.
-#[derive(Drop)]
-pub enum Round {
-    /// Once.
-    Seq,
-    Each(Turn),
-    /// The attempt of a `try` after so many retries.
-    Try { retries: u64 },
-    /// To handle an error.
-    Catch(Problem),
-}
+use swf_value::Json;
 
 /// A task that runs, and the place of what runs in its list.
 #[derive(Drop)]
@@ -84,23 +64,6 @@ pub struct Made {
     pub top: Top,
     pub context: Json,
     pub emitted: Option<SentEvent>,
-}
-
-impl Round {
-    /// The same once more. It copies no values.
-    pub fn copy(&self) -> Result<Round, AllocError>
-        ensures { IfOk result (λ r. r ≡ self.now) }
-    {
-        match self {
-            Round::Seq => Ok(Round::Seq),
-            Round::Each(turn) => Ok(Round::Each(Turn {
-                items: turn.items.copy()?,
-                number: turn.number,
-            })),
-            Round::Try { retries } => Ok(Round::Try { retries: *retries }),
-            Round::Catch(problem) => Ok(Round::Catch(problem.copy()?)),
-        }
-    }
 }
 
 impl Top {

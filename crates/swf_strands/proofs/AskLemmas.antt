@@ -19,7 +19,8 @@ use Rattle.swf_meaning.specs.Wake.{waits}
 use Rattle.swf_meaning.specs.declared.heard.Heard.{Heard}
 use Rattle.swf_meaning.proofs.TopsLemmas.{enabled_among, enabled_among-branch, waits-at}
 use Rattle.swf_stack.specs.Stands.{frames_of, top_of}
-use Rattle.swf_stack.specs.Stack.{plug, top_node, forked, waiting, round_of}
+use Rattle.swf_stack.specs.Stack.{plug, top_node, forked, waiting}
+use Rattle.swf_catalog.specs.Rounds.{round_of}
 use Rattle.swf_stack.specs.declared.made.Frame.{Frame}
 use Rattle.swf_stack.specs.declared.made.Stand.{Stand}
 use Rattle.swf_stack.specs.declared.made.Top.{Top}

@@ -7,7 +7,8 @@ use Rattle.swf_meaning.specs.Node.{Node, Live, Forked}
 use Rattle.swf_meaning.specs.Strands.{strands}
 use Rattle.swf_meaning.proofs.TopsLemmas.{strands_from, strands_from-branch, strands-at}
 use Rattle.swf_stack.specs.Stands.{frames_of, top_of}
-use Rattle.swf_stack.specs.Stack.{plug, top_node, round_of}
+use Rattle.swf_stack.specs.Stack.{plug, top_node}
+use Rattle.swf_catalog.specs.Rounds.{round_of}
 use Rattle.swf_stack.specs.declared.made.Frame.{Frame}
 use Rattle.swf_stack.specs.declared.made.Stand.{Stand}
 use Rattle.swf_stack.specs.declared.made.Top.{Top}

@@ -1,4 +1,4 @@
-// Which strand has the next turn: they take turns in the order of their names.
+// Which strand has the next iteration: they take iterations in the order of their names.
 ghost use Rattle.std.specs.Prelude.{◌≡◌, OnOk, IfOk, Some, true, false};
 ghost use Rattle.swf_frames.specs.Tree.{Branch, find};
 ghost use Rattle.swf_meaning.specs.Local.{is_enabled};

@@ -9,7 +9,8 @@ use Rattle.swf_meaning.specs.Strands.{branches_in, can_go}
 use Rattle.swf_meaning.specs.World.{Instance, line_of, site_of, with_step}
 use Rattle.swf_meaning.proofs.TopsLemmas.{strands_among, strands_among-branch, branches_in-at, branches_in-fork}
 use Rattle.swf_stack.specs.Stands.{frames_of, top_of}
-use Rattle.swf_stack.specs.Stack.{plug, top_node, used_by, round_of}
+use Rattle.swf_stack.specs.Stack.{plug, top_node, used_by}
+use Rattle.swf_catalog.specs.Rounds.{round_of}
 use Rattle.swf_scene.specs.Setting.{setting_line, instance_of}
 use Rattle.swf_stack.specs.declared.made.Frame.{Frame}
 use Rattle.swf_stack.specs.declared.made.Stand.{Stand}

@@ -21,7 +21,8 @@ use Rattle.swf_meaning.specs.declared.heard.Heard.{Heard}
 use Rattle.swf_rules.specs.Woken.{woken_to}
 use Rattle.swf_scene.specs.Halts.{Makes}
 use Rattle.swf_stack.specs.Stands.{inward}
-use Rattle.swf_stack.specs.Stack.{plug, top_node, stepped_of, round_of, seen_in, waiting}
+use Rattle.swf_stack.specs.Stack.{plug, top_node, stepped_of, seen_in, waiting}
+use Rattle.swf_catalog.specs.Rounds.{round_of}
 use Rattle.swf_scene.specs.declared.halt.Halt.{Halt}
 use Rattle.swf_stack.specs.declared.made.Frame.{Frame}
 use Rattle.swf_stack.specs.declared.made.Made.{Made}

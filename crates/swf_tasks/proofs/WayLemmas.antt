@@ -15,7 +15,8 @@ use Rattle.swf_meaning.specs.Top.{top_is}
 use Rattle.swf_meaning.specs.World.{Instance}
 use Rattle.swf_meaning.specs.declared.heard.Heard.{Heard}
 use Rattle.swf_stack.specs.Stands.{frames_of, inward, top_of}
-use Rattle.swf_stack.specs.Stack.{plug, top_node, forked, waiting, round_of}
+use Rattle.swf_stack.specs.Stack.{plug, top_node, forked, waiting}
+use Rattle.swf_catalog.specs.Rounds.{round_of}
 use Rattle.swf_scene.specs.Setting.{instance_of}
 use Rattle.swf_stack.specs.declared.made.Frame.{Frame}
 use Rattle.swf_stack.specs.declared.made.Stand.{Stand}

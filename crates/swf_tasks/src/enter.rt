@@ -14,7 +14,8 @@ use std::alloc::Global;
 use swf_document::{Flow, Template};
 use swf_rules::{Rule, input_of};
 use swf_scene::{Halt, Scene, within};
-use swf_stack::{Made, Round, Running, TaskRef, Top, Work};
+use swf_catalog::{Round, TaskRef, Work};
+use swf_stack::{Made, Running, Top};
 use swf_value::Json;
 
 // A `set` gives what its template is filled to.

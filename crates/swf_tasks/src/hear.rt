@@ -13,7 +13,8 @@ use swf_document::Listing;
 use swf_meaning::Heard;
 use swf_rules::Rule;
 use swf_scene::Halt;
-use swf_stack::{Made, TaskRef, Top, Work, takes};
+use swf_catalog::{TaskRef, Work};
+use swf_stack::{Made, Top, takes};
 
 // What a task has bound after an event that it takes, and the event with the place of its filter.
 fn taken(

@@ -9,7 +9,8 @@ ghost use Rattle.swf_meaning.specs.Shared.{advanced, is_shared, is_shared_error}
 ghost use Rattle.swf_meaning.specs.Strands.{can_go, strands};
 ghost use Rattle.swf_meaning.specs.World.{new_instance, step_at};
 ghost use Rattle.swf_stack.specs.Stands.{inward};
-ghost use Rattle.swf_stack.specs.Stack.{plug, round_of, used_by};
+ghost use Rattle.swf_stack.specs.Stack.{plug, used_by};
+ghost use Rattle.swf_catalog.specs.Rounds.{round_of};
 ghost use Rattle.swf_tasks.specs.EventTypes.{event_types};
 ghost use Rattle.swf_tasks.specs.Installed.{output_in, problem_in};
 ghost use Rattle.swf_strands.specs.Alarm.{alarm_of};
@@ -34,7 +35,8 @@ use swf_document::Problem;
 use swf_duration::Moment;
 use swf_frames::Forest;
 use swf_scene::{Scene, Setting};
-use swf_stack::{Frame, Round, SentEvent, SharedDocument, Stand, TaskRef, Top, Work, is_heard};
+use swf_catalog::{Round, SharedDocument, TaskRef, Work};
+use swf_stack::{Frame, SentEvent, Stand, Top, is_heard};
 use swf_strands::{
     alarm_in, branches_of, enabled_here, enabled_in, forked, lead_in, lead_on, list_strands, named,
     own_until, put_kept, stand_of, strand_at,
@@ -51,7 +53,7 @@ pub struct Machine {
     forest: Forest<Stand>,
     setting: Setting,
     /// The strand that took the last step.
-    turn: Strand,
+    last: Strand,
     /// The least moment that a strand waits for, in milliseconds.
     alarm: Option<u64>,
 }
@@ -136,7 +138,7 @@ impl Machine {
         Ok(Machine {
             setting: Setting::new(alloc, document, id, input, now)?,
             forest: Forest::new(alloc, Stand::alone(Top::Fresh { task, raw }))?,
-            turn: Strand::root(alloc),
+            last: Strand::root(alloc),
             alarm: None,
         })
     }
@@ -148,7 +150,7 @@ impl Machine {
         Ok(Machine {
             setting: self.setting.copy()?,
             forest: self.forest.copy(alloc)?,
-            turn: named(alloc, self.turn.as_slice())?,
+            last: named(alloc, self.last.as_slice())?,
             alarm: self.alarm,
         })
     }
@@ -177,7 +179,7 @@ impl Machine {
     {
         let root = self.forest.root();
         let mut path = Vec::new(alloc);
-        if !lead_on(&self.forest, root, self.turn.as_slice(), now, &mut path)? {
+        if !lead_on(&self.forest, root, self.last.as_slice(), now, &mut path)? {
             if !self.is_enabled(now) {
                 return Ok(None);
             }
@@ -288,7 +290,7 @@ impl Machine {
         self.alarm = put_kept(&mut self.forest, changed, stand, self.alarm);
         self.setting.context = context;
         self.setting.number = number;
-        self.turn = strand;
+        self.last = strand;
     }
 
     // What the step of a strand makes of the instance.
@@ -358,7 +360,7 @@ impl Machine {
         Ok(Machine {
             setting,
             forest,
-            turn: strand,
+            last: strand,
             alarm,
         })
     }

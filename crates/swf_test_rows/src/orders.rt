@@ -4,7 +4,7 @@ use crate::values;
 use std::alloc::Global;
 use std::io;
 use swf_duration::Moment;
-use swf_stack::{SharedDocument, share_document};
+use swf_catalog::{SharedDocument, share_document};
 use swf_tasks::Machine;
 use swf_test_tables::{add_line, add_outcome, no_meaning, split};
 use swf_text::{Strand, Text};

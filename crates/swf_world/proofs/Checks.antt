@@ -17,7 +17,8 @@ use Rattle.swf_meaning.specs.Offer.{offered_all}
 use Rattle.swf_meaning.specs.World.{World, Instance, new_instance, step_at, with_step}
 use Rattle.swf_meaning.specs.Answer.{instance_at}
 use Rattle.swf_meaning.specs.Strands.{can_go}
-use Rattle.swf_runs.specs.After.{after, loaded, load_faults, accepted, is_used, counted, document_at, most_documents, most_instances, with_document, with_instance, with_event, with_instances, sent, taken_by}
+use Rattle.swf_meaning.specs.Documents.{document_at}
+use Rattle.swf_runs.specs.After.{after, loaded, load_faults, accepted, is_used, counted, most_documents, most_instances, with_document, with_instance, with_event, with_instances, sent, taken_by}
 use Rattle.swf_tasks.specs.Prepares.{applied}
 use Rattle.swf_tasks.specs.declared.machine.Step.{Step as Prepared}
 use Rattle.swf_world.specs.declared.change.Change.{Change}

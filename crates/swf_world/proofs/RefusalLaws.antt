@@ -11,7 +11,8 @@ use Rattle.swf_meaning.specs.Strands.{can_go}
 use Rattle.swf_meaning.specs.declared.key.Key.TheVariants as keys
 use Rattle.swf_meaning.specs.World.{line_of, site_of, World, Instance, step_at, new_instance}
 use Rattle.swf_meaning.specs.Answer.{instance_at}
-use Rattle.swf_runs.specs.After.{after, loaded, load_faults, accepted, document_at, most_documents, most_instances, with_document, with_instance, with_event, stepped, with_instances}
+use Rattle.swf_meaning.specs.Documents.{document_at}
+use Rattle.swf_runs.specs.After.{after, loaded, load_faults, accepted, most_documents, most_instances, with_document, with_instance, with_event, stepped, with_instances}
 use Rattle.swf_world.specs.declared.refusal.Refusal.{Refusal}
 use Rattle.swf_world.specs.declared.refusal.Refusal.TheVariants.{Stale, Full, Past, NotEnabled}
 use Rattle.swf_world.specs.Changes.{with_moment}

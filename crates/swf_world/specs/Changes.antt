@@ -17,7 +17,7 @@ use Rattle.swf_world.specs.declared.change.ChangeKind.{ChangeKind}
 use Rattle.swf_world.specs.declared.change.ChangeKind.TheVariants as kinds
 use Rattle.swf_instances.specs.declared.offer.Hearing.{Hearing}
 use Rattle.swf_instances.specs.Takes.{take_at}
-use Rattle.swf_registry.specs.declared.documents.Loaded.{Loaded}
+use Rattle.swf_catalog.specs.declared.documents.Loaded.{Loaded}
 use Rattle.swf_instances.specs.Offers.{put_all, IsHeardFrom}
 
 -- a document under its own key, which was not used

@@ -7,7 +7,7 @@ use std::alloc::AllocError;
 use swf_document::DocKey;
 use swf_instances::Hearing;
 use swf_meaning::Key;
-use swf_registry::Loaded;
+use swf_catalog::Loaded;
 use swf_tasks::{BoxedMachine, SentEvent, Step};
 use swf_text::Text;
 

@@ -13,7 +13,8 @@ use crate::world::World;
 use std::alloc::AllocError;
 use swf_instances::Instances;
 use swf_meaning::Label;
-use swf_registry::{Documents, UsedKeys};
+use swf_catalog::Documents;
+use swf_registry::UsedKeys;
 
 /// How many labels a world takes.
 const MOST_LABELS: u64 = 1 << 40;

@@ -15,7 +15,8 @@ use std::alloc::{AllocError, Global};
 use swf_document::DocKey;
 use swf_meaning::Key;
 use swf_reader::ReadFault;
-use swf_registry::{Loaded, Sought, loadable_document};
+use swf_catalog::Loaded;
+use swf_registry::{Sought, loadable_document};
 use swf_validate::Accepted;
 use swf_value::Json;
 
@@ -67,7 +68,7 @@ impl World {
 fn load_change(alloc: Global, value: &Json, document: &Accepted) -> Result<Change, AllocError>
     ensures { IfOk result (λ c. c ≡ load_of value.now document.now) }
 {
-    let loaded = Loaded::new(alloc, value.copy()?, document)?;
+    let loaded = Loaded::new(alloc, value.copy()?, document.shared()?)?;
     let key = document.document().key.copy()?;
     let used = Key::Document(key.copy()?);
     Ok(untold(ChangeKind::Load { key, used, loaded }))

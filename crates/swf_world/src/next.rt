@@ -21,7 +21,7 @@ impl World {
         ensures some { IfOk result (λ o. IfSome o (IsPreparedStep self.new.world)) }
         ensures room { IfOk result (λ o. IfSome o (λ _. 0 < self.new.room)) }
     {
-        let Some(turn) = self.instances.next_turn(self.alloc)? else {
+        let Some(turn) = self.instances.next_step(self.alloc)? else {
             return Ok(None);
         };
         self.make_room()?;

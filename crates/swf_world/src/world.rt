@@ -8,7 +8,8 @@ use std::marker::Model;
 use swf_cloudevents::Event;
 use swf_duration::Moment;
 use swf_instances::Instances;
-use swf_registry::{Documents, UsedKeys};
+use swf_catalog::Documents;
+use swf_registry::UsedKeys;
 use swf_text::Text;
 
 /// The world. Contracts see it as the world of the definitions, and how many more changes fit without memory.

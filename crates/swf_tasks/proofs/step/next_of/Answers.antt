@@ -7,7 +7,8 @@ use Rattle.swf_scene.specs.Halts.{Makes}
 use Rattle.swf_meaning.specs.Local.{failed}
 use Rattle.swf_meaning.specs.Enter.{enter}
 use Rattle.swf_stack.specs.Stands.{inward}
-use Rattle.swf_stack.specs.Stack.{plug, round_of, seen_in, top_node}
+use Rattle.swf_stack.specs.Stack.{plug, seen_in, top_node}
+use Rattle.swf_catalog.specs.Rounds.{round_of}
 use Rattle.swf_scene.specs.Setting.{line_of, site_of}
 use Rattle.swf_scene.specs.declared.halt.Halt.{Halt}
 use Rattle.swf_stack.specs.declared.made.Made.{Made}

@@ -61,7 +61,7 @@ invariant_of-self c =
     let alarms = c.self.inside.alarms.moments in
     let wanted = c.self.inside.listeners.wanted in
     let took : instances_in fs ≡ take_at n step (instances_in es) = ap (λ j. instances_in (set_value_at es n j)) c.take.ensures ∙ set_taken es n step i there in
-    let waiting = waiting_put es fs c.self.inside.moment n c.self.inside.turns c.put.new.self alarms step i k c.self.invariant.waiting there
+    let waiting = waiting_put es fs c.self.inside.moment n c.self.inside.queue c.put.new.self alarms step i k c.self.invariant.waiting there
     took c.put.ensures.among c.put.ensures.count (instance_there fs n k c.index.ensures) in
     record {
       held = held_set es n c.take.new.self c.self.invariant.held (ap (option_map (λ i. i.id)) there ∙ ap (λ id. Some id) (sym (ap (λ j. j.id) c.take.ensures ∙ fits_id step i fits)));

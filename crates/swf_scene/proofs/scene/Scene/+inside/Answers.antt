@@ -5,7 +5,8 @@ use Rattle.swf_meaning.specs.Around.{seen}
 use Rattle.swf_meaning.specs.Line.{Line}
 use Rattle.swf_scene.specs.Setting.{line_of}
 use Rattle.swf_stack.proofs.RoundLemmas.{seen_in-append}
-use Rattle.swf_stack.specs.Stack.{round_of, seen_in}
+use Rattle.swf_catalog.specs.Rounds.{round_of}
+use Rattle.swf_stack.specs.Stack.{seen_in}
 use Rattle.swf_stack.specs.Stands.{inward}
 use Rattle.swf_scene.proofs.scene.Scene.+inside.Goals as goal
 
