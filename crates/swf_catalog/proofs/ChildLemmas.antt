@@ -9,7 +9,7 @@ use Rattle.swf_document.specs.declared.document.Document.{Document}
 use Rattle.swf_meaning.specs.Fork.{branches_of}
 use Rattle.swf_meaning.specs.Lists.{list_of, tasks_of_handler}
 use Rattle.swf_meaning.specs.Next.{task_at}
-use Rattle.swf_meaning.specs.Node.{Round, Seq, Each, Try, Catch}
+use Rattle.swf_meaning.specs.Node.{Round, Seq, Each, Try, Catch, Fun, Sub}
 use Rattle.swf_meaning.specs.Parts.{workflow}
 use Rattle.swf_catalog.specs.Numbers.{Entry, all, begin, begin_of, begins, begins_of, behind, both, count, entries, handler_begin, inner_task, inside, inside_task, inside_kind, inside_handler, numbered, or_nothing, own, with_own}
 use Rattle.swf_catalog.specs.Rows.{entries_of, entry_of}
@@ -75,6 +75,8 @@ holds-both es n ts h Seq = h
 holds-both es n ts h (Each items j) = h
 holds-both es n ts h (Try m) = h
 holds-both es n ts h (Catch p) = h
+holds-both es n ts h Fun = h
+holds-both es n ts h (Sub d v c) = h
 
 -- of a `try`
 placed-try : (es : List Entry) (n : ℕ) (c : Common) (x : Caught) (ts : Tasks) (h : Handler) → Holds es (begin n ts) ts → Holds es (handler_begin (behind n ts) h) (tasks_of_handler h)
@@ -83,6 +85,8 @@ placed-try es n c x ts h tried handled Seq = tried
 placed-try es n c x ts h tried handled (Each items j) = tried
 placed-try es n c x ts h tried handled (Try m) = tried
 placed-try es n c x ts h tried handled (Catch p) = handled
+placed-try es n c x ts h tried handled Fun = tried
+placed-try es n c x ts h tried handled (Sub d v u) = tried
 
 placed-task : (es : List Entry) (n : ℕ) (t : Task) → Stand es n (inside_task n t) → IsPlaced es (record { task = t; begins = begins n t })
 placed-task es n (task c (call x)) s = record { lists = λ r. holds-none es _; branches = holds-none es _ }

@@ -3,15 +3,11 @@ use Rattle.std.proofs.Common.{◌≡◌, ◌∙◌, ◌<◌, ◌≤◌, ◌^◌,
 use Rattle.std.proofs.Math.Bridge.{le_prop}
 use Rattle.std.proofs.lemmas.Option.{slice_get_past, slice_get_read}
 use Rattle.swf_value.specs.Value.{Value, int}
+use Rattle.swf_meaning.specs.Around.{iteration_variables}
 use Rattle.swf_meaning.specs.Line.{variable}
 use Rattle.swf_jq_eval.specs.declared.vars.Variable.{Variable}
 use Rattle.swf_document.specs.declared.tasks.ForSpec.{ForSpec}
-use Rattle.swf_meaning.specs.Around.{seen, iteration_variables}
-use Rattle.swf_meaning.specs.Line.{Line}
-use Rattle.swf_catalog.specs.Rounds.{round_of}
-use Rattle.swf_stack.specs.Stack.{seen_in}
 use Rattle.swf_catalog.specs.TaskRef.{loop_of, loop_variables}
-use Rattle.swf_stack.specs.declared.made.Frame.{Frame}
 use Rattle.swf_catalog.specs.declared.round.Iteration.{Iteration}
 
 -- an iteration whose items are those of another is that one

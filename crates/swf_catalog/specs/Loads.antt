@@ -1,7 +1,8 @@
 -- What the map of documents stands for: the list of the definitions.
-use Rattle.std.specs.Prelude.{◌≡◌, List, map}
+use Rattle.std.specs.Prelude.{◌≡◌, ◌&&◌, refl, List, Bool, true, false, map}
+use Rattle.swf_text.specs.Same.{same}
 use Rattle.swf_document.specs.declared.document.DocKey.{DocKey}
-use Rattle.swf_meaning.specs.Documents.{Loaded as WorldLoaded}
+use Rattle.swf_meaning.specs.Documents.{Loaded as WorldLoaded, same_doc}
 use Rattle.swf_catalog.specs.declared.documents.Loaded.{Loaded}
 
 abbrev pub loaded_of : Loaded → WorldLoaded

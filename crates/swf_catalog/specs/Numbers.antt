@@ -4,7 +4,7 @@ use Rattle.swf_document.specs.Task.{Task, task, Tasks, no_tasks, named, Kind, do
 use Rattle.swf_document.specs.declared.document.Document.{Document}
 use Rattle.swf_document.specs.declared.common.Flow.TheVariants as flows
 use Rattle.swf_meaning.specs.Next.{task_at}
-use Rattle.swf_meaning.specs.Node.{Round, Seq, Each, Try, Catch}
+use Rattle.swf_meaning.specs.Node.{Round, Seq, Each, Try, Catch, Fun, Sub}
 use Rattle.swf_meaning.specs.Parts.{workflow}
 use Rattle.swf_catalog.specs.declared.row.Begins.{Begins}
 
@@ -22,6 +22,8 @@ begin_of Seq b = b.tasks
 begin_of (Each items j) b = b.tasks
 begin_of (Try n) b = b.tasks
 begin_of (Catch p) b = b.handler
+begin_of Fun b = b.tasks
+begin_of (Sub d v c) b = b.tasks
 
 -- how many tasks a list has itself
 abbrev pub count : Tasks → ℕ
