@@ -10,8 +10,8 @@ use Rattle.swf_stack.specs.Stack.{plug, top_node}
 use Rattle.swf_stack.specs.declared.made.Frame.{Frame}
 use Rattle.swf_stack.specs.declared.made.Top.{Top}
 use Rattle.swf_stack.specs.declared.made.Top.TheVariants as tops
-use Rattle.swf_tasks.specs.Offers.{heard_by, offered_top}
-use Rattle.swf_tasks.specs.Taken.{IsOffered}
+use Rattle.swf_offers.specs.Offers.{heard_by, offered_top}
+use Rattle.swf_offers.specs.Offers.{IsOffered}
 
 -- inside running tasks the number is that of what stands innermost
 pub takers-plug : (e : Event) (fs : List Frame) (n : Node) → (offered e (plug fs n)).1 ≡ (offered e n).1

@@ -28,6 +28,11 @@ offered_top e (tops.Fault p) = tops.Fault p
 offered_top e (tops.Waiting r n m) = tops.Waiting r n m
 offered_top e (tops.Forked r) = tops.Forked r
 
+-- what stands innermost after an event that it takes, where it takes it
+abbrev pub IsOffered : Top → Event → Option Top → Type 0
+IsOffered t e None = offered e (top_node t) ≡ (top_node t, 0)
+IsOffered t e (Some x) = offered e (top_node t) ≡ (top_node x, 1)
+
 abbrev pub offered_stand : Event → Stand → Stand
 offered_stand e h = record h { top = offered_top e h.top }
 

@@ -2,8 +2,8 @@ use Rattle.std.proofs.Common.{ap, arith, sym}
 use Rattle.swf_stack.specs.Stands.{top_of}
 use Rattle.swf_strands.proofs.AskLemmas.{child-place, fewer}
 use Rattle.swf_strands.proofs.TreeLemmas.{child-held}
-use Rattle.swf_tasks.proofs.EventTypeLemmas.{typed-first, typed-more, typed-all}
-use Rattle.swf_tasks.proofs.event_types.+list_types.Goals as goal
+use Rattle.swf_offers.proofs.EventTypeLemmas.{typed-first, typed-more, typed-all}
+use Rattle.swf_offers.proofs.event_types.+list_types.Goals as goal
 
 pub loop-child-init : goal.loop-child-init
 loop-child-init t c = (

@@ -3,32 +3,32 @@ ghost use Rattle.std.specs.Prelude.{◌≡◌, ◌∷◌, [], IfOk, Some, nat_lt
 ghost use Rattle.swf_frames.specs.Tree.{Branch, find};
 ghost use Rattle.swf_meaning.specs.Offer.{offered};
 ghost use Rattle.swf_stack.specs.declared.made.Stand.{Stand as TheStand};
-ghost use Rattle.swf_tasks.specs.Offers.{IsOfferIn, IsOfferHere};
+ghost use Rattle.swf_offers.specs.Offers.{IsOfferIn, IsOfferHere};
 ghost use Rattle.swf_strands.specs.Strands.{IsHeld, node_of};
 
 use crate::hear::{hears, offered};
 use std::alloc::{AllocError, Global};
-use swf_cloudevents::Event;
 use swf_frames::{Forest, StrandId};
 use swf_stack::Stand;
 use swf_strands::{child_of, stand_of};
+use swf_transform::Offer;
 
 /// Whether a strand, or one below it, takes an event.
 pub fn hears_in(
     alloc: Global,
     forest: &Forest<Stand>,
     strand: StrandId,
-    event: &Event,
+    offer: &Offer,
 ) -> Result<bool, AllocError>
     requires { IsHeld forest.now strand }
-    ensures { IfOk result (λ h. (b : Branch TheStand) → find forest.now.strands strand ≡ Some b → h ≡ nat_lt 0 (offered event.now (node_of b)).1) }
+    ensures { IfOk result (λ h. (b : Branch TheStand) → find forest.now.strands strand ≡ Some b → h ≡ nat_lt 0 (offered offer.now (node_of b)).1) }
 {
-    if hears(alloc, &stand_of(forest, strand).top, event)? {
+    if hears(alloc, &stand_of(forest, strand).top, offer)? {
         return Ok(true);
     }
     let mut number = 0;
     while let Some(child) = child_of(forest, strand, number) {
-        if hears_in(alloc, forest, child, event)? {
+        if hears_in(alloc, forest, child, offer)? {
             return Ok(true);
         }
         number += 1;
@@ -41,15 +41,15 @@ pub fn offer_in(
     alloc: Global,
     forest: &mut Forest<Stand>,
     strand: StrandId,
-    event: &Event,
+    offer: &Offer,
 ) -> Result<u32, AllocError>
     requires { IsHeld forest.old strand }
-    ensures { IfOk result (λ taken. (b : Branch TheStand) → find forest.old.strands strand ≡ Some b → IsOfferIn event.now strand b forest.old forest.new taken) }
+    ensures { IfOk result (λ taken. (b : Branch TheStand) → find forest.old.strands strand ≡ Some b → IsOfferIn offer.now strand b forest.old forest.new taken) }
 {
-    let mut taken = offer_here(alloc, forest, strand, event)?;
+    let mut taken = offer_here(alloc, forest, strand, offer)?;
     let mut number = 0;
     while let Some(child) = child_of(forest, strand, number) {
-        let more = offer_in(alloc, forest, child, event)?;
+        let more = offer_in(alloc, forest, child, offer)?;
         taken = taken.checked_add(more).ok_or(AllocError)?;
         number += 1;
     }
@@ -61,13 +61,13 @@ fn offer_here(
     alloc: Global,
     forest: &mut Forest<Stand>,
     strand: StrandId,
-    event: &Event,
+    offer: &Offer,
 ) -> Result<u32, AllocError>
     requires { IsHeld forest.old strand }
-    ensures { IfOk result (λ taken. (b : Branch TheStand) → find forest.old.strands strand ≡ Some b → IsOfferHere event.now strand b forest.old forest.new taken) }
+    ensures { IfOk result (λ taken. (b : Branch TheStand) → find forest.old.strands strand ≡ Some b → IsOfferHere offer.now strand b forest.old forest.new taken) }
 {
     let stand = stand_of(forest, strand);
-    let Some(top) = offered(alloc, &stand.top, event)? else {
+    let Some(top) = offered(alloc, &stand.top, offer)? else {
         return Ok(0);
     };
     let around = stand.around.copy()?;

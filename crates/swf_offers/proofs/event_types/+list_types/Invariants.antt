@@ -1,8 +1,8 @@
 use Rattle.std.proofs.Common.{◌≤◌, ◌-◌}
 use Rattle.swf_strands.specs.Strands.{most_beside}
 use Rattle.swf_strands.proofs.AskLemmas.{below_held}
-use Rattle.swf_tasks.proofs.EventTypeLemmas.{AreTyped}
-use Rattle.swf_tasks.proofs.event_types.+list_types.Given as goal
+use Rattle.swf_offers.proofs.EventTypeLemmas.{AreTyped}
+use Rattle.swf_offers.proofs.event_types.+list_types.Given as goal
 
 -- how many strands stand below
 abbrev pub decreases-list_types : goal.decreases-list_types

@@ -2,8 +2,9 @@
 ghost use Rattle.std.specs.Prelude.{◌≡◌, ◌++◌, IfOk, OnOk, Some, option_map};
 ghost use Rattle.swf_frames.specs.Tree.{Branch, find};
 ghost use Rattle.swf_stack.specs.declared.made.Stand.{Stand as TheStand};
+ghost use Rattle.swf_stack.specs.Stack.{top_node};
 ghost use Rattle.swf_strands.specs.Strands.{IsHeld, node_of};
-ghost use Rattle.swf_tasks.specs.EventTypes.{event_types, own_types, text_in, type_told, types_left, types_told};
+ghost use Rattle.swf_offers.specs.EventTypes.{event_types, text_in, type_told, types_left, types_told};
 
 use std::alloc::AllocError;
 use swf_document::{Field, Filter, Template, TemplateNode};
@@ -35,7 +36,7 @@ pub fn list_types(
 
 // Adds those of a strand alone on which this stands innermost.
 fn list_own(top: &Top, types: &mut Vec<Option<Text>>) -> Result<(), AllocError>
-    ensures { OnOk result (types.new.items ≡ types.old.items ++ own_types top.now) }
+    ensures { OnOk result (types.new.items ≡ types.old.items ++ event_types (top_node top.now)) }
 {
     match top {
         Top::Hearing { running, heard, .. } => list_left(running.task(), heard.as_slice(), types),

@@ -19,11 +19,11 @@ use Rattle.swf_stack.specs.declared.made.Frame.{Frame}
 use Rattle.swf_stack.specs.declared.made.Stand.{Stand}
 use Rattle.swf_stack.specs.declared.made.Top.{Top}
 use Rattle.swf_stack.specs.declared.made.Top.TheVariants as tops
-use Rattle.swf_tasks.specs.Offers.{heard_by, offered_top, offered_stand, offered_stands, offered_strands, offered_first, offered_here, offered_to, offered_held, IsOfferHere, IsOfferIn}
+use Rattle.swf_offers.specs.Offers.{heard_by, offered_top, offered_stand, offered_stands, offered_strands, offered_first, offered_here, offered_to, offered_held, IsOfferHere, IsOfferIn}
 use Rattle.swf_strands.specs.Strands.{strand_node, nodes_of, node_of, root_node, is_fork, IsOne, IsStrand, IsGrown, IsGrownAt, IsHeld, most_beside}
-use Rattle.swf_tasks.specs.Taken.{IsOffered}
+use Rattle.swf_offers.specs.Offers.{IsOffered}
 use Rattle.swf_strands.proofs.AskLemmas.{below_held, fewer-by, nodes_from, from-child, from-end}
-use Rattle.swf_tasks.proofs.HearLemmas.{takers-plug, offered-none, offered-some}
+use Rattle.swf_offers.proofs.HearLemmas.{takers-plug, offered-none, offered-some}
 use Rattle.swf_strands.proofs.TreeLemmas.{nothing, fork-node, plain-node, root-holds, held-is, IsChild}
 
 -- ---- how many take the event

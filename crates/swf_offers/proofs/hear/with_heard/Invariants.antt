@@ -1,5 +1,5 @@
 use Rattle.std.proofs.Common.{◌≡◌, take}
-use Rattle.swf_tasks.proofs.hear.with_heard.Given as goal
+use Rattle.swf_offers.proofs.hear.with_heard.Given as goal
 
 -- what was heard up to here
 abbrev pub invariant-loop-earlier : goal.invariant-loop-earlier
