@@ -7,7 +7,7 @@ use Rattle.std.proofs.lemmas.Option.{same_Some}
 use Rattle.swf_listeners.specs.Listeners.{wanted_by}
 use Rattle.swf_listeners.specs.Wanted.{Wanted, nothing, wanted_of}
 use Rattle.swf_meaning.specs.World.{Instance}
-use Rattle.swf_tasks.specs.EventTypes.{event_types}
+use Rattle.swf_offers.specs.EventTypes.{event_types}
 use Rattle.swf_tasks.specs.declared.machine.Step.{Step}
 use Rattle.swf_queue.specs.Queue.{Queue, is_among}
 use Rattle.swf_instances.specs.Kept.{Listening}

@@ -18,7 +18,7 @@ use Rattle.swf_listeners.specs.Wanted.{Wanted, wants}
 use Rattle.swf_listeners.proofs.WantedLemmas.{wants_of}
 use Rattle.swf_listeners.proofs.WhoLemmas.{Passes, numbers_from, to_next, to_end, where_from}
 use Rattle.swf_queue.specs.Queue.{Queue, is_among}
-use Rattle.swf_tasks.specs.EventTypes.{event_types}
+use Rattle.swf_offers.specs.EventTypes.{event_types}
 use Rattle.swf_tasks.specs.declared.machine.Step.TheVariants.{Whole}
 
 -- an instance is put in its own place

@@ -1,7 +1,7 @@
 // What each instance listens for is noted.
 ghost use Rattle.std.specs.Prelude.{◌≡◌, ◌<◌, OnErr, OnOk, length, slice_set};
 ghost use Rattle.swf_listeners.specs.Wanted.{wanted_of};
-ghost use Rattle.swf_tasks.specs.EventTypes.{event_types};
+ghost use Rattle.swf_offers.specs.EventTypes.{event_types};
 ghost use Rattle.swf_instances.specs.Held.{instances_in};
 ghost use Rattle.swf_instances.specs.Kept.{Listening};
 

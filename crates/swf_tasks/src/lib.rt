@@ -3,10 +3,8 @@
 
 mod boxed;
 mod enter;
-mod event_types;
 mod hear;
 mod machine;
-mod offer;
 mod step;
 mod view;
 

@@ -11,7 +11,7 @@ ghost use Rattle.swf_meaning.specs.World.{new_instance, step_at};
 ghost use Rattle.swf_stack.specs.Stands.{inward};
 ghost use Rattle.swf_stack.specs.Stack.{plug, used_by};
 ghost use Rattle.swf_catalog.specs.Rounds.{round_of};
-ghost use Rattle.swf_tasks.specs.EventTypes.{event_types};
+ghost use Rattle.swf_offers.specs.EventTypes.{event_types};
 ghost use Rattle.swf_tasks.specs.Installed.{output_in, problem_in};
 ghost use Rattle.swf_strands.specs.Alarm.{alarm_of};
 ghost use Rattle.swf_strands.specs.Order.{IsNext};
@@ -23,8 +23,6 @@ ghost use Rattle.swf_tasks.specs.Views.{IsViewOf};
 ghost use Rattle.swf_strands.specs.Ways.{until_at, listens_at};
 
 use crate::boxed::BoxedMachine;
-use crate::event_types::list_types;
-use crate::offer::{hears_in, offer_in};
 use crate::step::{Change, step_of};
 use crate::view::{InstanceView, Node};
 use std::alloc::{AllocError, Global};
@@ -34,6 +32,7 @@ use swf_cloudevents::Event;
 use swf_document::Problem;
 use swf_duration::Moment;
 use swf_frames::Forest;
+use swf_offers::{hears_in, list_types, offer_in};
 use swf_scene::{Scene, Setting};
 use swf_catalog::{Round, SharedDocument, TaskRef, Work};
 use swf_stack::{Frame, SentEvent, Stand, Top, is_heard};
@@ -42,6 +41,7 @@ use swf_strands::{
     own_until, put_kept, stand_of, strand_at,
 };
 use swf_text::{Strand, Text};
+use swf_transform::Offer;
 use swf_value::Json;
 use thiserror::Error;
 
@@ -446,20 +446,20 @@ impl Machine {
     }
 
     /// Whether a task of it takes an event.
-    pub fn hears(&self, alloc: Global, event: &Event) -> Result<bool, AllocError>
-        ensures { IfOk result (λ b. b ≡ nat_lt 0 (takers_in event.now self.now)) }
+    pub fn hears(&self, alloc: Global, offer: &Offer) -> Result<bool, AllocError>
+        ensures { IfOk result (λ b. b ≡ nat_lt 0 (takers_in offer.now self.now)) }
     {
-        hears_in(alloc, &self.forest, self.forest.root(), event)
+        hears_in(alloc, &self.forest, self.forest.root(), offer)
     }
 
     /// Offers it an event. Answers how many of its tasks took it.
-    pub fn deliver_event(&mut self, alloc: Global, event: &Event) -> Result<u32, AllocError>
-        ensures ok { IfOk result (λ n. (n ≡ takers_in event.now self.old) × (self.new ≡ offered_one event.now self.old)) }
+    pub fn deliver_event(&mut self, alloc: Global, offer: &Offer) -> Result<u32, AllocError>
+        ensures ok { IfOk result (λ n. (n ≡ takers_in offer.now self.old) × (self.new ≡ offered_one offer.now self.old)) }
         ensures err { OnErr result (self.new ≡ self.old) }
     {
         let mut forest = self.forest.copy(alloc)?;
         let root = forest.root();
-        let taken = offer_in(alloc, &mut forest, root, event)?;
+        let taken = offer_in(alloc, &mut forest, root, offer)?;
         self.alarm = alarm_in(&forest, forest.root());
         self.forest = forest;
         Ok(taken)
