@@ -20,7 +20,7 @@ impl Machine {
         site: Site<'_>,
     ) -> Result<Prepared, AllocError>
         requires { can_go site.now strand.now self.now.node ≡ true }
-        ensures { IfOk result (IsPrepared site.now site.documents.now.documents strand.now self.now) }
+        ensures { IfOk result (IsPrepared site.entry.now site.entry.documents.now.documents strand.now self.now) }
     {
         let root = self.forest.root();
         let scene = Scene::of(alloc, &self.setting, self.forest.count() - 1, site)?;
