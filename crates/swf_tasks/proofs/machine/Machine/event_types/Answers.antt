@@ -1,7 +1,7 @@
 use Rattle.std.proofs.Common.{◌≡◌, ◌∙◌, ◌++◌, ap}
 use Rattle.swf_strands.specs.Strands.{node_of}
 use Rattle.swf_strands.proofs.TreeLemmas.{root-held}
-use Rattle.swf_tasks.specs.EventTypes.{event_types}
+use Rattle.swf_offers.specs.EventTypes.{event_types}
 use Rattle.swf_tasks.proofs.WayLemmas.{of-root}
 use Rattle.swf_tasks.proofs.machine.Machine.event_types.Goals as goal
 
