@@ -85,6 +85,7 @@ impl<'a> Scene<'a> {
     }
 
     /// What a task that runs in a round of this one goes by.
+    #[tactic(auto, using(swf_stack::proofs::RoundLemmas::seen_of))]
     pub fn seen(
         &self,
         alloc: Global,
