@@ -8,7 +8,7 @@ use Rattle.swf_document.specs.declared.document.DocKey.{DocKey}
 use Rattle.swf_meaning.specs.contracts.key.KeyPartialEq.TheImpl.{ghosts}
 use Rattle.swf_meaning.specs.declared.key.Key.{Key}
 use Rattle.swf_meaning.specs.declared.key.Key.TheVariants.{Document, Instance, Event, Activity, Moment}
-use Rattle.swf_meaning.specs.Documents.{same_doc}
+use Rattle.swf_catalog.specs.Loads.{docs_alike}
 use Rattle.swf_runs.specs.Keys.{same_key}
 use Rattle.swf_registry.specs.declared.sought.Sought.{Sought}
 use Rattle.swf_registry.specs.declared.sought.Sought.TheVariants as sought

@@ -17,7 +17,7 @@ use Rattle.swf_meaning.specs.Line.{Line, Site}
 use Rattle.swf_meaning.specs.Node.{Node, Fresh, Live, Done, Fault, Inside, At, Later, Sleep, Hear, Forked, Nodes, no_nodes, branch, Round, Running}
 use Rattle.swf_meaning.specs.Offer.{or_same, takes_by, offered, offered_inside, offered_among, offered_one}
 use Rattle.swf_meaning.specs.Parts.{kind_of, listen_in}
-use Rattle.swf_meaning.specs.Put.{put_at, put_inside, put_branch}
+use Rattle.swf_meaning.specs.Put.{keeping, put_at, put_inside, put_branch}
 use Rattle.swf_meaning.specs.Strands.{branches_in}
 use Rattle.swf_meaning.specs.World.{World, Instance, empty, step_at, with_step, new_instance, site_of, line_of}
 use Rattle.swf_meaning.specs.declared.heard.Heard.{Heard}
@@ -25,7 +25,7 @@ use Rattle.swf_meaning.specs.declared.key.Key.TheVariants.{Document as OfDocumen
 use Rattle.swf_meaning.specs.declared.label.Label.{Label}
 use Rattle.swf_meaning.specs.declared.label.Label.TheVariants.{Load, Start, Event as Told, Reply, Moment, Step}
 use Rattle.swf_meaning.proofs.TopsLemmas.{strands_among, strands_among-branch, branches_in-fork, branches_in-at}
-use Rattle.swf_meaning.specs.Documents.{document_at}
+use Rattle.swf_meaning.specs.Documents.{Loaded, document_at}
 use Rattle.swf_runs.specs.After.{is_used, with_document, loaded, accepted, most_documents, with_instance, most_instances, with_event, stepped, sent, with_instances, counted, after}
 use Rattle.swf_runs.specs.Kept.{ids}
 use Rattle.swf_runs.specs.Within.{IsWithin}
@@ -112,9 +112,8 @@ settles_few s k l r compete ns (Fault p) few h = tt
 
 branch_few : (s : Site) (l : Line) (r : Running) (ns : Nodes) (b : ℕ) (m : Stepped) → s.branches ≤ most_branches → FitsAmong s ns b m.node → Fits s (branches_in (Live r (Forked ns))) (after_branch l r ns b m).node
 branch_few s l r ns b m few h =
-    let x = record l { context = m.context } in
-    let all = gives_on s (strands_among ns) x (settled x r (competes r.task) (put ns b m.node) m.node) few
-    (settles_few s (strands_among ns) x r (competes r.task) (put ns b m.node) m.node few h) in
+    let all = gives_on s (strands_among ns) l (settled l r (competes r.task) (put ns b m.node) m.node) few
+    (settles_few s (strands_among ns) l r (competes r.task) (put ns b m.node) m.node few h) in
     omega (arith, all, branches_in-fork r ns)
 
 -- with another node in a round
@@ -130,10 +129,11 @@ mutual
   put_few s l bs (Fault p) m few h = h
 
   inside_few : (s : Site) (l : Line) (bs : List ℕ) (r : Running) (k : Inside) (m : Stepped) → s.branches ≤ most_branches → Fits s zero m.node → Fits s (branches_in (Live r k)) (put_inside l bs r k m).node
-  inside_few s l bs r (At round i (Fresh t v)) m few h = round_few s zero r round i m.node h
+  inside_few s l bs r (At round i (Fresh t v)) m few h = round_few s zero r (keeping round m.context) i m.node h
   inside_few s l bs r (At round i (Live q k)) m few h =
       let z = seen l r.task round in
-      round_few s (branches_in (Live q k)) r round i (put_inside z bs q k m).node (inside_few s z bs q k m few h)
+      let x = put_inside z bs q k m in
+      round_few s (branches_in (Live q k)) r (keeping round x.context) i x.node (inside_few s z bs q k m few h)
   inside_few s l bs r (At round i (Done w f)) m few h = h
   inside_few s l bs r (At round i (Fault p)) m few h = h
   inside_few s l bs r (Later n until) m few h = h
@@ -175,9 +175,9 @@ mutual
 abbrev IsFew : Instance → Type 0
 IsFew i = branches_in i.node ≤ most_branches
 
-step_few : (now : ℕ) (strand : List ℕ) (i : Instance) (m : Stepped) → step_at now strand i ≡ Some m → IsFew i → IsFew (with_step i m)
-step_few now strand i m e few =
-    let s = site_of now i in
+step_few : (now : ℕ) (ds : List Loaded) (strand : List ℕ) (i : Instance) (m : Stepped) → step_at now ds strand i ≡ Some m → IsFew i → IsFew (with_step i m)
+step_few now ds strand i m e few =
+    let s = site_of now ds i in
     let l = line_of i in
     let p = local_put s l strand i.node m e in
     let made = made_few s p.0.node few p.1 in
@@ -216,7 +216,7 @@ documents_after w m (Moment t) few e =
     let h = refused_some (nat_le t w.now) (Some (record (counted (OfMoment t) w) { now = t })) m e in
     same_documents w m few (ap (λ u. u.documents) (sym (same_Some (record (counted (OfMoment t) w) { now = t }) m h.1)))
 documents_after w m (Step id strand) few e =
-    mapped_some (with_instances w) (stepped w.now id strand w.instances) m e
+    mapped_some (with_instances w) (stepped w.now w.documents id strand w.instances) m e
     (λ js p q. same_documents w m few (ap (λ u. u.documents) (sym q) ∙ sent_documents (record w { instances = js.0; count = w.count + 1 }) js.1))
 
 instances_after : (w m : World) → length w.instances ≤ most_instances → IdsAfter w m → length m.instances ≤ most_instances

@@ -4,6 +4,7 @@ use Rattle.std.specs.Prelude.{option_and_then}
 use Rattle.std.proofs.lemmas.List.Folds.{list_any_at, Any-from_list_any}
 use Rattle.swf_document.specs.declared.event.ListenSpec.{ListenSpec}
 use Rattle.swf_meaning.specs.Complete.{Stepped, complete, step_of}
+use Rattle.swf_meaning.specs.Documents.{Loaded}
 use Rattle.swf_meaning.specs.Line.{Line, Site}
 use Rattle.swf_meaning.specs.Listen.{is_satisfied, is_heard_by, heard_by, events_of}
 use Rattle.swf_meaning.specs.Lists.{comes_to}
@@ -79,11 +80,11 @@ can_step now strand None = false
 can_step now strand (Some i) = can_go now strand i.node
 
 -- a strand of the instance of an id takes a step where it can
-pub stepped_some : (now : ℕ) (id strand : List ℕ) (is : List Instance) → is_some (stepped now id strand is) ≡ can_step now strand (instance_at id is)
-stepped_some now id strand [] = refl
-stepped_some now id strand (i ∷ is) = by (same id i.id) (stepped_some now id strand is)
+pub stepped_some : (now : ℕ) (ds : List Loaded) (id strand : List ℕ) (is : List Instance) → is_some (stepped now ds id strand is) ≡ can_step now strand (instance_at id is)
+stepped_some now ds id strand [] = refl
+stepped_some now ds id strand (i ∷ is) = by (same id i.id) (stepped_some now ds id strand is)
   where
-    by : (b : Bool) → is_some (stepped now id strand is) ≡ can_step now strand (instance_at id is) →
-        is_some {T = List Instance × Option Event} (cond b (option_map (λ (m : Stepped). (with_step i m ∷ is, m.emitted)) (step_at now strand i)) (option_map (λ (p : List Instance × Option Event). (i ∷ p.0, p.1)) (stepped now id strand is))) ≡ can_step now strand (cond b (Some i) (instance_at id is))
-    by true h = some_mapped (λ (m : Stepped). (with_step i m ∷ is, m.emitted)) (step_at now strand i) ∙ local_can (site_of now i) (line_of i) strand i.node
-    by false h = some_mapped (λ (p : List Instance × Option Event). (i ∷ p.0, p.1)) (stepped now id strand is) ∙ h
+    by : (b : Bool) → is_some (stepped now ds id strand is) ≡ can_step now strand (instance_at id is) →
+        is_some {T = List Instance × Option Event} (cond b (option_map (λ (m : Stepped). (with_step i m ∷ is, m.emitted)) (step_at now ds strand i)) (option_map (λ (p : List Instance × Option Event). (i ∷ p.0, p.1)) (stepped now ds id strand is))) ≡ can_step now strand (cond b (Some i) (instance_at id is))
+    by true h = some_mapped (λ (m : Stepped). (with_step i m ∷ is, m.emitted)) (step_at now ds strand i) ∙ local_can (site_of now ds i) (line_of i) strand i.node
+    by false h = some_mapped (λ (p : List Instance × Option Event). (i ∷ p.0, p.1)) (stepped now ds id strand is) ∙ h

@@ -7,6 +7,7 @@ use Rattle.swf_text.specs.Same.{same}
 use Rattle.swf_text.proofs.SameLemmas.{same_refl}
 use Rattle.swf_meaning.specs.Answer.{instance_at, status_of}
 use Rattle.swf_meaning.specs.Complete.{Stepped}
+use Rattle.swf_meaning.specs.Documents.{Loaded}
 use Rattle.swf_meaning.specs.Listen.{is_heard}
 use Rattle.swf_meaning.specs.Local.{is_enabled}
 use Rattle.swf_meaning.specs.Node.{Node, Fresh, Live, Done, Fault, Inside, At, Later, Sleep, Hear, Forked, Nodes, no_nodes, branch, Running}
@@ -26,8 +27,8 @@ use Rattle.swf_runs.proofs.OfferLemmas.{alive_offered}
 use Rattle.swf_runs.proofs.WorldLemmas.{change, change_all, legal_keeps}
 
 -- each step and each offer leaves an instance alive
-step_alive : (now : ℕ) (strand : List ℕ) (i : Instance) (m : Stepped) → step_at now strand i ≡ Some m → IsAlive i.node → IsAlive (with_step i m).node
-step_alive now strand i m s a = local_alive (site_of now i) (line_of i) strand i.node m s a
+step_alive : (now : ℕ) (ds : List Loaded) (strand : List ℕ) (i : Instance) (m : Stepped) → step_at now ds strand i ≡ Some m → IsAlive i.node → IsAlive (with_step i m).node
+step_alive now ds strand i m s a = local_alive (site_of now ds i) (line_of i) strand i.node m s a
 
 alive_after : (w m : World) (l : Label) → IsAllAlive w → after w l ≡ Some m → IsAllAlive m
 alive_after w m l all e = change_all (λ i. IsAlive i.node) w m (λ id input d. tt) step_alive (λ x i a. alive_offered x i.node a) all (change w m l e)

@@ -82,8 +82,8 @@ is_open a w = false
 abbrev pub replied : World → List ℕ → CallReply → Option World
 replied w a r = if is_open a w then Some w else None
 
--- the instances after a strand of the one of that id took a step at a moment, where these documents are loaded, and the event that goes out; none where there is none or it
--- cannot
+-- the instances after a strand of the one of that id took a step at a moment, where these documents are loaded, and the event that goes
+-- out; none where there is none or it cannot
 abbrev pub stepped : ℕ → List Loaded → List ℕ → List ℕ → List Instance → Option (List Instance × Option Event)
 stepped now ds id strand [] = None
 stepped now ds id strand (i ∷ is) =
