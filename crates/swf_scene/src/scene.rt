@@ -36,7 +36,7 @@ impl<'a> Scene<'a> {
         site: Site<'a>,
     ) -> Result<Scene<'a>, AllocError>
         ensures line { IfOk result (λ s. line_of s ≡ setting_line setting.now) }
-        ensures site { IfOk result (λ s. site_of s ≡ record { number = setting.now.number; branches = branches; now = site.now; documents = site.documents.now.documents }) }
+        ensures site { IfOk result (λ s. site_of s ≡ record { number = setting.now.number; branches = branches; now = site.entry.now; documents = site.entry.documents.now.documents }) }
     {
         Ok(Scene {
             setting,
