@@ -11,7 +11,6 @@ use Rattle.swf_value.specs.Value.{Value, null, boolean, int, text, list as liste
 use Rattle.swf_cloudevents.specs.Event.{event_value, with_payload}
 use Rattle.swf_cloudevents.specs.declared.event.Event.{Event}
 use Rattle.swf_cloudevents.proofs.Puts.{at_here, at_past}
-use Rattle.swf_document.specs.Task.{Task}
 use Rattle.swf_document.specs.Template.{Template, constant, run, list, object}
 use Rattle.swf_document.specs.declared.event.Filter.{Filter}
 use Rattle.swf_document.specs.declared.event.ListenSpec.{ListenSpec}
@@ -118,5 +117,6 @@ mutual
   unheard_among : (e : Event) (ns : Nodes) → list_any (hears e.kind) (event_types_among ns) ≡ false → (offered_among e ns).1 ≡ 0
   unheard_among e no_nodes other = refl
   unheard_among e (branch n ns) other =
-      let p = or_parts (list_any (hears e.kind) (event_types n)) (list_any (hears e.kind) (event_types_among ns)) (sym (ap (list_any (hears e.kind)) (event_types_among-branch n ns) ∙ list_any-append (hears e.kind) (event_types n) (event_types_among ns)) ∙ other) in
+      let all = sym (list_any-append (hears e.kind) (event_types n) (event_types_among ns)) ∙ sym (ap (list_any (hears e.kind)) (event_types_among-branch n ns)) ∙ other in
+      let p = or_parts (list_any (hears e.kind) (event_types n)) (list_any (hears e.kind) (event_types_among ns)) all in
       none_of (offered e n).1 (offered_among e ns).1 (unheard e n p.0) (unheard_among e ns p.1)

@@ -8,9 +8,9 @@ ghost use Rattle.swf_instances.specs.Kept.{Listening};
 use indexmap::IndexMap;
 use std::alloc::{AllocError, Global};
 use swf_listeners::{Listeners, Wanted};
+use swf_queue::Queue;
 use swf_tasks::Machine;
 use swf_text::Text;
-use swf_queue::Queue;
 
 /// What those listen for is noted of which it is not.
 pub fn note_all(
