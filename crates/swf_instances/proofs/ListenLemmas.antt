@@ -11,7 +11,6 @@ use Rattle.swf_value.specs.Value.{Value, null, boolean, int, text, list as liste
 use Rattle.swf_cloudevents.specs.Event.{event_value, with_payload}
 use Rattle.swf_cloudevents.specs.declared.event.Event.{Event}
 use Rattle.swf_cloudevents.proofs.Puts.{at_here, at_past}
-use Rattle.swf_document.specs.Task.{Task}
 use Rattle.swf_document.specs.Template.{Template, constant, run, list, object}
 use Rattle.swf_document.specs.declared.event.Filter.{Filter}
 use Rattle.swf_document.specs.declared.event.ListenSpec.{ListenSpec}
@@ -23,7 +22,8 @@ use Rattle.swf_meaning.specs.Offer.{offered, offered_inside, offered_among, take
 use Rattle.swf_meaning.specs.Parts.{kind_of, listen_in}
 use Rattle.swf_meaning.specs.declared.heard.Heard.{Heard}
 use Rattle.swf_listeners.proofs.WantedLemmas.{hears}
-use Rattle.swf_tasks.specs.EventTypes.{text_in, type_told, types_told, types_of, types_left, event_types, event_types_inside, event_types_among}
+use Rattle.swf_offers.specs.EventTypes.{text_in, type_told, types_told, types_of, types_left, event_types}
+use Rattle.swf_offers.proofs.EventTypeLemmas.{event_types_among, event_types_among-branch, types-at, types-hear}
 
 -- a template of that text is a constant
 told_is : (v : Template) (t : List ℕ) → text_in v ≡ Some t → v ≡ constant (text t)
@@ -102,19 +102,21 @@ none_of a b p q = omega (arith, p, q)
 mutual
   pub unheard : (e : Event) (n : Node) → list_any (hears e.kind) (event_types n) ≡ false → (offered e n).1 ≡ 0
   unheard e (Fresh t v) other = refl
-  unheard e (Live r k) other = unheard_inside e r.task k other
+  unheard e (Live r k) other = unheard_inside e r k other
   unheard e (Done w f) other = refl
   unheard e (Fault p) other = refl
 
-  unheard_inside : (e : Event) (t : Task) (k : Inside) → list_any (hears e.kind) (event_types_inside t k) ≡ false → (offered_inside e t k).1 ≡ 0
-  unheard_inside e t (At round i n) other = unheard e n other
-  unheard_inside e t (Later n m) other = refl
-  unheard_inside e t (Sleep m) other = refl
-  unheard_inside e t (Hear bound hs) other = ap (λ o. (or_same bound hs o).1) (no_taker (listen_in (kind_of t)) bound hs e other)
-  unheard_inside e t (Forked ns) other = unheard_among e ns other
+  unheard_inside : (e : Event) (r : Running) (k : Inside) → list_any (hears e.kind) (event_types (Live r k)) ≡ false → (offered_inside e r.task k).1 ≡ 0
+  unheard_inside e r (At round i n) other = unheard e n (sym (ap (list_any (hears e.kind)) (types-at r round i n)) ∙ other)
+  unheard_inside e r (Later n m) other = refl
+  unheard_inside e r (Sleep m) other = refl
+  unheard_inside e r (Hear bound hs) other =
+      ap (λ o. (or_same bound hs o).1) (no_taker (listen_in (kind_of r.task)) bound hs e (sym (ap (list_any (hears e.kind)) (types-hear r bound hs)) ∙ other))
+  unheard_inside e r (Forked ns) other = unheard_among e ns other
 
   unheard_among : (e : Event) (ns : Nodes) → list_any (hears e.kind) (event_types_among ns) ≡ false → (offered_among e ns).1 ≡ 0
   unheard_among e no_nodes other = refl
   unheard_among e (branch n ns) other =
-      let p = or_parts (list_any (hears e.kind) (event_types n)) (list_any (hears e.kind) (event_types_among ns)) (sym (list_any-append (hears e.kind) (event_types n) (event_types_among ns)) ∙ other) in
+      let all = sym (list_any-append (hears e.kind) (event_types n) (event_types_among ns)) ∙ sym (ap (list_any (hears e.kind)) (event_types_among-branch n ns)) ∙ other in
+      let p = or_parts (list_any (hears e.kind) (event_types n)) (list_any (hears e.kind) (event_types_among ns)) all in
       none_of (offered e n).1 (offered_among e ns).1 (unheard e n p.0) (unheard_among e ns p.1)

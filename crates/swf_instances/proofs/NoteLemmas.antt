@@ -7,34 +7,29 @@ use Rattle.std.proofs.lemmas.Option.{same_Some}
 use Rattle.swf_listeners.specs.Listeners.{wanted_by}
 use Rattle.swf_listeners.specs.Wanted.{Wanted, nothing, wanted_of}
 use Rattle.swf_meaning.specs.World.{Instance}
-use Rattle.swf_tasks.specs.EventTypes.{event_types}
-use Rattle.swf_tasks.specs.declared.machine.Step.{Step}
+use Rattle.swf_offers.specs.EventTypes.{event_types}
 use Rattle.swf_queue.specs.Queue.{Queue, is_among}
 use Rattle.swf_instances.specs.Kept.{Listening}
-use Rattle.swf_instances.specs.Takes.{take_at}
-
-length_take : (n : ℕ) (step : Step) (is : List Instance) → length (take_at n step is) ≡ length is
-length_take n step [] = refl
-length_take zero step (i ∷ is) = refl
-length_take (suc n) step (i ∷ is) = ap suc (length_take n step is)
+use Rattle.swf_instances.specs.Offers.{put_at}
+use Rattle.swf_instances.proofs.QueuedLemmas.{length_put}
 
 -- the others are as they were
-others_take : (n m : ℕ) (step : Step) (is : List Instance) → (m ≡ n → ⊥) → slice_get (take_at n step is) m ≡ slice_get is m
-others_take n m step [] other = refl
-others_take zero zero step (i ∷ is) other = absurd (other refl)
-others_take zero (suc m) step (i ∷ is) other = refl
-others_take (suc n) zero step (i ∷ is) other = refl
-others_take (suc n) (suc m) step (i ∷ is) other = others_take n m step is (λ e. other (ap suc e))
+others_put : (n m : ℕ) (j : Instance) (is : List Instance) → (m ≡ n → ⊥) → slice_get (put_at n j is) m ≡ slice_get is m
+others_put n m j [] other = refl
+others_put zero zero j (i ∷ is) other = absurd (other refl)
+others_put zero (suc m) j (i ∷ is) other = refl
+others_put (suc n) zero j (i ∷ is) other = refl
+others_put (suc n) (suc m) j (i ∷ is) other = others_put n m j is (λ e. other (ap suc e))
 
--- one that took a step is stale
-pub noted_stale : (is : List Instance) (wanted : List Wanted) (stale next : Queue) (n : ℕ) (step : Step) → Listening is wanted stale → ((m : ℕ) → is_among m next.numbers ≡ (is_among m stale.numbers || (m == n))) → next.count ≡ stale.count → Listening (take_at n step is) wanted next
-noted_stale is wanted stale next n step l among count = record {
-  many = l.many ∙ sym (length_take n step is);
-  count = count ∙ l.count ∙ sym (length_take n step is);
+-- one that is put in a place is stale
+pub noted_stale : (is : List Instance) (wanted : List Wanted) (stale next : Queue) (n : ℕ) (j : Instance) → Listening is wanted stale → ((m : ℕ) → is_among m next.numbers ≡ (is_among m stale.numbers || (m == n))) → next.count ≡ stale.count → Listening (put_at n j is) wanted next
+noted_stale is wanted stale next n j l among count = record {
+  many = l.many ∙ sym (length_put is n j);
+  count = count ∙ l.count ∙ sym (length_put is n j);
   noted = λ m i at gone.
       let p = or_parts (is_among m stale.numbers) (m == n) (sym (among m) ∙ gone) in
       let other : m ≡ n → ⊥ = λ e. let f : true ≡ false = sym (eq-eqb m n e) ∙ p.1 in cc in
-      l.noted m i (sym (others_take n m step is other) ∙ at) p.0;
+      l.noted m i (sym (others_put n m j is other) ∙ at) p.0;
 }
 
 set_own : (ws : List Wanted) (n : ℕ) (w : Wanted) → n < length ws → wanted_by (slice_set ws n w) n ≡ w

@@ -11,15 +11,13 @@ use Rattle.swf_runs.proofs.OfferLemmas.{one_untaken}
 use Rattle.swf_instances.specs.declared.offer.Hearing.{Hearing}
 use Rattle.swf_instances.specs.Offers.{put_at, put_all, offered_but, ids, Covers, IsHeardFrom, IsOffer}
 use Rattle.swf_instances.specs.Kept.{Listening}
-use Rattle.swf_instances.specs.Takes.{FitsAt, take_at}
 use Rattle.swf_instances.proofs.ListenLemmas.{unheard}
 use Rattle.swf_listeners.specs.Listeners.{numbers_where, wanted_by, who}
 use Rattle.swf_listeners.specs.Wanted.{Wanted, wants}
 use Rattle.swf_listeners.proofs.WantedLemmas.{wants_of}
 use Rattle.swf_listeners.proofs.WhoLemmas.{Passes, numbers_from, to_next, to_end, where_from}
 use Rattle.swf_queue.specs.Queue.{Queue, is_among}
-use Rattle.swf_tasks.specs.EventTypes.{event_types}
-use Rattle.swf_tasks.specs.declared.machine.Step.TheVariants.{Whole}
+use Rattle.swf_offers.specs.EventTypes.{event_types}
 
 -- an instance is put in its own place
 put_same : (is : List Instance) (n : ℕ) (i : Instance) → slice_get is n ≡ Some i → put_at n i is ≡ is
@@ -175,17 +173,6 @@ ids_all (h ∷ hs) is all =
     let one = ids_put is h.number h.instance all.0 in
     ids_all hs (put_at h.number h.instance is) (from_again is (put_at h.number h.instance is) hs (sym one) all.1) ∙ one
 
--- one that took an event fits its place
-pub heard_fits : (is : List Instance) (n : ℕ) (j : Instance) → slice_get (ids is) n ≡ Some j.id → FitsAt n (Whole j) is
-heard_fits [] n j e = cc
-heard_fits (i ∷ is) zero j e = (i, refl, sym (same_Some i.id j.id e))
-heard_fits (i ∷ is) (suc n) j e = heard_fits is n j e
-
-pub whole_put : (n : ℕ) (j : Instance) (is : List Instance) → take_at n (Whole j) is ≡ put_at n j is
-whole_put n j [] = refl
-whole_put zero j (i ∷ is) = refl
-whole_put (suc n) j (i ∷ is) = ap (λ is. i ∷ is) (whole_put n j is)
-
 -- ---- those alone are gone over that an event may change
 
 -- what holds once the numbers before this one were gone over
@@ -248,6 +235,10 @@ pub between_done : (n : ℕ) (e : Event) (is : List Instance) (left : List ℕ) 
 between_done n e is left hs taken none b =
     let p = to_end (IsOfferedTo n e is hs taken) b.test b.many b.at (λ k w h q. passed n e is hs taken b.test b.others k (omega (arith, w, b.all)) h q) (sym b.left_is ∙ none) b.so_far in
     (offered_done (b.many + b.at) n e is hs b.all p.0, λ all. p.1 all ∙ ap (takers e) (take_all (b.many + b.at) is (omega (arith, b.all))))
+
+-- where none may take the event it changes none
+pub offered_nowhere : (n : ℕ) (e : Event) (is : List Instance) (ns : List ℕ) → ns ≡ [] → Covers e is ns → IsOffer n e is [] × (length is ≤ n → 0 ≡ takers e is)
+offered_nowhere n e is ns none c = between_done n e is ns [] 0 none (between_first n e is ns c)
 
 empty : (ns : List ℕ) → slice_get ns 0 ≡ None → ns ≡ []
 empty [] e = refl

@@ -71,10 +71,10 @@ queued_left now is (m ∷ ms) rest n e r gone q =
     subst (λ queue. Queued now is queue) (sym r) (queued_popped now is m ms (ap (enabled_at now is) (same_Some m n e) ∙ gone) q)
 
 -- the first in the queue goes behind all others
-pub queued_turned : (now : ℕ) (is : List Instance) (queue : List ℕ) → 0 < length queue → Queued now is queue → Queued now is (drop 1 queue ++ take 1 queue)
-queued_turned now is [] w q = absurd (omega arith)
-queued_turned now is (n ∷ queue) w q = record {
-  all = λ m e. turned m ∙ q.all m e;
+pub queued_rotated : (now : ℕ) (is : List Instance) (queue : List ℕ) → 0 < length queue → Queued now is queue → Queued now is (drop 1 queue ++ take 1 queue)
+queued_rotated now is [] w q = absurd (omega arith)
+queued_rotated now is (n ∷ queue) w q = record {
+  all = λ m e. moved m ∙ q.all m e;
 }
   where
     or_swap : (a b : Bool) → (b || (a || false)) ≡ (a || b)
@@ -83,8 +83,8 @@ queued_turned now is (n ∷ queue) w q = record {
     or_swap false true = refl
     or_swap false false = refl
 
-    turned : (m : ℕ) → is_among m (queue ++ n ∷ []) ≡ is_among m (n ∷ queue)
-    turned m = list_any-append (λ k. m == k) queue (n ∷ []) ∙ or_swap (m == n) (is_among m queue)
+    moved : (m : ℕ) → is_among m (queue ++ n ∷ []) ≡ is_among m (n ∷ queue)
+    moved m = list_any-append (λ k. m == k) queue (n ∷ []) ∙ or_swap (m == n) (is_among m queue)
 
 -- the answer of a look through the queue is whether all is quiet
 pub quiet_is : (now : ℕ) (is : List Instance) (queue : List ℕ) (o : Option ℕ) (b : Bool) → Queued now is queue → IfNone o (queue ≡ []) → IfSome o (λ n. enabled_at now is n ≡ true) → is_some o ≡ not b → b ≡ not (is_loud now is)
@@ -94,8 +94,8 @@ quiet_is now is queue (Some n) true q none some e = cc
 quiet_is now is queue (Some n) false q none some e = sym (ap not (loud_with now is n some))
 
 -- another order of the queue agrees with the instances too
-pub kept_turned : (es : List (List ℕ × Instance)) (now : ℕ) (queue next : Queue) (alarms : List (Option ℕ)) (wanted : List Wanted) (stale : Queue) → Kept es now queue alarms wanted stale → next.count ≡ queue.count → Queued now (instances_in es) next.numbers → Kept es now next alarms wanted stale
-kept_turned es now queue next alarms wanted stale kept count queued = record {
+pub kept_ordered : (es : List (List ℕ × Instance)) (now : ℕ) (queue next : Queue) (alarms : List (Option ℕ)) (wanted : List Wanted) (stale : Queue) → Kept es now queue alarms wanted stale → next.count ≡ queue.count → Queued now (instances_in es) next.numbers → Kept es now next alarms wanted stale
+kept_ordered es now queue next alarms wanted stale kept count queued = record {
   held = kept.held;
   waiting = record { queued = queued; count = count ∙ kept.waiting.count; own = kept.waiting.own };
   listening = kept.listening;
@@ -114,7 +114,7 @@ length_put [] n j = refl
 length_put (i ∷ is) zero j = refl
 length_put (i ∷ is) (suc n) j = ap suc (length_put is n j)
 
--- an instance that has a turn is put in its place
+-- an instance that stands in the queue is put in its place
 pub queued_put : (now : ℕ) (is : List Instance) (queue next : List ℕ) (n : ℕ) (j : Instance) → ((m : ℕ) → is_among m next ≡ (is_among m queue || (m == n))) → Queued now is queue → Queued now (put_at n j is) next
 queued_put now is queue next n j among q = record {
   all = λ m h. among m ∙ elim (enabled_put now is n m j h) [

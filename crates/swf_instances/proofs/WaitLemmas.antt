@@ -1,10 +1,9 @@
 -- Until when instances wait, at one moment and at a later one.
 use Rattle.std.proofs.Common.{◌≡◌, ◌∙◌, refl, ap, sym, ℕ, zero, suc, ◌||◌, ◌⊎◌, inl, inr, List, [], ◌∷◌, ◌++◌, nat_le, true, Option, Some, None}
-use Rattle.std.specs.Prelude.{min, slice_get, slice_set}
+use Rattle.std.specs.Prelude.{min, slice_set}
 use Rattle.std.proofs.Math.Bool.{or_assoc, or-false}
 use Rattle.std.proofs.lemmas.Bool.{or_cases, or_left, or_right}
 use Rattle.std.proofs.lemmas.List.{map-append}
-use Rattle.std.proofs.lemmas.Option.{same_Some}
 use Rattle.std.specs.List.{cons_option, filter_map, fold, list_any, reduce}
 use Rattle.swf_meaning.specs.Listen.{is_heard}
 use Rattle.swf_meaning.specs.Node.{Node}
@@ -40,20 +39,10 @@ some_over moment [] = refl
 some_over moment (i ∷ is) = λ j. alarm_over moment i.node j || some_over moment is j
 
 -- the alarm of an instance that stands in a place of another
-alarms_put : (is : List Instance) (n : ℕ) (j : Instance) → slice_set (alarms_of is) n (alarm_of j.node) ≡ alarms_of (put_at n j is)
+pub alarms_put : (is : List Instance) (n : ℕ) (j : Instance) → slice_set (alarms_of is) n (alarm_of j.node) ≡ alarms_of (put_at n j is)
 alarms_put [] n j = refl
 alarms_put (i ∷ is) zero j = refl
 alarms_put (i ∷ is) (suc n) j = ap (λ os. alarm_of i.node ∷ os) (alarms_put is n j)
-
-put_there : (is : List Instance) (n : ℕ) (i j : Instance) → slice_get is n ≡ Some i → slice_get (put_at n j is) n ≡ Some j
-put_there [] n i j e = cc
-put_there (x ∷ xs) zero i j e = refl
-put_there (x ∷ xs) (suc n) i j e = put_there xs n i j e
-
-pub alarms_set : (is js : List Instance) (n : ℕ) (i j k : Instance) → slice_get is n ≡ Some i → js ≡ put_at n j is → slice_get js n ≡ Some k → slice_set (alarms_of is) n (alarm_of k.node) ≡ alarms_of js
-alarms_set is js n i j k there put stands =
-    let own : k ≡ j = same_Some k j (sym stands ∙ ap (λ xs. slice_get xs n) put ∙ put_there is n i j there) in
-    ap (λ x. slice_set (alarms_of is) n (alarm_of x.node)) own ∙ alarms_put is n j ∙ sym (ap alarms_of put)
 
 -- one more that does not wait
 pub alarms_pushed : (is : List Instance) (i : Instance) → waits i.node ≡ [] → alarms_of is ++ None ∷ [] ≡ alarms_of (is ++ i ∷ [])

@@ -3,7 +3,7 @@ use Rattle.std.specs.Prelude.{◌≡◌, ℕ, List, Option, Some, false, length,
 use Rattle.swf_meaning.specs.World.{Instance}
 use Rattle.swf_listeners.specs.Listeners.{wanted_by}
 use Rattle.swf_listeners.specs.Wanted.{Wanted, wanted_of}
-use Rattle.swf_tasks.specs.EventTypes.{event_types}
+use Rattle.swf_offers.specs.EventTypes.{event_types}
 use Rattle.swf_queue.specs.Queue.{Queue, is_among}
 use Rattle.swf_instances.specs.Held.{instances_in, AreHeld}
 use Rattle.swf_instances.specs.Queued.{Queued}

@@ -4,6 +4,7 @@ ghost use Rattle.std.specs.List.{list_any};
 ghost use Rattle.swf_text.specs.Same.{same};
 ghost use Rattle.swf_meaning.specs.Answer.{instance_at};
 ghost use Rattle.swf_meaning.specs.Wake.{is_due, waits};
+ghost use Rattle.swf_instances.specs.Offers.{ids, put_at};
 ghost use Rattle.swf_instances.specs.Takes.{FitsAt, take_at};
 
 use crate::listening::note_all;
@@ -12,9 +13,9 @@ use std::alloc::{AllocError, Global};
 use std::marker::Model;
 use swf_duration::Moment;
 use swf_listeners::Listeners;
-use swf_tasks::{BoxedMachine, Machine, Step};
-use swf_text::Text;
 use swf_queue::{Alarms, Queue};
+use swf_tasks::{BoxedMachine, Machine, Prepared, SentEvent};
+use swf_text::Text;
 
 /// The instances at a moment. Contracts see them in start order, the moment, and how many more fit without memory.
 #[derive(Drop)]
@@ -149,19 +150,35 @@ impl Instances {
         self.stale.add();
     }
 
-    /// The instance of a number takes a step that was prepared, and joins the queue. It takes no memory.
-    pub fn take(&mut self, number: usize, step: Step)
-        requires { FitsAt number step self.old.instances }
-        ensures instances { self.new.instances ≡ take_at number step self.old.instances }
+    /// The instance of a number takes a step that was prepared, and joins the queue. Answers the event that goes out, where one does.
+    /// It takes no memory.
+    pub fn take(&mut self, number: usize, prepared: Prepared) -> Option<SentEvent>
+        requires { FitsAt number prepared self.old.instances }
+        ensures instances { self.new.instances ≡ take_at number prepared self.old.instances }
+        ensures moment { self.new.moment ≡ self.old.moment }
+        ensures emitted { result ≡ prepared.emitted }
+    {
+        self.queue.put(number);
+        self.stale.put(number);
+        let instance = &mut self.machines[number];
+        let emitted = instance.take(prepared);
+        self.alarms.set(number, instance.alarm());
+        emitted
+    }
+
+    // An instance stands in the place of another one of its id, and joins the queue. It takes no memory.
+    pub(crate) fn put(&mut self, number: usize, instance: Machine)
+        requires { slice_get (ids self.old.instances) number ≡ Some instance.id }
+        ensures instances { self.new.instances ≡ put_at number instance self.old.instances }
         ensures moment { self.new.moment ≡ self.old.moment }
     {
         self.queue.put(number);
         self.stale.put(number);
-        self.machines[number].take(step);
-        self.alarms.set(number, self.machines[number].alarm());
+        self.alarms.set(number, instance.alarm());
+        self.machines[number] = instance;
     }
 
-    /// A moment is reached: the instances whose wait is over get queue. It takes no memory.
+    /// A moment is reached: the instances whose wait is over join the queue. It takes no memory.
     pub fn reach(&mut self, moment: Moment)
         ensures instances { self.new.instances ≡ self.old.instances }
         ensures moment { self.new.moment ≡ moment }

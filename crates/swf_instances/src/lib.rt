@@ -3,8 +3,8 @@
 
 mod instances;
 mod listening;
-mod offer;
 mod next;
+mod offer;
 
 pub use instances::Instances;
 pub use offer::{Hearing, Offered};

@@ -1,16 +1,16 @@
 // What each instance listens for is noted.
 ghost use Rattle.std.specs.Prelude.{◌≡◌, ◌<◌, OnErr, OnOk, length, slice_set};
 ghost use Rattle.swf_listeners.specs.Wanted.{wanted_of};
-ghost use Rattle.swf_tasks.specs.EventTypes.{event_types};
+ghost use Rattle.swf_offers.specs.EventTypes.{event_types};
 ghost use Rattle.swf_instances.specs.Held.{instances_in};
 ghost use Rattle.swf_instances.specs.Kept.{Listening};
 
 use indexmap::IndexMap;
 use std::alloc::{AllocError, Global};
 use swf_listeners::{Listeners, Wanted};
+use swf_queue::Queue;
 use swf_tasks::Machine;
 use swf_text::Text;
-use swf_queue::Queue;
 
 /// What those listen for is noted of which it is not.
 pub fn note_all(

@@ -7,9 +7,9 @@ use crate::instances::Instances;
 use indexmap::IndexMap;
 use std::alloc::{AllocError, Global};
 use swf_duration::Moment;
+use swf_queue::Queue;
 use swf_tasks::Machine;
 use swf_text::{Strand, Text};
-use swf_queue::Queue;
 
 impl Instances {
     /// The number of the first instance that can take a step, and its strand that can. It goes behind all others.

@@ -10,9 +10,9 @@ ghost use Rattle.swf_scene.specs.Setting.{line_of};
 
 use crate::rule::Rule;
 use std::alloc::{AllocError, Global};
+use swf_catalog::TaskRef;
 use swf_document::{ErrorKind, Flow};
 use swf_scene::{Halt, Scene, before, behind, value_of};
-use swf_catalog::TaskRef;
 use swf_stack::{Made, Top};
 use swf_transform::{fill, is_within};
 use swf_value::Json;

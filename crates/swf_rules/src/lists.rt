@@ -12,10 +12,10 @@ ghost use Rattle.swf_stack.specs.Stack.{made_node, stepped_of};
 
 use crate::rule::Rule;
 use std::alloc::AllocError;
+use swf_catalog::{Iteration, Round, TaskRef};
 use swf_document::Flow;
 use swf_expr::Expr;
 use swf_scene::{Halt, within};
-use swf_catalog::{Round, TaskRef, Iteration};
 use swf_stack::{Frame, Made, Top};
 use swf_value::{Json, JsonList};
 
@@ -70,7 +70,7 @@ impl Rule<'_> {
         self.iteration_guarded(round, value)
     }
 
-    // `while` is asked before a iteration.
+    // `while` is asked before an iteration.
     fn iteration_guarded(&self, round: Round, value: Json) -> Result<Made, Halt>
         ensures { Makes (iteration_guarded (line_in self.now) self.now.running.now (round_of round) value (guard_of self.now.running.now.task)) result }
     {
@@ -84,7 +84,7 @@ impl Rule<'_> {
         }
     }
 
-    // Whether a `while` is true before a iteration.
+    // Whether a `while` is true before an iteration.
     fn goes_on(&self, round: &Round, value: &Json, condition: &Expr) -> Result<bool, Halt>
         ensures { Gives (asked self.now.running.now.task (within (seen (line_in self.now) self.now.running.now.task (round_of round.now)) self.now.running.now) value.now condition.now) result }
     {
@@ -93,7 +93,7 @@ impl Rule<'_> {
         self.asked(&vars, value, condition)
     }
 
-    // A iteration begins with the first task of the list.
+    // An iteration begins with the first task of the list.
     fn iteration_begins(&self, round: Round, value: Json) -> Result<Made, Halt>
         ensures { Makes (Ok (iteration_begins (line_in self.now) self.now.running.now (round_of round) value)) result }
     {

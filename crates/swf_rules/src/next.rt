@@ -12,9 +12,9 @@ ghost use Rattle.swf_scene.specs.Setting.{line_of, site_of};
 use crate::completion::finished;
 use crate::rule::Rule;
 use std::alloc::Global;
+use swf_catalog::{Round, Work};
 use swf_document::{Flow, Named, Problem};
 use swf_scene::{Halt, Scene};
-use swf_catalog::{Round, Work};
 use swf_stack::{Frame, Made};
 use swf_text::{Text, same_texts};
 use swf_value::Json;
@@ -69,6 +69,7 @@ impl Rule<'_> {
 }
 
 /// A task of a running task's list is done.
+#[tactic(auto, using(swf_stack::proofs::RoundLemmas::workflow_ended_of))]
 pub fn moved_on(
     alloc: Global,
     scene: &Scene,

@@ -9,13 +9,13 @@ ghost use Rattle.swf_catalog.specs.TaskRef.{catch_of};
 
 use crate::rule::Rule;
 use std::alloc::AllocError;
+use swf_catalog::Round;
 use swf_document::{
     ErrorKind, NamedRetry, Problem, RetryPolicy, RetryRef, TrySpec, matches_filter, unboxed,
 };
 use swf_expr::Expr;
 use swf_jq_eval::Vars;
 use swf_scene::{Halt, catching, retrying};
-use swf_catalog::Round;
 use swf_stack::Made;
 use swf_text::{Text, same_texts};
 

@@ -5,8 +5,10 @@ mod halt;
 mod scene;
 mod setting;
 mod sight;
+mod site;
 
 pub use halt::{Halt, fails, value_of};
 pub use scene::Scene;
 pub use setting::Setting;
 pub use sight::{before, behind, catching, retrying, within};
+pub use site::Site;

@@ -8,22 +8,22 @@ ghost use Rattle.swf_scene.specs.Setting.{line_of, site_of, setting_line, alone}
 
 use crate::setting::Setting;
 use crate::sight::{copy_variables, push_seen};
+use crate::site::Site;
 use std::alloc::{AllocError, Global};
-use swf_chain::Chain;
-use swf_duration::Moment;
-use swf_jq_eval::Variable;
 use swf_catalog::{Round, TaskRef};
+use swf_chain::Chain;
+use swf_jq_eval::Variable;
 use swf_stack::Frame;
 use swf_value::Json;
 
-/// What a step goes by: the instance's setting, its context, how many branches it has, the moment, and the variables around the task
-/// that takes it.
+/// What a step goes by: the instance's setting, its context, how many branches it has, the moment and the loaded documents, and the
+/// variables around the task that takes it.
 #[derive(Drop)]
 pub struct Scene<'a> {
     pub setting: &'a Setting,
     pub context: Json,
     pub branches: usize,
-    pub now: Moment,
+    pub site: Site<'a>,
     pub around: Vec<Variable>,
 }
 
@@ -33,16 +33,17 @@ impl<'a> Scene<'a> {
         alloc: Global,
         setting: &'a Setting,
         branches: usize,
-        now: Moment,
+        site: Site<'a>,
     ) -> Result<Scene<'a>, AllocError>
         ensures line { IfOk result (λ s. line_of s ≡ setting_line setting.now) }
-        ensures site { IfOk result (λ s. site_of s ≡ record { number = setting.now.number; branches = branches; now = now }) }
+        ensures site { IfOk result (λ s. site_of s ≡ record { number = setting.now.number; branches = branches; now = site.entry.now; documents = site.entry.documents.now.documents }) }
     {
+        let Site { now, documents } = site;
         Ok(Scene {
             setting,
             context: setting.context.copy()?,
             branches,
-            now,
+            site: Site { now, documents },
             around: Vec::new(alloc),
         })
     }
@@ -56,7 +57,10 @@ impl<'a> Scene<'a> {
             setting: self.setting,
             context: self.context.copy()?,
             branches: self.branches,
-            now: self.now,
+            site: Site {
+                now: self.site.now,
+                documents: self.site.documents,
+            },
             around: copy_variables(alloc, &self.around)?,
         })
     }
@@ -85,6 +89,7 @@ impl<'a> Scene<'a> {
     }
 
     /// What a task that runs in a round of this one goes by.
+    #[tactic(auto, using(swf_stack::proofs::RoundLemmas::seen_of))]
     pub fn seen(
         &self,
         alloc: Global,
@@ -108,7 +113,10 @@ impl<'a> Scene<'a> {
             setting: self.setting,
             context: self.context.copy()?,
             branches: self.branches,
-            now: self.now,
+            site: Site {
+                now: self.site.now,
+                documents: self.site.documents,
+            },
             around: Vec::new(alloc),
         })
     }

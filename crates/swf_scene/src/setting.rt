@@ -5,8 +5,8 @@ ghost use Rattle.swf_value.specs.ValueCode.{value_code};
 ghost use Rattle.swf_meaning.specs.Line.{epoch, workflow_value};
 
 use std::alloc::{AllocError, Global};
-use swf_duration::Moment;
 use swf_catalog::{SharedDocument, Words};
+use swf_duration::Moment;
 use swf_text::Text;
 use swf_value::{Json, Member};
 

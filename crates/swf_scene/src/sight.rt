@@ -14,9 +14,9 @@ ghost use Rattle.swf_catalog.specs.TaskRef.{loop_variables};
 use crate::scene::Scene;
 use crate::setting::push_named;
 use std::alloc::{AllocError, Global};
+use swf_catalog::{Iteration, Round, TaskRef, Words, Work};
 use swf_document::{ForSpec, Problem, problem_value};
 use swf_jq_eval::{Variable, Vars};
-use swf_catalog::{Round, TaskRef, Iteration, Words, Work};
 use swf_stack::Running;
 use swf_text::{Place, Text, pointer_text, word};
 use swf_value::Json;
@@ -70,8 +70,12 @@ fn position(number: u64) -> Json
     Json::int(number as i64)
 }
 
-// Adds the item of a iteration and its position.
-fn push_iteration(variables: &mut Vec<Variable>, spec: &ForSpec, iteration: &Iteration) -> Result<(), AllocError>
+// Adds the item of an iteration and its position.
+fn push_iteration(
+    variables: &mut Vec<Variable>,
+    spec: &ForSpec,
+    iteration: &Iteration,
+) -> Result<(), AllocError>
     ensures { IfOk result (λ _. variables.new.items ≡ variables.old.items ++ loop_variables spec.now iteration.now) }
 {
     let items = iteration.items.as_slice();

@@ -1,7 +1,4 @@
 pub mod WayLemmas
-pub mod HearLemmas
-pub mod OfferLemmas
-pub mod EventTypeLemmas
 pub mod StepLemmas
 pub mod ChangeLemmas
 pub mod OutputLemmas

@@ -11,10 +11,10 @@ ghost use Rattle.swf_scene.specs.Halts.{Makes};
 ghost use Rattle.swf_scene.specs.Setting.{line_of, site_of};
 
 use std::alloc::Global;
+use swf_catalog::{Round, TaskRef, Work};
 use swf_document::{Flow, Template};
 use swf_rules::{Rule, input_of};
 use swf_scene::{Halt, Scene, within};
-use swf_catalog::{Round, TaskRef, Work};
 use swf_stack::{Made, Running, Top};
 use swf_value::Json;
 

@@ -1,5 +1,5 @@
 // What a step of a strand leads to, and what becomes of the forks that it ends.
-ghost use Rattle.std.specs.Prelude.{◌≡◌, ◌<◌, ◌+◌, ◌∷◌, [], ℕ, List, IfOk, Result, Some, option_map, true};
+ghost use Rattle.std.specs.Prelude.{◌≡◌, ◌<◌, ◌+◌, ◌-◌, ◌^◌, ◌∷◌, [], ℕ, List, IfOk, Result, Some, drop, option_map, true};
 ghost use Rattle.swf_frames.specs.Tree.{Branch, find};
 ghost use Rattle.swf_document.specs.declared.error.Problem.{Problem as TheProblem};
 ghost use Rattle.swf_meaning.specs.Complete.{Stepped, step_of};
@@ -8,81 +8,76 @@ ghost use Rattle.swf_meaning.specs.Line.{Line};
 ghost use Rattle.swf_meaning.specs.Strands.{can_go};
 ghost use Rattle.swf_scene.specs.Halts.{Makes};
 ghost use Rattle.swf_stack.specs.Stands.{frames_of};
-ghost use Rattle.swf_stack.specs.Stack.{seen_in, stepped_of, top_node};
+ghost use Rattle.swf_stack.specs.Stack.{seen_in, stepped_of, top_node, used_by};
 ghost use Rattle.swf_scene.specs.Setting.{line_of, site_of};
 ghost use Rattle.swf_stack.specs.declared.made.Stand.{Stand as TheStand};
 ghost use Rattle.swf_tasks.specs.Installed.{IsStep, behind, outer, own_node};
-ghost use Rattle.swf_tasks.specs.Stepped.{IsChange, IsChangeOf, IsForkOf, ended_of, has_ended, listed, output_of_top, output_on};
+ghost use Rattle.swf_tasks.specs.Stepped.{IsChange, IsChangeOf, IsForkOf, ended_at, ended_in, has_ended, listed, output_of_top, output_on};
 ghost use Rattle.swf_strands.specs.Strands.{IsHeld, node_of, nodes_of};
 
 use crate::enter::enter;
 use crate::hear::listened;
+use crate::prepared::{Prepared, Strands};
 use std::alloc::{AllocError, Global};
 use swf_chain::Chain;
 use swf_frames::{Forest, StrandId};
 use swf_rules::{Rule, failed, moved_on};
 use swf_scene::{Halt, Scene};
 use swf_stack::{Frame, Made, SentEvent, Stand, Top};
-use swf_strands::{child_of, stand_of};
+use swf_strands::{child_of, named, stand_of};
+use swf_text::Strand;
 use swf_value::Json;
 
-/// What a step changes: what the strand holds then that so many branch numbers lead to, below which no others stand but those of
-/// a `fork` that begins; the context; and the event that goes out, where one does.
-#[derive(Drop)]
-pub struct Change {
-    pub depth: usize,
-    pub stand: Stand,
-    pub context: Json,
-    pub emitted: Option<SentEvent>,
-}
-
-/// The step of the strand that these branch numbers lead to from this one.
+/// The step of a strand, told from the one that so many of its branch numbers lead to.
 pub fn step_of(
     alloc: Global,
     forest: &Forest<Stand>,
-    strand: StrandId,
-    branches: &[u16],
+    above: StrandId,
+    strand: &Strand,
+    depth: usize,
     scene: Scene,
-) -> Result<Change, AllocError>
-    requires held { IsHeld forest.now strand }
-    requires can { (b : Branch TheStand) → find forest.now.strands strand ≡ Some b → can_go scene.now branches.now (node_of b) ≡ true }
-    ensures { IfOk result (λ c. (b : Branch TheStand) → find forest.now.strands strand ≡ Some b → IsChange (site_of scene.entry) (line_of scene.entry) branches.now (node_of b) c) }
+) -> Result<Prepared, AllocError>
+    requires held { IsHeld forest.now above }
+    requires can { (b : Branch TheStand) → find forest.now.strands above ≡ Some b → can_go scene.site.now (drop depth strand.now) (node_of b) ≡ true }
+    ensures { IfOk result (λ p. (b : Branch TheStand) → find forest.now.strands above ≡ Some b → IsChange (site_of scene.entry) (line_of scene.entry) strand.now depth (drop depth strand.now) (node_of b) p) }
 {
-    let stand = stand_of(forest, strand);
-    let Some((number, inner)) = branches.split_first() else {
-        return own_step(alloc, scene, stand);
+    let stand = stand_of(forest, above);
+    let Some(number) = strand.as_slice().get(depth) else {
+        return own_step(alloc, scene, stand, strand, depth);
     };
     let number = *number as usize;
-    let Some(child) = child_of(forest, strand, number) else {
+    let Some(branch) = child_of(forest, above, number) else {
         unreachable!();
     };
     let scene = scene.inside(alloc, &stand.around)?;
-    let change = step_of(alloc, forest, child, inner, scene.copy(alloc)?)?;
-    settle(alloc, forest, strand, number, scene, change)
+    let prepared = step_of(alloc, forest, branch, strand, depth + 1, scene.copy(alloc)?)?;
+    settle(alloc, forest, above, depth, number, scene, prepared)
 }
 
-// The step of a branch, with what becomes of its `fork`.
+// The step of a branch, with what becomes of its `fork`. A branch leaves the context as it was.
 fn settle(
     alloc: Global,
     forest: &Forest<Stand>,
-    strand: StrandId,
+    above: StrandId,
+    depth: usize,
     number: usize,
     scene: Scene,
-    change: Change,
-) -> Result<Change, AllocError>
-    requires held { IsHeld forest.now strand }
-    requires fork { (b : Branch TheStand) → find forest.now.strands strand ≡ Some b → IsForkOf b number }
-    ensures { IfOk result (λ c. (b : Branch TheStand) (l : Line) (inner : List ℕ) → find forest.now.strands strand ≡ Some b → line_of scene.entry ≡ seen_in l (frames_of b.frames) → IsChangeOf (site_of scene.entry) (line_of scene.entry) inner b number change → IsChange (site_of scene.entry) l (number ∷ inner) (node_of b) c) }
+    mut prepared: Prepared,
+) -> Result<Prepared, AllocError>
+    requires held { IsHeld forest.now above }
+    requires fork { (b : Branch TheStand) → find forest.now.strands above ≡ Some b → IsForkOf b number }
+    requires inner { depth < 2 ^ 64 - 1 }
+    ensures { IfOk result (λ p. (b : Branch TheStand) (l : Line) (way inner : List ℕ) → find forest.now.strands above ≡ Some b → line_of scene.entry ≡ seen_in l (frames_of b.frames) → IsChangeOf (site_of scene.entry) (line_of scene.entry) way (depth + 1) inner b number prepared → IsChange (site_of scene.entry) l way depth (number ∷ inner) (node_of b) p) }
 {
-    let Some(ended) = ended(&change) else {
-        return deeper(change);
+    prepared.context = scene.context.copy()?;
+    let Some(ended) = ended(&prepared.strands, depth + 1) else {
+        return Ok(prepared);
     };
-    let Stand { around, top } = stand_of(forest, strand);
+    let Stand { around, top } = stand_of(forest, above);
     let Top::Forked(running) = top else {
         unreachable!();
     };
-    let outputs = outputs_of(alloc, forest, strand, number, ended)?;
-    let scene = scene.with_context(change.context.copy()?);
+    let outputs = outputs_of(alloc, forest, above, number, ended)?;
     let rule = Rule {
         alloc,
         scene: &scene,
@@ -90,33 +85,32 @@ fn settle(
     };
     let given = rule.settled(running.task().competes(), ended, outputs);
     let made = match given {
-        Ok(None) => return deeper(change),
+        Ok(None) => return Ok(prepared),
         Ok(Some(made)) => made,
         Err(halt) => made_of(&scene, Err(halt))?,
     };
-    Ok(Change {
-        depth: 0,
-        stand: Stand::inside(alloc, around, made.frame, made.top)?,
-        context: made.context,
-        emitted: change.emitted,
-    })
+    let stand = Stand::inside(alloc, around, made.frame, made.top)?;
+    prepared.strands = Strands::One { depth, stand };
+    prepared.context = made.context;
+    Ok(prepared)
 }
 
-// The same change, told from the strand above.
-fn deeper(mut change: Change) -> Result<Change, AllocError>
-    ensures { IfOk result (λ c. c ≡ record change { depth = change.depth + 1 }) }
+// What the strand ended in that so many branch numbers lead to, where it is the one that is put anew and it ended.
+fn ended(strands: &Strands, depth: usize) -> Option<&Top>
+    ensures { option_map (λ t. t.now) result ≡ ended_at depth strands.now }
 {
-    change.depth = change.depth.checked_add(1).ok_or(AllocError)?;
-    Ok(change)
+    match strands {
+        Strands::One { depth: at, stand } if *at == depth => ended_in(stand),
+        _ => None,
+    }
 }
 
-// What the outermost strand ended in, where it did.
-fn ended(change: &Change) -> Option<&Top>
-    ensures { option_map (λ t. t.now) result ≡ ended_of change.now.depth change.now.stand }
+// What a strand ended in, where it did.
+fn ended_in(stand: &Stand) -> Option<&Top>
+    ensures { option_map (λ t. t.now) result ≡ ended_in stand.now.around stand.now.top }
 {
-    let Stand { around, top } = &change.stand;
-    if change.depth == 0 && around.is_empty() && has_ended(top) {
-        Some(top)
+    if stand.around.is_empty() && has_ended(&stand.top) {
+        Some(&stand.top)
     } else {
         None
     }
@@ -177,18 +171,39 @@ fn outputs_of(
     Ok(Some(Json::list(alloc, outputs)?))
 }
 
-// What stands innermost on a strand takes its step.
-fn own_step(alloc: Global, scene: Scene, stand: &Stand) -> Result<Change, AllocError>
-    requires { can_go scene.now [] (own_node stand.now) ≡ true }
-    ensures { IfOk result (λ c. IsChange (site_of scene.entry) (line_of scene.entry) [] (own_node stand.now) c) }
+// What stands innermost on a strand takes its step, to which so many of these branch numbers lead.
+fn own_step(
+    alloc: Global,
+    scene: Scene,
+    stand: &Stand,
+    strand: &Strand,
+    depth: usize,
+) -> Result<Prepared, AllocError>
+    requires { can_go scene.site.now [] (own_node stand.now) ≡ true }
+    ensures { IfOk result (λ p. IsChange (site_of scene.entry) (line_of scene.entry) strand.now depth [] (own_node stand.now) p) }
 {
+    let number = scene.setting.number;
     let made = next_of(alloc, scene, stand)?;
-    Ok(Change {
-        depth: 0,
-        stand: Stand::inside(alloc, outer_of(stand), made.frame, made.top)?,
+    let number = number_after(number, &made.emitted)?;
+    let strand = named(alloc, strand.as_slice())?;
+    let stand = Stand::inside(alloc, outer_of(stand), made.frame, made.top)?;
+    Ok(Prepared {
+        strand,
+        strands: Strands::One { depth, stand },
         context: made.context,
+        number,
         emitted: made.emitted,
     })
+}
+
+// The number of the next event, where this one goes out. There is none behind the greatest.
+fn number_after(number: u64, emitted: &Option<SentEvent>) -> Result<u64, AllocError>
+    ensures { IfOk result (λ n. n ≡ number + used_by emitted.now) }
+{
+    match emitted {
+        None => Ok(number),
+        Some(_) => number.checked_add(1).ok_or(AllocError),
+    }
 }
 
 // The tasks that still run around what a step puts anew.
@@ -203,7 +218,7 @@ fn outer_of(stand: &Stand) -> &Chain<Frame>
 
 // What the step makes of what stands innermost.
 fn next_of(alloc: Global, scene: Scene, stand: &Stand) -> Result<Made, AllocError>
-    requires { can_go scene.now [] (own_node stand.now) ≡ true }
+    requires { can_go scene.site.now [] (own_node stand.now) ≡ true }
     ensures { IfOk result (λ m. IsStep (site_of scene.entry) (line_of scene.entry) stand.now (stepped_of m)) }
 {
     let scene = scene.inside(alloc, outer_of(stand))?;

@@ -7,6 +7,7 @@ use Rattle.swf_meaning.specs.declared.key.Key.TheVariants as keys
 use Rattle.swf_meaning.specs.declared.label.Label.{Label}
 use Rattle.swf_meaning.specs.declared.label.Label.TheVariants.{Step}
 use Rattle.swf_meaning.specs.Complete.{Stepped}
+use Rattle.swf_meaning.specs.Documents.{Loaded}
 use Rattle.swf_meaning.specs.Offer.{takers}
 use Rattle.swf_meaning.specs.World.{World, Instance, new_instance, step_at, with_step}
 use Rattle.swf_runs.specs.After.{after, stepped, taken_by}
@@ -47,20 +48,21 @@ abbrev pub IsSent : ℕ → Option Event → List Instance → List Hearing → 
 IsSent n None is hs = hs ≡ []
 IsSent n (Some e) is hs = IsOffer n e is hs
 
--- a strand of the instance of that number takes its step at a moment, and the others are told the event that goes out
-abbrev pub Steps : ℕ → ℕ → List ℕ → List Instance → ChangeKind → Type 0
-Steps now n strand is (kinds.Step m step emitted heard) = (m ≡ n) × IsReady now n strand is step emitted × IsSent n emitted is heard.items
-Steps now n strand is k = ⊥
+-- a strand of the instance of that number takes its step at a moment, where these documents are loaded, and the others are told the event
+-- that goes out
+abbrev pub Steps : ℕ → List Loaded → ℕ → List ℕ → List Instance → ChangeKind → Type 0
+Steps now ds n strand is (kinds.Step m prepared heard) = (m ≡ n) × IsReady now ds n strand is prepared × IsSent n prepared.emitted is heard.items
+Steps now ds n strand is k = ⊥
 
 -- the change of a step
-pub record IsStepping (now n : ℕ) (strand : List ℕ) (is : List Instance) (c : Change) : Type 0 where
-  pub steps : Steps now n strand is c.kind
+pub record IsStepping (now : ℕ) (ds : List Loaded) (n : ℕ) (strand : List ℕ) (is : List Instance) (c : Change) : Type 0 where
+  pub steps : Steps now ds n strand is c.kind
   pub taken : c.taken ≡ 0
 
 -- the instance of that number is the first of its id: a strand's step is the one of the definitions
 abbrev pub StepsFirst : World → List ℕ → List ℕ → ℕ → Type 0
 StepsFirst w id strand n =
-    (i : Instance) (m : Stepped) → slice_get w.instances n ≡ Some i → step_at w.now strand i ≡ Some m → stepped w.now id strand w.instances ≡ Some (put_at n (with_step i m) w.instances, m.emitted)
+    (i : Instance) (m : Stepped) → slice_get w.instances n ≡ Some i → step_at w.now w.documents strand i ≡ Some m → stepped w.now w.documents id strand w.instances ≡ Some (put_at n (with_step i m) w.instances, m.emitted)
 
 -- what was made, or want of memory
 abbrev pub or_memory : {E : Type 0} → Result Change E → Result Change PrepareFault

@@ -11,9 +11,9 @@ use crate::change::{Change, ChangeKind, Installed};
 use crate::refusal::PrepareFault;
 use crate::world::World;
 use std::alloc::AllocError;
+use swf_catalog::Documents;
 use swf_instances::Instances;
 use swf_meaning::Label;
-use swf_catalog::Documents;
 use swf_registry::UsedKeys;
 
 /// How many labels a world takes.
@@ -62,10 +62,9 @@ impl World {
             ChangeKind::Moment(moment) => self.install_moment(moment),
             ChangeKind::Step {
                 number,
-                step,
-                emitted,
+                prepared,
                 heard,
-            } => self.install_step(number, step, emitted, heard),
+            } => self.install_step(number, prepared, heard),
         }
         Installed { place, taken }
     }

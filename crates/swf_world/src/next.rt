@@ -1,4 +1,4 @@
-// Whose turn it is: the enabled instances take steps in turn.
+// The next step: of the first instance in the queue that can take one.
 ghost use Rattle.std.specs.Prelude.{◌≡◌, ◌<◌, Ok, true, false, IfOk, IfSome, None};
 ghost use Rattle.swf_instances.specs.Queued.{CanGoAt};
 ghost use Rattle.swf_runs.specs.Runs.{is_quiet};
@@ -12,8 +12,8 @@ use swf_meaning::Label;
 use swf_text::Strand;
 
 impl World {
-    /// The next step that can be taken, where there is one, and its change, for which the world has room. The instance that takes it has its
-    /// next turn after all others.
+    /// The next step that can be taken, where there is one, and its change, for which the world has room. The instance that takes it goes
+    /// behind all others in the queue.
     pub fn prepare_next(&mut self) -> Result<Option<(Label, Change)>, AllocError>
         ensures same { self.new.world ≡ self.old.world }
         ensures none { result ≡ Ok None → is_quiet self.new.world ≡ true }
@@ -21,11 +21,10 @@ impl World {
         ensures some { IfOk result (λ o. IfSome o (IsPreparedStep self.new.world)) }
         ensures room { IfOk result (λ o. IfSome o (λ _. 0 < self.new.room)) }
     {
-        let Some(turn) = self.instances.next_step(self.alloc)? else {
+        let Some((number, strand)) = self.instances.next_step(self.alloc)? else {
             return Ok(None);
         };
         self.make_room()?;
-        let (number, strand) = turn;
         let step = self.step_at(number, strand)?;
         Ok(Some(step))
     }
@@ -43,9 +42,8 @@ impl World {
         requires { CanGoAt self.now.world.now self.now.world.instances number strand }
         ensures { IfOk result (IsPreparedStep self.now.world) }
     {
-        let now = self.now();
         let id = self.instances.at(number).id().copy()?;
-        let change = step_change(self.alloc, number, &self.instances, &strand, now)?;
+        let change = step_change(self.alloc, number, &self.instances, &strand, self.site())?;
         Ok((Label::Step { id, strand }, change))
     }
 }

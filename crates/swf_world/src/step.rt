@@ -1,10 +1,10 @@
 // A step: a strand of an instance takes it, and an event that goes out is offered to all.
-ghost use Rattle.std.specs.Prelude.{◌≡◌, ◌<◌, ◌++◌, length, option_to_list, IfOk};
+ghost use Rattle.std.specs.Prelude.{◌≡◌, ◌<◌, ◌++◌, option_to_list, IfOk};
 ghost use Rattle.std.specs.Vec.{vec_len, vec_capacity};
 ghost use Rattle.swf_meaning.specs.declared.label.Label.{Label};
 ghost use Rattle.swf_meaning.specs.Answer.{instance_at};
-ghost use Rattle.swf_tasks.specs.Prepares.{applied, Fits};
-ghost use Rattle.swf_world.specs.Changes.{SuitsStep, offered_own, with_stepped};
+ghost use Rattle.swf_instances.specs.Queued.{CanGoAt};
+ghost use Rattle.swf_world.specs.Changes.{SuitsStep, with_stepped};
 ghost use Rattle.swf_world.specs.Prepares.{Prepares, IsSent, IsStepping, StepsFirst};
 ghost use Rattle.swf_world.specs.Refusals.{refusal_of_step, refused_by};
 
@@ -13,16 +13,16 @@ use crate::refusal::{PrepareFault, Refusal};
 use crate::world::World;
 use std::alloc::{AllocError, Global};
 use swf_cloudevents::Event;
-use swf_duration::Moment;
 use swf_instances::{Hearing, Instances};
-use swf_tasks::{BoxedMachine, Machine, SentEvent, Step};
+use swf_tasks::{Prepared, SentEvent, Site};
 use swf_text::{Strand, Text};
 
 impl World {
     // The number of the instance whose strand can take a step, or why it cannot.
     pub(crate) fn steppable(&self, id: &Text, strand: &Strand) -> Result<usize, Refusal>
         ensures refused { refused_by result ≡ refusal_of_step self.now.world.now strand.now (instance_at id.now self.now.world.instances) }
-        ensures found { IfOk result (λ n. (n < length self.now.world.instances) × StepsFirst self.now.world id.now strand.now n) }
+        ensures can { IfOk result (λ n. CanGoAt self.now.world.now self.now.world.instances n strand.now) }
+        ensures first { IfOk result (λ n. StepsFirst self.now.world id.now strand.now n) }
     {
         let Some(number) = self.instances.number_of(id) else {
             return Err(Refusal::UnknownInstance);
@@ -37,27 +37,21 @@ impl World {
     pub(crate) fn prepare_step(&self, id: &Text, strand: &Strand) -> Result<Change, PrepareFault>
         ensures { Prepares self.now.world (Label.Step id.now strand.now) result }
     {
-        let now = self.now();
+        let (instances, site) = (&self.instances, self.site());
         match self.steppable(id, strand) {
             Err(refusal) => Err(PrepareFault::Refused(refusal)),
-            Ok(number) => ready(step_change(self.alloc, number, &self.instances, strand, now)),
+            Ok(number) => ready(step_change(self.alloc, number, instances, strand, site)),
         }
     }
 
     // The others that took the event are in their places before the instance itself takes its step.
-    pub(crate) fn install_step(
-        &mut self,
-        number: usize,
-        step: Step,
-        emitted: Option<SentEvent>,
-        heard: Vec<Hearing>,
-    )
-        requires suits { SuitsStep self.old.world number step emitted heard.items }
+    pub(crate) fn install_step(&mut self, number: usize, prepared: Prepared, heard: Vec<Hearing>)
+        requires suits { SuitsStep self.old.world number prepared heard.items }
         requires room { 0 < self.old.room }
-        ensures { self.new.world ≡ with_stepped self.old.world number step emitted heard.items }
+        ensures { self.new.world ≡ with_stepped self.old.world number prepared heard.items }
     {
         self.instances.hear(heard);
-        self.instances.take(number, step);
+        let emitted = self.instances.take(number, prepared);
         put_out(&mut self.outbox, emitted);
         self.count += 1;
     }
@@ -69,42 +63,20 @@ pub fn step_change(
     number: usize,
     instances: &Instances,
     strand: &Strand,
-    now: Moment,
+    site: Site<'_>,
 ) -> Result<Change, AllocError>
-    requires { number < length instances.now.instances }
-    ensures { IfOk result (IsStepping now number strand.now instances.now.instances) }
+    requires { CanGoAt site.now instances.now.instances number strand.now }
+    ensures { IfOk result (IsStepping site.now site.documents.now.documents number strand.now instances.now.instances) }
 {
     let instance = instances.at(number);
-    let Ok(prepared) = instance.prepare(alloc, strand, now) else {
-        return Err(AllocError);
-    };
-    let step = offered_step(alloc, instance, prepared.step, &prepared.emitted)?;
+    let prepared = instance.prepare(alloc, strand, site)?;
     let heard = heard_by(alloc, &prepared.emitted, instances, number)?;
+    let prepared = instance.offered(alloc, prepared)?;
     Ok(untold(ChangeKind::Step {
         number,
-        step,
-        emitted: prepared.emitted,
+        prepared,
         heard,
     }))
-}
-
-// The step of an instance that is offered the event which goes out, where one does.
-fn offered_step(
-    alloc: Global,
-    instance: &Machine,
-    step: Step,
-    emitted: &Option<SentEvent>,
-) -> Result<Step, AllocError>
-    requires { Fits step instance.now }
-    ensures { IfOk result (λ s. Fits s instance.now × (applied s instance.now ≡ offered_own emitted.now (applied step instance.now))) }
-{
-    let Some(sent) = emitted else {
-        return Ok(step);
-    };
-    let mut instance = instance.copy(alloc)?;
-    instance.take(step);
-    instance.deliver_event(alloc, sent.event())?;
-    Ok(Step::Whole(BoxedMachine::new(alloc, instance)?))
 }
 
 // The others that take the event which goes out, where one does.

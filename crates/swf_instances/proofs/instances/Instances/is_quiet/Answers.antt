@@ -1,5 +1,5 @@
 use Rattle.swf_instances.specs.Held.{instances_in}
-use Rattle.swf_instances.proofs.QueuedLemmas.{quiet_is, kept_turned}
+use Rattle.swf_instances.proofs.QueuedLemmas.{quiet_is, kept_ordered}
 use Rattle.swf_instances.proofs.instances.Instances.is_quiet.Goals as goal
 
 pub returns-clause-quiet : goal.returns-clause-quiet
@@ -9,5 +9,5 @@ returns-clause-quiet c =
 
 pub invariant_of-self : goal.invariant_of-self
 invariant_of-self c =
-    kept_turned c.self.inside.machines.entries c.self.inside.moment c.self.inside.queue c.first_enabled.new.queue c.self.inside.alarms.moments c.self.inside.listeners.wanted c.self.inside.stale
+    kept_ordered c.self.inside.machines.entries c.self.inside.moment c.self.inside.queue c.first_enabled.new.queue c.self.inside.alarms.moments c.self.inside.listeners.wanted c.self.inside.stale
     c.self.invariant c.first_enabled.ensures.count (c.first_enabled.ensures.queue c.self.invariant.waiting.queued)

@@ -1,7 +1,0 @@
-use Rattle.std.proofs.Common.{◌≡◌, drop}
-use Rattle.swf_tasks.specs.EventTypes.{type_told}
-use Rattle.swf_tasks.proofs.event_types.type_told.Given as goal
-
--- the attributes that are left decide
-abbrev pub invariant-loop-attribute : goal.invariant-loop-attribute
-invariant-loop-attribute l = type_told l.attributes ≡ type_told (drop l.attribute-index l.attributes)
