@@ -4,7 +4,6 @@ ghost use Rattle.std.specs.List.{list_any};
 ghost use Rattle.swf_text.specs.Same.{same};
 ghost use Rattle.swf_meaning.specs.Answer.{instance_at};
 ghost use Rattle.swf_meaning.specs.Wake.{is_due, waits};
-ghost use Rattle.swf_instances.specs.Offers.{ids, put_at};
 ghost use Rattle.swf_instances.specs.Takes.{FitsAt, take_at};
 
 use crate::listening::note_all;
@@ -164,18 +163,6 @@ impl Instances {
         let emitted = instance.take(prepared);
         self.alarms.set(number, instance.alarm());
         emitted
-    }
-
-    // An instance stands in the place of another one of its id, and joins the queue. It takes no memory.
-    pub(crate) fn put(&mut self, number: usize, instance: Machine)
-        requires { slice_get (ids self.old.instances) number ≡ Some instance.id }
-        ensures instances { self.new.instances ≡ put_at number instance self.old.instances }
-        ensures moment { self.new.moment ≡ self.old.moment }
-    {
-        self.queue.put(number);
-        self.stale.put(number);
-        self.alarms.set(number, instance.alarm());
-        self.machines[number] = instance;
     }
 
     /// A moment is reached: the instances whose wait is over join the queue. It takes no memory.

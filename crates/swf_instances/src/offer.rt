@@ -1,9 +1,9 @@
 // An event is offered to all that listen.
-ghost use Rattle.std.specs.Prelude.{◌≡◌, ◌≤◌, ◌+◌, ◌++◌, ◌∷◌, [], true, length, nat_lt, if◌then◌else◌, IfOk};
+ghost use Rattle.std.specs.Prelude.{◌≡◌, ◌≤◌, ◌+◌, ◌++◌, ◌∷◌, [], true, length, nat_lt, slice_get, Some, if◌then◌else◌, IfOk};
 ghost use Rattle.std.specs.List.{AllByRecursion};
 ghost use Rattle.swf_listeners.specs.Listeners.{numbers_where};
 ghost use Rattle.swf_meaning.specs.Offer.{takers, takers_in, offered_one};
-ghost use Rattle.swf_instances.specs.Offers.{put_all, Covers, IsHeardFrom, IsOffer};
+ghost use Rattle.swf_instances.specs.Offers.{ids, put_all, put_at, Covers, IsHeardFrom, IsOffer};
 
 use crate::instances::Instances;
 use std::alloc::{AllocError, Global};
@@ -84,6 +84,18 @@ impl Instances {
         for Hearing { number, instance } in heard {
             self.put(number, instance.into_machine());
         }
+    }
+
+    // An instance stands in the place of another one of its id, and joins the queue. It takes no memory.
+    fn put(&mut self, number: usize, instance: Machine)
+        requires { slice_get (ids self.old.instances) number ≡ Some instance.id }
+        ensures instances { self.new.instances ≡ put_at number instance self.old.instances }
+        ensures moment { self.new.moment ≡ self.old.moment }
+    {
+        self.queue.put(number);
+        self.stale.put(number);
+        self.alarms.set(number, instance.alarm());
+        self.machines[number] = instance;
     }
 }
 

@@ -66,7 +66,7 @@ pub fn step_change(
     site: Site<'_>,
 ) -> Result<Change, AllocError>
     requires { CanGoAt site.now instances.now.instances number strand.now }
-    ensures { IfOk result (IsStepping site.now site.documents.now.documents number strand.now instances.now.instances) }
+    ensures { IfOk result (IsStepping site.entry.now site.entry.documents.now.documents number strand.now instances.now.instances) }
 {
     let instance = instances.at(number);
     let prepared = instance.prepare(alloc, strand, site)?;

@@ -5,9 +5,9 @@ ghost use Rattle.swf_world.specs.Waits.{is_due};
 
 use std::alloc::Global;
 use std::marker::Model;
+use swf_catalog::Documents;
 use swf_cloudevents::Event;
 use swf_duration::Moment;
-use swf_catalog::Documents;
 use swf_instances::Instances;
 use swf_registry::UsedKeys;
 use swf_tasks::Site;

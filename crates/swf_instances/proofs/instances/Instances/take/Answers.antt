@@ -19,16 +19,16 @@ pub put-requires-2 : goal.put-requires-2
 put-requires-2 c =
     omega (arith, slice_get_within c.args.self.now.instances c.args.number c.requires.0 c.requires.1, ap (λ h. length h.instances) c.self.view_is, c.self.invariant.listening.count)
 
-pub index_mut-requires : goal.index_mut-requires
-index_mut-requires c =
+pub index_mut-instance-requires : goal.index_mut-instance-requires
+index_mut-instance-requires c =
     omega (arith, slice_get_within c.args.self.now.instances c.args.number c.requires.0 c.requires.1, ap (λ h. length h.instances) c.self.view_is, length-map c.self.inside.machines.entries (λ e. e.1))
 
-pub take-requires : goal.take-requires
-take-requires c =
+pub take-emitted-requires : goal.take-emitted-requires
+take-emitted-requires c =
     let es = c.self.inside.machines.entries in
     let n = c.args.number in
-    let i = c.index_mut.result.now in
-    fits_there es n c.args.prepared c.args.self.now.instances i (ap (λ h. h.instances) c.self.view_is) c.requires (instance_there es n i c.index_mut.ensures.value)
+    let i = c.index_mut-instance.result.now in
+    fits_there es n c.args.prepared c.args.self.now.instances i (ap (λ h. h.instances) c.self.view_is) c.requires (instance_there es n i c.index_mut-instance.ensures.value)
 
 pub set-requires : goal.set-requires
 set-requires c =
@@ -44,11 +44,11 @@ pub invariant_of-self : goal.invariant_of-self
 invariant_of-self c =
     let es = c.self.inside.machines.entries in
     let n = c.args.number in
-    let i = c.index_mut.result.now in
-    let j = c.take.new.self in
-    let there : slice_get (instances_in es) n ≡ Some i = instance_there es n i c.index_mut.ensures.value in
+    let i = c.index_mut-instance.result.now in
+    let j = c.take-emitted.new.self in
+    let there : slice_get (instances_in es) n ≡ Some i = instance_there es n i c.index_mut-instance.ensures.value in
     let own : slice_get (ids (instances_in es)) n ≡ Some j.id =
-    slice_get-map (λ i. i.id) (instances_in es) n ∙ ap (option_map (λ i. i.id)) there ∙ ap (λ id. Some id) (sym (ap (λ j. j.id) c.take.ensures.changed ∙ same_id c.args.prepared i)) in
+    slice_get-map (λ i. i.id) (instances_in es) n ∙ ap (option_map (λ i. i.id)) there ∙ ap (λ id. Some id) (sym (ap (λ j. j.id) c.take-emitted.ensures.changed ∙ same_id c.args.prepared i)) in
     rw (c.set.ensures.moments, c.alarm.ensures)
     (kept_put es c.self.inside.moment n c.self.inside.queue c.put.new.self c.self.inside.alarms.moments c.self.inside.listeners.wanted c.self.inside.stale c.put-2.new.self j c.self.invariant own c.put.ensures.among c.put.ensures.count c.put-2.ensures.among c.put-2.ensures.count)
 
@@ -57,6 +57,6 @@ returns-clause-instances c =
     let es = c.self.inside.machines.entries in
     let n = c.args.number in
     let p = c.args.prepared in
-    let i = c.index_mut.result.now in
-    ap (λ j. instances_in (set_value_at es n j)) c.take.ensures.changed
-    ∙ set_put es n (applied p i) ∙ sym (take_put n p (instances_in es) i (instance_there es n i c.index_mut.ensures.value)) ∙ ap (λ h. take_at n p h.instances) c.self.view_is
+    let i = c.index_mut-instance.result.now in
+    ap (λ j. instances_in (set_value_at es n j)) c.take-emitted.ensures.changed
+    ∙ set_put es n (applied p i) ∙ sym (take_put n p (instances_in es) i (instance_there es n i c.index_mut-instance.ensures.value)) ∙ ap (λ h. take_at n p h.instances) c.self.view_is
