@@ -1,5 +1,5 @@
 -- A step changes one strand of a node.
-use Rattle.std.proofs.Common.{◌≡◌, ◌∙◌, refl, sym, ap, subst, ℕ, zero, suc, ◌+◌, ◌≤◌, Bool, true, false, List, [], ◌∷◌, ◌++◌, length, take, drop, Option, Some, None, Ok, Err, is_some, arith}
+use Rattle.std.proofs.Common.{◌≡◌, ◌∙◌, refl, sym, ap, subst, ℕ, zero, suc, ◌+◌, ◌≤◌, Bool, true, false, List, [], ◌∷◌, ◌++◌, length, take, drop, Option, Some, None, Ok, Err, is_some, add-one, arith}
 use Rattle.std.specs.Prelude.{nat_eq, option_map, option_and_then, option_to_list, slice_get, if◌then◌else◌, Result, IfOk}
 use Rattle.std.proofs.lemmas.Bool.{eq-eqb, eqb-true}
 use Rattle.std.proofs.lemmas.Option.{same_Some}
@@ -333,23 +333,26 @@ pub nowhere-goes : (now : ℕ) (is : List ℕ) (i : ℕ) (b : Branch Stand) → 
 nowhere-goes now is i b none can = yes-no (sym can ∙ ap (top_is (can_top now)) (top-no-child b i is none))
 
 -- the numbers of a way behind the first ones
+drop-nothing : (k : ℕ) → drop {A = ℕ} k [] ≡ []
+drop-nothing zero = refl
+drop-nothing (suc k) = refl
+
+get-nothing : (k : ℕ) → slice_get {X = ℕ} [] k ≡ None
+get-nothing zero = refl
+get-nothing (suc k) = refl
+
 pub way-end : (xs : List ℕ) (k : ℕ) → slice_get xs k ≡ None → drop k xs ≡ []
 way-end [] k e = drop-nothing k
-  where
-    drop-nothing : (k : ℕ) → drop k [] ≡ []
-    drop-nothing zero = refl
-    drop-nothing (suc k) = refl
 way-end (x ∷ xs) zero e = absurd (nothing x (sym e))
 way-end (x ∷ xs) (suc k) e = way-end xs k e
 
+way-next : (xs : List ℕ) (k x : ℕ) → slice_get xs k ≡ Some x → drop k xs ≡ x ∷ drop (suc k) xs
+way-next [] k x e = absurd (nothing x (sym (get-nothing k) ∙ e))
+way-next (y ∷ ys) zero x e = ap (λ z. z ∷ ys) (same_Some y x e)
+way-next (y ∷ ys) (suc k) x e = way-next ys k x e
+
 pub way-more : (xs : List ℕ) (k x : ℕ) → slice_get xs k ≡ Some x → drop k xs ≡ x ∷ drop (k + 1) xs
-way-more [] k x e = absurd (nothing x (sym (no k) ∙ e))
-  where
-    no : (k : ℕ) → slice_get {X = ℕ} [] k ≡ None
-    no zero = refl
-    no (suc k) = refl
-way-more (y ∷ ys) zero x e = ap (λ z. z ∷ ys) (same_Some y x e)
-way-more (y ∷ ys) (suc k) x e = way-more ys k x e
+way-more xs k x e = way-next xs k x e ∙ ap (λ n. x ∷ drop n xs) (sym (add-one k))
 
 -- ---- the step of a strand itself, told of the strand
 
