@@ -1,6 +1,7 @@
 -- A step changes one strand of a node.
-use Rattle.std.proofs.Common.{◌≡◌, ◌∙◌, refl, sym, ap, subst, ℕ, zero, suc, ◌+◌, ◌≤◌, Bool, true, false, List, [], ◌∷◌, ◌++◌, length, take, Option, Some, None, Ok, Err, is_some, add-one, arith}
-use Rattle.std.specs.Prelude.{option_map, option_and_then, option_to_list, if◌then◌else◌, Result, IfOk}
+use Rattle.std.proofs.Common.{◌≡◌, ◌∙◌, refl, sym, ap, subst, ℕ, zero, suc, ◌+◌, ◌≤◌, Bool, true, false, List, [], ◌∷◌, ◌++◌, length, take, drop, Option, Some, None, Ok, Err, is_some, add-one, arith}
+use Rattle.std.specs.Prelude.{nat_eq, option_map, option_and_then, option_to_list, slice_get, if◌then◌else◌, Result, IfOk}
+use Rattle.std.proofs.lemmas.Bool.{eq-eqb, eqb-true}
 use Rattle.std.proofs.lemmas.Option.{same_Some}
 use Rattle.swf_value.specs.Value.{Value}
 use Rattle.swf_document.specs.declared.common.Flow.TheVariants as flows
@@ -28,10 +29,11 @@ use Rattle.swf_stack.specs.declared.made.Made.{Made}
 use Rattle.swf_stack.specs.declared.made.Top.{Top}
 use Rattle.swf_stack.specs.declared.made.Top.TheVariants as tops
 use Rattle.swf_tasks.specs.Installed.{put_in, IsStep, outer, own_node}
-use Rattle.swf_tasks.specs.Stepped.{IsChange, IsChangeOf, IsForkOf, change_at, ended_in, ended_of, if_ended, has_ended, listed}
+use Rattle.swf_tasks.specs.Stepped.{IsChange, IsChangeOf, IsForkOf, change_at, ended_at, ended_in, if_ended, has_ended, listed}
 use Rattle.swf_strands.specs.Strands.{made_stand, node_of, nodes_of, is_fork, IsGrownAt, IsHeld}
 use Rattle.swf_strands.specs.Ways.{has_strand, replaced}
-use Rattle.swf_tasks.specs.declared.step.Change.{Change}
+use Rattle.swf_tasks.specs.declared.prepared.Prepared.{Prepared}
+use Rattle.swf_tasks.specs.declared.prepared.Strands.TheVariants as strands
 use Rattle.swf_tasks.proofs.StepLemmas.{plug-append, is_open, open-plug, local-put, local-plug}
 use Rattle.swf_strands.proofs.AskLemmas.{can_go-live}
 use Rattle.swf_strands.proofs.TopLemmas.{top-no-child}
@@ -45,15 +47,18 @@ pub made-around : (fs : List Frame) (m : Made) (h : Stand) → h.around ≡ opti
 made-around fs m h a t =
     (λ i. plug (inward (a i)) (made_node (t i))) ∙ ap (λ gs. plug gs (made_node m.top)) (inward-more fs m.frame) ∙ plug-append (inward fs) (option_to_list m.frame) (made_node m.top)
 
-pub own-change : (s : Site) (l : Line) (h : Stand) (m : Made) (c : Change) → IsStep s l h (stepped_of m) → c.depth ≡ 0 → c.stand.around ≡ option_to_list m.frame ++ outer h.top h.around → c.stand.top ≡ m.top → c.context ≡ m.context → c.emitted ≡ m.emitted → IsChange s l [] (own_node h) c
-own-change s l h m c step d a t x e = record {
-  deep = omega (arith, d);
-  there = ap (λ n. has_strand (take n []) (own_node h)) d;
-  step = step ∙ ap Some (λ i. record { node = node i; context = sym x i; used = used_by (sym e i); emitted = sym e i });
+pub own-change : (s : Site) (l : Line) (h : Stand) (m : Made) (x : Stand) (way : List ℕ) (above : ℕ) (p : Prepared) → IsStep s l h (stepped_of m) → p.strands ≡ strands.One above x → x.around ≡ option_to_list m.frame ++ outer h.top h.around → x.top ≡ m.top → p.context ≡ m.context → p.emitted ≡ m.emitted →
+    p.strand ≡ way → p.number ≡ s.number + used_by m.emitted → IsChange s l way above [] (own_node h) p
+own-change s l h m x way above p step puts a t c e named number = record {
+  depth = 0;
+  stand = x;
+  puts = puts ∙ ap (λ n. strands.One n x) (omega arith);
+  deep = omega arith;
+  there = refl;
+  step = step ∙ ap Some (λ i. record { node = sym (made-around (outer h.top h.around) m x a t) i; context = sym c i; used = used_by (sym e i); emitted = sym e i });
+  named = named;
+  number = number ∙ ap (λ o. s.number + used_by o) (sym e);
 }
-  where
-    node : plug (inward (outer h.top h.around)) (stepped_of m).node ≡ replaced (take c.depth []) (made_stand c.stand) (own_node h)
-    node = sym (made-around (outer h.top h.around) m c.stand a t) ∙ sym (ap (λ n. replaced (take n []) (made_stand c.stand) (own_node h)) d)
 
 -- ---- a branch takes its step
 
@@ -70,25 +75,35 @@ local-fork s l fs r ns i bs n m e h =
     let z = seen_in l fs in
     local-plug s l (i ∷ bs) fs (Live r (Forked ns)) (after_branch z r ns i m) refl (local-among s z i bs ns n (after_branch z r ns i) e ∙ ap (option_map (after_branch z r ns i)) h)
 
--- the `fork` goes on with what the branch became
-abbrev pub goes_with : Running → Nodes → ℕ → Stepped → Stepped
-goes_with r ns i m = record m { node = Live r (Forked (put ns i m.node)) }
+-- the `fork` goes on with what the branch became, and the context as it was
+abbrev pub goes_with : Line → Running → Nodes → ℕ → Stepped → Stepped
+goes_with l r ns i m = record m { node = Live r (Forked (put ns i m.node)); context = l.context }
 
 -- it does so while the branch has not ended
-open-after : (l : Line) (r : Running) (ns : Nodes) (i : ℕ) (m : Stepped) → is_open m.node ≡ true → after_branch l r ns i m ≡ goes_with r ns i m
+open-after : (l : Line) (r : Running) (ns : Nodes) (i : ℕ) (m : Stepped) → is_open m.node ≡ true → after_branch l r ns i m ≡ goes_with l r ns i m
 open-after l r ns i m e = by m.node refl
   where
-    k : Line
-    k = record l { context = m.context }
+    same : (n : Node) → n ≡ m.node → settled l r (competes r.task) (put ns i m.node) n ≡ Ok (becomes l (Live r (Forked (put ns i m.node)))) → after_branch l r ns i m ≡ goes_with l r ns i m
+    same n h is = ap (λ x. record (step_of l x) { used = m.used; emitted = m.emitted }) (ap (settled l r (competes r.task) (put ns i m.node)) (sym h) ∙ is)
 
-    same : (n : Node) → n ≡ m.node → settled k r (competes r.task) (put ns i m.node) n ≡ Ok (becomes k (Live r (Forked (put ns i m.node)))) → after_branch l r ns i m ≡ goes_with r ns i m
-    same n h is = ap (λ x. record (step_of k x) { used = m.used; emitted = m.emitted }) (ap (settled k r (competes r.task) (put ns i m.node)) (sym h) ∙ is)
-
-    by : (n : Node) → n ≡ m.node → after_branch l r ns i m ≡ goes_with r ns i m
+    by : (n : Node) → n ≡ m.node → after_branch l r ns i m ≡ goes_with l r ns i m
     by (Fresh t v) h = same (Fresh t v) h refl
     by (Live q x) h = same (Live q x) h refl
     by (Done w f) h = absurd (yes-no (sym e ∙ ap is_open (sym h)))
     by (Fault p) h = absurd (yes-no (sym e ∙ ap is_open (sym h)))
+
+-- what a strand that is put anew ended in, where that is the outermost
+abbrev pub ended_of : ℕ → Stand → Option Top
+ended_of zero h = ended_in h.around h.top
+ended_of (suc n) h = None
+
+ended-of : (n d : ℕ) (h : Stand) → ended_at n (strands.One (n + d) h) ≡ ended_of d h
+ended-of n zero h = ap (λ b. if b then ended_in h.around h.top else None) (eq-eqb (n + 0) n (omega arith))
+ended-of n (suc d) h = by (nat_eq (n + suc d) n) refl
+  where
+    by : (b : Bool) → nat_eq (n + suc d) n ≡ b → (if nat_eq (n + suc d) n then ended_in h.around h.top else None) ≡ None
+    by true e = let same = eqb-true (n + suc d) n e in absurd (omega (arith, same))
+    by false e = ap (λ b. if b then ended_in h.around h.top else None) e
 
 -- what the outermost strand is after the step: what it ended in, or a task that has not ended
 pub open-or-ended : (d : ℕ) (bs : List ℕ) (h : Stand) (n : Node) → d ≤ length bs → has_strand (take d bs) n ≡ true → ended_of d h ≡ None → is_open (replaced (take d bs) (made_stand h) n) ≡ true
@@ -113,22 +128,35 @@ open-or-ended (suc d) (b ∷ bs) h (Fault p) l there none = absurd (yes-no (sym 
 
 -- ---- the change of a branch is one of the strand
 
-take-first : (d i : ℕ) (is : List ℕ) → take (d + 1) (i ∷ is) ≡ i ∷ take d is
-take-first d i is = ap (λ n. take n (i ∷ is)) (add-one d)
+-- the line of what stands on the strand
+abbrev pub line_on : Line → Branch Stand → Line
+line_on l b = seen_in l (frames_of b.frames)
+
+-- what the branch of that number, which holds this, comes to
+abbrev pub branch_at : {s : Site} {z : Line} {way : List ℕ} {above : ℕ} (h : Found Stand) (inner : List ℕ) (p : Prepared) → IsChange s z way above inner (node_of h.held) p → Stepped
+branch_at h inner p change = change_at change.depth change.stand p inner (node_of h.held)
 
 -- the strand with the branch anew
-goes-on : (s : Site) (l : Line) (b : Branch Stand) (i : ℕ) (h : Found Stand) (inner : List ℕ) (c r : Change) → IsGrownAt b → nth b.below i ≡ Some h → IsChange s (seen_in l (frames_of b.frames)) inner (node_of h.held) c →
-    ((q : Running) → top_of b.frames ≡ tops.Forked q → after_branch (seen_in l (frames_of b.frames)) q (nodes_of b.below) i (change_at c inner (node_of h.held)) ≡ goes_with q (nodes_of b.below) i (change_at c inner (node_of h.held))) →
-    r ≡ record c { depth = c.depth + 1 } → IsChange s l (i ∷ inner) (node_of b) r
-goes-on s l b i h inner c r g e change after is = subst (IsChange s l (i ∷ inner) (node_of b)) (sym is) (record {
+goes-on : (s : Site) (l : Line) (way : List ℕ) (above : ℕ) (b : Branch Stand) (i : ℕ) (h : Found Stand) (inner : List ℕ) (p r : Prepared) → IsGrownAt b → nth b.below i ≡ Some h → (change : IsChange s (line_on l b) way (above + 1) inner (node_of h.held) p) →
+    ((q : Running) → top_of b.frames ≡ tops.Forked q → after_branch (line_on l b) q (nodes_of b.below) i (branch_at h inner p change) ≡ goes_with (line_on l b) q (nodes_of b.below) i (branch_at h inner p change)) →
+    r ≡ record p { context = (line_on l b).context } → IsChange s l way above (i ∷ inner) (node_of b) r
+goes-on s l way above b i h inner p r g e change after is = subst (IsChange s l way above (i ∷ inner) (node_of b)) (sym is) (record {
+  depth = suc d;
+  stand = change.stand;
+  puts = change.puts ∙ ap (λ n. strands.One n change.stand) (omega arith);
   deep = omega (arith, change.deep);
-  there = ap (λ bs. has_strand bs (node_of b)) (take-first c.depth i inner) ∙ ap is_some (at-child b i (take c.depth inner) h g e) ∙ change.there;
+  there = ap is_some (at-child b i (take d inner) h g e) ∙ change.there;
   step = ap (local s l (i ∷ inner)) f.1.1
       ∙ local-fork s l fs f.0 ns i inner (node_of h.held) x n change.step
       ∙ ap (λ y. Some (put_in fs y)) (after f.0 f.1.0)
-      ∙ ap (λ m. Some (record x { node = m })) (sym node);
+      ∙ ap (λ m. Some (record x { node = m; context = (line_on l b).context })) (sym node);
+  named = change.named;
+  number = change.number;
 })
   where
+    d : ℕ
+    d = change.depth
+
     fs : List Frame
     fs = frames_of b.frames
 
@@ -136,7 +164,7 @@ goes-on s l b i h inner c r g e change after is = subst (IsChange s l (i ∷ inn
     ns = nodes_of b.below
 
     x : Stepped
-    x = change_at c inner (node_of h.held)
+    x = branch_at h inner p change
 
     n : nth_node ns i ≡ Some (node_of h.held)
     n = nth_node-of b.below i h e
@@ -144,17 +172,20 @@ goes-on s l b i h inner c r g e change after is = subst (IsChange s l (i ∷ inn
     f : (q : Running) × ((top_of b.frames ≡ tops.Forked q) × (node_of b ≡ plug fs (Live q (Forked ns))))
     f = fork-node b.frames ns (has-fork b i h g e)
 
-    node : replaced (take (c.depth + 1) (i ∷ inner)) (made_stand c.stand) (node_of b) ≡ plug fs (Live f.0 (Forked (put ns i x.node)))
-    node = ap (λ bs. replaced bs (made_stand c.stand) (node_of b)) (take-first c.depth i inner)
-        ∙ ap (replaced (i ∷ take c.depth inner) (made_stand c.stand)) f.1.1
-        ∙ replaced-fork i (take c.depth inner) (made_stand c.stand) fs f.0 ns (node_of h.held) n
+    node : replaced (i ∷ take d inner) (made_stand change.stand) (node_of b) ≡ plug fs (Live f.0 (Forked (put ns i x.node)))
+    node = ap (replaced (i ∷ take d inner) (made_stand change.stand)) f.1.1 ∙ replaced-fork i (take d inner) (made_stand change.stand) fs f.0 ns (node_of h.held) n
+
+-- what the branch ended in
+ended-branch : (s : Site) (z : Line) (way : List ℕ) (above : ℕ) (inner : List ℕ) (n : Node) (p : Prepared) (o : Option Top) → (change : IsChange s z way above inner n p) → ended_at above p.strands ≡ o → ended_of change.depth change.stand ≡ o
+ended-branch s z way above inner n p o change e = sym (ended-of above change.depth change.stand) ∙ sym (ap (ended_at above) change.puts) ∙ e
 
 -- where the branch has not ended
-pub goes-deeper : (s : Site) (l : Line) (b : Branch Stand) (i : ℕ) (h : Found Stand) (inner : List ℕ) (c r : Change) → IsGrownAt b → nth b.below i ≡ Some h → IsChange s (seen_in l (frames_of b.frames)) inner (node_of h.held) c →
-    ended_of c.depth c.stand ≡ None → r ≡ record c { depth = c.depth + 1 } → IsChange s l (i ∷ inner) (node_of b) r
-goes-deeper s l b i h inner c r g e change none =
-    goes-on s l b i h inner c r g e change
-    (λ q top. open-after (seen_in l (frames_of b.frames)) q (nodes_of b.below) i (change_at c inner (node_of h.held)) (open-or-ended c.depth inner c.stand (node_of h.held) change.deep change.there none))
+pub goes-deeper : (s : Site) (l : Line) (way : List ℕ) (above : ℕ) (b : Branch Stand) (i : ℕ) (h : Found Stand) (inner : List ℕ) (p r : Prepared) → IsGrownAt b → nth b.below i ≡ Some h → IsChange s (line_on l b) way (above + 1) inner (node_of h.held) p →
+    ended_at (above + 1) p.strands ≡ None → r ≡ record p { context = (line_on l b).context } → IsChange s l way above (i ∷ inner) (node_of b) r
+goes-deeper s l way above b i h inner p r g e change none =
+    goes-on s l way above b i h inner p r g e change
+    (λ q top. open-after (line_on l b) q (nodes_of b.below) i (branch_at h inner p change)
+    (open-or-ended change.depth inner change.stand (node_of h.held) change.deep change.there (ended-branch s (line_on l b) way (above + 1) inner (node_of h.held) p None change none)))
 
 -- ---- a branch ends
 
@@ -205,53 +236,58 @@ pub ended-node : (d : ℕ) (bs : List ℕ) (h : Stand) (n : Node) (x : Top) → 
 ended-node zero bs h n x e = ended-alone h.around h.top x e
 ended-node (suc d) bs h n x e = absurd (nothing x e)
 
--- what the `fork` ends in that sees the branch that ended
-abbrev ends : Line → Branch Stand → ℕ → Change → Top → Running → Option Stepped
-ends l b i c x r = let k = record l { context = c.context } in option_map (step_of k) (ending k r (competes r.task) (option_map listed (outputs (put (nodes_of b.below) i (top_node x)))) x)
+-- what the `fork` ends in whose branch ended
+abbrev ends : Line → Branch Stand → ℕ → Top → Running → Option Stepped
+ends l b i x r = option_map (step_of l) (ending l r (competes r.task) (option_map listed (outputs (put (nodes_of b.below) i (top_node x)))) x)
 
-after-ended : (l : Line) (b : Branch Stand) (i : ℕ) (c : Change) (inner : List ℕ) (n : Node) (x : Top) (r : Running) → ended_of c.depth c.stand ≡ Some x →
-    after_branch l r (nodes_of b.below) i (change_at c inner n) ≡ record (or_on (record l { context = c.context }) r (put (nodes_of b.below) i (top_node x)) (ends l b i c x r)) { used = used_by c.emitted; emitted = c.emitted }
-after-ended l b i c inner n x r e =
-    let k = record l { context = c.context } in
-    let h = ended-node c.depth inner c.stand n x e in
-    ap (λ y. record (step_of k (settled k r (competes r.task) (put (nodes_of b.below) i y) y)) { used = used_by c.emitted; emitted = c.emitted }) h.1
-    ∙ ap (λ (y : Stepped). record y { used = used_by c.emitted; emitted = c.emitted }) (settled-ending k r (competes r.task) (put (nodes_of b.below) i (top_node x)) x h.0)
+after-ended : (s : Site) (l z : Line) (way : List ℕ) (above : ℕ) (b : Branch Stand) (i : ℕ) (h : Found Stand) (inner : List ℕ) (p : Prepared) (x : Top) (r : Running) → (change : IsChange s z way above inner (node_of h.held) p) → ended_of change.depth change.stand ≡ Some x →
+    after_branch l r (nodes_of b.below) i (branch_at h inner p change) ≡ record (or_on l r (put (nodes_of b.below) i (top_node x)) (ends l b i x r)) { used = used_by p.emitted; emitted = p.emitted }
+after-ended s l z way above b i h inner p x r change e =
+    let n = ended-node change.depth inner change.stand (node_of h.held) x e in
+    ap (λ y. record (step_of l (settled l r (competes r.task) (put (nodes_of b.below) i y) y)) { used = used_by p.emitted; emitted = p.emitted }) n.1
+    ∙ ap (λ (y : Stepped). record y { used = used_by p.emitted; emitted = p.emitted }) (settled-ending l r (competes r.task) (put (nodes_of b.below) i (top_node x)) x n.0)
 
 -- it goes on
-pub settle-on : (s : Site) (l : Line) (b : Branch Stand) (i : ℕ) (h : Found Stand) (inner : List ℕ) (c r : Change) (x : Top) → IsGrownAt b → nth b.below i ≡ Some h → IsChange s (seen_in l (frames_of b.frames)) inner (node_of h.held) c →
-    ended_of c.depth c.stand ≡ Some x → ((q : Running) → top_of b.frames ≡ tops.Forked q → ends (seen_in l (frames_of b.frames)) b i c x q ≡ None) → r ≡ record c { depth = c.depth + 1 } → IsChange s l (i ∷ inner) (node_of b) r
-settle-on s l b i h inner c r x g e change ended none =
-    let z = seen_in l (frames_of b.frames) in
-    goes-on s l b i h inner c r g e change (λ q top.
-    after-ended z b i c inner (node_of h.held) x q ended
-    ∙ ap (λ o. record (or_on (record z { context = c.context }) q (put (nodes_of b.below) i (top_node x)) o) { used = used_by c.emitted; emitted = c.emitted }) (none q top)
-    ∙ ap (λ y. record (change_at c inner (node_of h.held)) { node = Live q (Forked (put (nodes_of b.below) i y)) }) (sym (ended-node c.depth inner c.stand (node_of h.held) x ended).1))
+pub settle-on : (s : Site) (l : Line) (way : List ℕ) (above : ℕ) (b : Branch Stand) (i : ℕ) (h : Found Stand) (inner : List ℕ) (p r : Prepared) (x : Top) → IsGrownAt b → nth b.below i ≡ Some h → IsChange s (line_on l b) way (above + 1) inner (node_of h.held) p →
+    ended_at (above + 1) p.strands ≡ Some x → ((q : Running) → top_of b.frames ≡ tops.Forked q → ends (line_on l b) b i x q ≡ None) → r ≡ record p { context = (line_on l b).context } → IsChange s l way above (i ∷ inner) (node_of b) r
+settle-on s l way above b i h inner p r x g e change ended none =
+    let z = line_on l b in
+    let done = ended-branch s z way (above + 1) inner (node_of h.held) p (Some x) change ended in
+    goes-on s l way above b i h inner p r g e change (λ q top.
+    after-ended s z z way (above + 1) b i h inner p x q change done
+    ∙ ap (λ o. record (or_on z q (put (nodes_of b.below) i (top_node x)) o) { used = used_by p.emitted; emitted = p.emitted }) (none q top)
+    ∙ ap (λ y. record (branch_at h inner p change) { node = Live q (Forked (put (nodes_of b.below) i y)); context = z.context }) (sym (ended-node change.depth inner change.stand (node_of h.held) x done).1))
 
 -- it ends
-pub settle-off : (s : Site) (l : Line) (b : Branch Stand) (i : ℕ) (h : Found Stand) (inner : List ℕ) (c r : Change) (x : Top) (m : Made) (top : Stand) → IsGrownAt b → nth b.below i ≡ Some h → IsChange s (seen_in l (frames_of b.frames)) inner (node_of h.held) c →
-    ended_of c.depth c.stand ≡ Some x → ((q : Running) → top_of b.frames ≡ tops.Forked q → ends (seen_in l (frames_of b.frames)) b i c x q ≡ Some (stepped_of m)) →
-    b.frames ≡ top ∷ [] → r.depth ≡ 0 → r.stand.around ≡ option_to_list m.frame ++ top.around → r.stand.top ≡ m.top → r.context ≡ m.context → r.emitted ≡ c.emitted → IsChange s l (i ∷ inner) (node_of b) r
-settle-off s l b i h inner c r x m top g e change ended some one d a t k o = record {
-  deep = omega (arith, d);
-  there = ap (λ n. has_strand (take n (i ∷ inner)) (node_of b)) d;
+pub settle-off : (s : Site) (l : Line) (way : List ℕ) (above : ℕ) (b : Branch Stand) (i : ℕ) (h : Found Stand) (inner : List ℕ) (p r : Prepared) (x : Top) (m : Made) (top y : Stand) → IsGrownAt b → nth b.below i ≡ Some h → IsChange s (line_on l b) way (above + 1) inner (node_of h.held) p →
+    ended_at (above + 1) p.strands ≡ Some x → ((q : Running) → top_of b.frames ≡ tops.Forked q → ends (line_on l b) b i x q ≡ Some (stepped_of m)) → b.frames ≡ top ∷ [] →
+    y.around ≡ option_to_list m.frame ++ top.around → y.top ≡ m.top → r ≡ record p { strands = strands.One above y; context = m.context } → IsChange s l way above (i ∷ inner) (node_of b) r
+settle-off s l way above b i h inner p r x m top y g e change ended some one a t is = subst (IsChange s l way above (i ∷ inner) (node_of b)) (sym is) (record {
+  depth = 0;
+  stand = y;
+  puts = ap (λ n. strands.One n y) (omega arith);
+  deep = omega arith;
+  there = refl;
   step = ap (local s l (i ∷ inner)) f.1.1
-      ∙ local-fork s l fs f.0 (nodes_of b.below) i inner (node_of h.held) (change_at c inner (node_of h.held)) (nth_node-of b.below i h e) change.step
-      ∙ ap (λ y. Some (put_in fs y)) (after-ended z b i c inner (node_of h.held) x f.0 ended)
-      ∙ ap (λ o. Some (put_in fs (record (or_on (record z { context = c.context }) f.0 (put (nodes_of b.below) i (top_node x)) o) { used = used_by c.emitted; emitted = c.emitted }))) (some f.0 f.1.0)
-      ∙ ap Some (λ j. record { node = node j; context = sym k j; used = used_by (sym o j); emitted = sym o j });
-}
+      ∙ local-fork s l fs f.0 (nodes_of b.below) i inner (node_of h.held) (branch_at h inner p change) (nth_node-of b.below i h e) change.step
+      ∙ ap (λ k. Some (put_in fs k)) (after-ended s z z way (above + 1) b i h inner p x f.0 change (ended-branch s z way (above + 1) inner (node_of h.held) p (Some x) change ended))
+      ∙ ap (λ o. Some (put_in fs (record (or_on z f.0 (put (nodes_of b.below) i (top_node x)) o) { used = used_by p.emitted; emitted = p.emitted }))) (some f.0 f.1.0)
+      ∙ ap (λ n. Some (record { node = n; context = m.context; used = used_by p.emitted; emitted = p.emitted })) node;
+  named = change.named;
+  number = change.number;
+})
   where
     fs : List Frame
     fs = frames_of b.frames
 
     z : Line
-    z = seen_in l fs
+    z = line_on l b
 
     f : (q : Running) × ((top_of b.frames ≡ tops.Forked q) × (node_of b ≡ plug fs (Live q (Forked (nodes_of b.below)))))
     f = fork-node b.frames (nodes_of b.below) (has-fork b i h g e)
 
-    node : plug fs (stepped_of m).node ≡ replaced (take r.depth (i ∷ inner)) (made_stand r.stand) (node_of b)
-    node = ap (λ ls. plug (frames_of ls) (stepped_of m).node) one ∙ sym (made-around top.around m r.stand a t) ∙ sym (ap (λ n. replaced (take n (i ∷ inner)) (made_stand r.stand) (node_of b)) d)
+    node : plug fs (stepped_of m).node ≡ made_stand y
+    node = ap (λ ls. plug (frames_of ls) (stepped_of m).node) one ∙ sym (made-around top.around m y a t)
 
 -- ---- what the rule of a `fork` gives
 
@@ -260,15 +296,12 @@ on_fork P (tops.Forked r) = P r
 on_fork P t = Unit {0}
 
 -- what it makes of the branch that ended is what the definition does
-pub settles-to : (z l : Line) (b : Branch Stand) (i : ℕ) (c : Change) (x : Top) (a : Running) (k : Value) (compete : Bool) (o : Option Value) (e : Option Stepped) → z ≡ record l { context = k } → k ≡ c.context → compete ≡ competes a.task →
-    o ≡ option_map listed (outputs (put (nodes_of b.below) i (top_node x))) → option_map (step_of z) (ending z a compete o x) ≡ e → top_of b.frames ≡ tops.Forked a → (r : Running) → top_of b.frames ≡ tops.Forked r → ends l b i c x r ≡ e
-settles-to z l b i c x a k compete o e hz hk hc ho he ha r hr = subst (on_fork (λ q. ends l b i c x q ≡ e)) (sym ha ∙ hr) here
+pub settles-to : (z l : Line) (b : Branch Stand) (i : ℕ) (x : Top) (a : Running) (compete : Bool) (o : Option Value) (e : Option Stepped) → z ≡ l → compete ≡ competes a.task →
+    o ≡ option_map listed (outputs (put (nodes_of b.below) i (top_node x))) → option_map (step_of z) (ending z a compete o x) ≡ e → top_of b.frames ≡ tops.Forked a → (r : Running) → top_of b.frames ≡ tops.Forked r → ends l b i x r ≡ e
+settles-to z l b i x a compete o e hz hc ho he ha r hr = subst (on_fork (λ q. ends l b i x q ≡ e)) (sym ha ∙ hr) here
   where
-    seen : z ≡ record l { context = c.context }
-    seen = hz ∙ ap (λ y. record l { context = y }) hk
-
-    here : ends l b i c x a ≡ e
-    here = sym (λ j. option_map (step_of (seen j)) (ending (seen j) a (hc j) (ho j) x)) ∙ he
+    here : ends l b i x a ≡ e
+    here = sym (λ j. option_map (step_of (hz j)) (ending (hz j) a (hc j) (ho j) x)) ∙ he
 
 -- where it ends in an error
 pub halted : (z : Line) (r : Running) (e : Option (Result Stepped Problem)) (h : Halt) (m : Made) → MakesSome e (Err h) → ((g : Result Stepped Problem) → Makes g (Err h) → stepped_of m ≡ step_of z g) → option_map (step_of z) e ≡ Some (stepped_of m)
@@ -299,9 +332,27 @@ own-fork now b can = by (is_fork (top_of b.frames)) refl
 pub nowhere-goes : (now : ℕ) (is : List ℕ) (i : ℕ) (b : Branch Stand) → nth b.below i ≡ None → can_go now (i ∷ is) (node_of b) ≡ true → ⊥
 nowhere-goes now is i b none can = yes-no (sym can ∙ ap (top_is (can_top now)) (top-no-child b i is none))
 
-pub no-numbers : (bs : List ℕ) → length bs ≡ 0 → bs ≡ []
-no-numbers [] e = refl
-no-numbers (b ∷ bs) e = absurd (omega (arith, e))
+-- the numbers of a way behind the first ones
+drop-nothing : (k : ℕ) → drop {A = ℕ} k [] ≡ []
+drop-nothing zero = refl
+drop-nothing (suc k) = refl
+
+get-nothing : (k : ℕ) → slice_get {X = ℕ} [] k ≡ None
+get-nothing zero = refl
+get-nothing (suc k) = refl
+
+pub way-end : (xs : List ℕ) (k : ℕ) → slice_get xs k ≡ None → drop k xs ≡ []
+way-end [] k e = drop-nothing k
+way-end (x ∷ xs) zero e = absurd (nothing x (sym e))
+way-end (x ∷ xs) (suc k) e = way-end xs k e
+
+way-next : (xs : List ℕ) (k x : ℕ) → slice_get xs k ≡ Some x → drop k xs ≡ x ∷ drop (suc k) xs
+way-next [] k x e = absurd (nothing x (sym (get-nothing k) ∙ e))
+way-next (y ∷ ys) zero x e = ap (λ z. z ∷ ys) (same_Some y x e)
+way-next (y ∷ ys) (suc k) x e = way-next ys k x e
+
+pub way-more : (xs : List ℕ) (k x : ℕ) → slice_get xs k ≡ Some x → drop k xs ≡ x ∷ drop (k + 1) xs
+way-more xs k x e = way-next xs k x e ∙ ap (λ n. x ∷ drop n xs) (sym (add-one k))
 
 -- ---- the step of a strand itself, told of the strand
 
@@ -322,12 +373,12 @@ own-goes now t n bs h held empty goes on =
     let can = subst (λ is. can_go now is (node_of b) ≡ true) empty (goes b f) in
     ap (can_go now []) (sym (own-is now b h (on b f) can)) ∙ can
 
-pub own-told : {E : Type 0} (s : Site) (l : Line) (t : Tree Stand) (n : ℕ) (bs : List ℕ) (h : Stand) (r : Result Change E) → bs ≡ [] → Goes s.now t n bs → OnStrand t n h →
-    IfOk r (λ c. IsChange s l [] (own_node h) c) → IfOk r (λ c. (b : Branch Stand) → find t.strands n ≡ Some b → IsChange s l bs (node_of b) c)
-own-told s l t n bs h (Err e) empty goes on is = tt
-own-told s l t n bs h (Ok c) empty goes on is = λ b f.
+pub own-told : {E : Type 0} (s : Site) (l : Line) (way : List ℕ) (above : ℕ) (t : Tree Stand) (n : ℕ) (bs : List ℕ) (h : Stand) (r : Result Prepared E) → bs ≡ [] → Goes s.now t n bs → OnStrand t n h →
+    IfOk r (λ p. IsChange s l way above [] (own_node h) p) → IfOk r (λ p. (b : Branch Stand) → find t.strands n ≡ Some b → IsChange s l way above bs (node_of b) p)
+own-told s l way above t n bs h (Err e) empty goes on is = tt
+own-told s l way above t n bs h (Ok p) empty goes on is = λ b f.
     let can = subst (λ is. can_go s.now is (node_of b) ≡ true) empty (goes b f) in
-    subst (λ is. IsChange s l is (node_of b) c) (sym empty) (subst (λ m. IsChange s l [] m c) (sym (own-is s.now b h (on b f) can)) is)
+    subst (λ is. IsChange s l way above is (node_of b) p) (sym empty) (subst (λ m. IsChange s l way above [] m p) (sym (own-is s.now b h (on b f) can)) is)
 
 -- ---- the step of a branch, told of the strand
 
@@ -346,18 +397,14 @@ fork-there t n i c held child b f =
     let d : Found Stand = record { number = c; held = h.0 } in
     (has-fork b i d (held-is t n b held f) h.1.0, (d, h.1.0))
 
-pub branch-told : {E : Type 0} (s p q : Site) (l z y : Line) (t : Tree Stand) (n i c : ℕ) (bs is : List ℕ) (top : Stand) (x : Change) (r : Result Change E) → IsHeld t n → IsChild t n i c → bs ≡ i ∷ is → OnStrand t n top → p ≡ s → q ≡ p → z ≡ seen_in l (inward top.around) → y ≡ z →
-    ((h : Branch Stand) → find t.strands c ≡ Some h → IsChange q y is (node_of h) x) →
-    IfOk r (λ k. (b : Branch Stand) (l : Line) (inner : List ℕ) → find t.strands n ≡ Some b → z ≡ seen_in l (frames_of b.frames) → IsChangeOf p z inner b i x → IsChange p l (i ∷ inner) (node_of b) k) →
-    IfOk r (λ k. (b : Branch Stand) → find t.strands n ≡ Some b → IsChange s l bs (node_of b) k)
-branch-told s p q l z y t n i c bs is top x (Err e) held child eq on place same seen copied inner h = tt
-branch-told s p q l z y t n i c bs is top x (Ok k) held child eq on place same seen copied inner h = λ b f.
+pub branch-told : {E : Type 0} (s p q : Site) (l z y : Line) (way : List ℕ) (above : ℕ) (t : Tree Stand) (n i c : ℕ) (bs is : List ℕ) (top : Stand) (x : Prepared) (r : Result Prepared E) → IsHeld t n → IsChild t n i c → bs ≡ i ∷ is → OnStrand t n top → p ≡ s → q ≡ p → z ≡ seen_in l (inward top.around) → y ≡ z →
+    ((h : Branch Stand) → find t.strands c ≡ Some h → IsChange q y way (above + 1) is (node_of h) x) →
+    IfOk r (λ k. (b : Branch Stand) (l : Line) (way inner : List ℕ) → find t.strands n ≡ Some b → z ≡ seen_in l (frames_of b.frames) → IsChangeOf p z way (above + 1) inner b i x → IsChange p l way above (i ∷ inner) (node_of b) k) →
+    IfOk r (λ k. (b : Branch Stand) → find t.strands n ≡ Some b → IsChange s l way above bs (node_of b) k)
+branch-told s p q l z y way above t n i c bs is top x (Err e) held child eq on place same seen copied inner h = tt
+branch-told s p q l z y way above t n i c bs is top x (Ok k) held child eq on place same seen copied inner h = λ b f.
     let d = child b f in
     let fs : inward top.around ≡ frames_of b.frames = sym (ap frames_of (on b f)) in
-    let change : IsChange p z is (node_of d.0) x = subst (λ w. IsChange p w is (node_of d.0) x) copied (subst (λ w. IsChange w y is (node_of d.0) x) same (inner d.0 d.1.1.0)) in
-    subst (λ js. IsChange s l js (node_of b) k) (sym eq)
-    (subst (λ w. IsChange w l (i ∷ is) (node_of b) k) place (h b l is f (seen ∙ ap (seen_in l) fs) (record { number = c; held = d.0 }, (d.1.0, change))))
-
-pub ok-then : {E : Type 0} (P Q : Change → Type 0) (r : Result Change E) → IfOk r Q → ((c : Change) → Q c → P c) → IfOk r P
-ok-then P Q (Ok c) h f = f c h
-ok-then P Q (Err e) h f = tt
+    let change : IsChange p z way (above + 1) is (node_of d.0) x = subst (λ w. IsChange p w way (above + 1) is (node_of d.0) x) copied (subst (λ w. IsChange w y way (above + 1) is (node_of d.0) x) same (inner d.0 d.1.1.0)) in
+    subst (λ js. IsChange s l way above js (node_of b) k) (sym eq)
+    (subst (λ w. IsChange w l way above (i ∷ is) (node_of b) k) place (h b l way is f (seen ∙ ap (seen_in l) fs) (record { number = c; held = d.0 }, (d.1.0, change))))

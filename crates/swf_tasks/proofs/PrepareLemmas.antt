@@ -1,9 +1,10 @@
 -- What the step of a strand makes of an instance.
-use Rattle.std.proofs.Common.{◌≡◌, ◌∙◌, refl, sym, ap, subst, ℕ, ◌+◌, ◌-◌, Bool, true, false, List, [], ◌∷◌, take, Some, None, arith}
+use Rattle.std.proofs.Common.{◌≡◌, ◌∙◌, refl, sym, ap, subst, ℕ, ◌+◌, ◌-◌, ◌≤◌, Bool, true, false, List, [], ◌∷◌, length, take, Some, None, arith}
 use Rattle.std.proofs.lemmas.Option.{same_Some}
 use Rattle.std.specs.Prelude.{option_map}
-use Rattle.swf_frames.specs.Tree.{Tree, Strands, no_strands, strand, Branch, find, numbers, count}
+use Rattle.swf_frames.specs.Tree.{Tree, Strands as Below, no_strands, strand, Branch, find, numbers, count}
 use Rattle.swf_meaning.specs.Node.{Node, Live, Forked}
+use Rattle.swf_meaning.specs.Documents.{Loaded}
 use Rattle.swf_meaning.specs.Line.{Line, Site}
 use Rattle.swf_meaning.specs.Strands.{branches_in, can_go}
 use Rattle.swf_meaning.specs.World.{Instance, line_of, site_of, with_step}
@@ -17,15 +18,14 @@ use Rattle.swf_stack.specs.declared.made.Stand.{Stand}
 use Rattle.swf_stack.specs.declared.made.Top.{Top}
 use Rattle.swf_stack.specs.declared.made.Top.TheVariants as tops
 use Rattle.swf_scene.specs.declared.setting.Setting.{Setting}
-use Rattle.swf_tasks.specs.Prepares.{applied, changed, Fits, IsPrepared, Puts}
+use Rattle.swf_tasks.specs.Prepares.{applied, begun_after, fits, Fits, IsBegun, IsPrepared, node_after}
 use Rattle.swf_tasks.specs.Stepped.{IsChange, change_at}
 use Rattle.swf_strands.specs.Strands.{strand_node, nodes_of, node_of, root_node, is_fork, made_stand, IsStrand, IsGrown}
 use Rattle.swf_tasks.specs.Taken.{taken}
-use Rattle.swf_strands.specs.Ways.{replaced}
-use Rattle.swf_tasks.specs.declared.machine.Part.{Part}
-use Rattle.swf_tasks.specs.declared.machine.Prepared.{Prepared}
-use Rattle.swf_tasks.specs.declared.machine.Step.TheVariants as steps
-use Rattle.swf_tasks.specs.declared.step.Change.{Change}
+use Rattle.swf_strands.specs.Ways.{has_strand, replaced}
+use Rattle.swf_tasks.specs.declared.prepared.Prepared.{Prepared}
+use Rattle.swf_tasks.specs.declared.prepared.Strands.{Strands}
+use Rattle.swf_tasks.specs.declared.prepared.Strands.TheVariants as strands
 use Rattle.swf_strands.proofs.TreeLemmas.{fork-node, plain-node, root-holds}
 
 -- ---- how many branches run
@@ -43,7 +43,7 @@ plain-branches (tops.Waiting r (Some n) m) e = refl
 plain-branches (tops.Hearing r bound hs) e = refl
 plain-branches (tops.Forked r) e = cc
 
-branches-node : (ls : List Stand) (below : Strands Stand) → IsStrand ls below → branches_in (strand_node ls (nodes_of below)) ≡ strands_among (nodes_of below)
+branches-node : (ls : List Stand) (below : Below Stand) → IsStrand ls below → branches_in (strand_node ls (nodes_of below)) ≡ strands_among (nodes_of below)
 branches-node ls below s = by (is_fork (top_of ls)) refl
   where
     by : (x : Bool) → is_fork (top_of ls) ≡ x → branches_in (strand_node ls (nodes_of below)) ≡ strands_among (nodes_of below)
@@ -54,7 +54,7 @@ branches-node ls below s = by (is_fork (top_of ls)) refl
         ap branches_in (plain-node ls (nodes_of below) e) ∙ branches-plug (frames_of ls) (top_node (top_of ls)) ∙ plain-branches (top_of ls) e
         ∙ sym (ap (λ ss. strands_among (nodes_of ss)) (s.1 e))
 
-count-strands : (ss : Strands Stand) → IsGrown ss → count ss ≡ strands_among (nodes_of ss)
+count-strands : (ss : Below Stand) → IsGrown ss → count ss ≡ strands_among (nodes_of ss)
 count-strands no_strands g = refl
 count-strands (strand m ls below after) g =
     let here = branches-node ls below g.0 in
@@ -74,17 +74,17 @@ count-branches t r e g =
     omega (arith, all, inner, here, root)
 
 -- the change that the root tells is that of the instance
-pub root-change : (t : Tree Stand) (r k now : ℕ) (s : Setting) (i : Instance) (at : Site) (l : Line) (bs : List ℕ) (c : Change) → instance_of s (root_node t.strands) ≡ i → numbers t.strands ≡ r ∷ [] → IsGrown t.strands → k ≡ count t.strands →
-    at ≡ record { number = s.number; branches = k - 1; now = now } → l ≡ setting_line s → ((b : Branch Stand) → find t.strands r ≡ Some b → IsChange at l bs (node_of b) c) → IsChange (site_of now i) (line_of i) bs i.node c
-root-change t r k now s i at l bs c view e g many place line change =
+pub root-change : (t : Tree Stand) (r k now : ℕ) (ds : List Loaded) (s : Setting) (i : Instance) (at : Site) (l : Line) (bs ws : List ℕ) (p : Prepared) → instance_of s (root_node t.strands) ≡ i → numbers t.strands ≡ r ∷ [] → IsGrown t.strands → k ≡ count t.strands →
+    at ≡ record { number = s.number; branches = k - 1; now = now; documents = ds } → l ≡ setting_line s → ws ≡ bs → ((b : Branch Stand) → find t.strands r ≡ Some b → IsChange at l bs 0 ws (node_of b) p) → IsChange (site_of now ds i) (line_of i) bs 0 bs i.node p
+root-change t r k now ds s i at l bs ws p view e g many place line same change =
     let b = root-holds t r e g in
     let n = root_node t.strands in
     let all = count-branches t r e g in
     let few : k - 1 ≡ branches_in n = omega (arith, many, all) in
-    let here : at ≡ site_of now (instance_of s n) = place ∙ (λ j. record { number = s.number; branches = few j; now = now }) in
-    let root : IsChange at l bs n c = subst (λ m. IsChange at l bs m c) (sym b.1.1.1.1) (change b.0 b.1.0) in
-    let seen : IsChange (site_of now (instance_of s n)) (setting_line s) bs n c = subst (λ x. IsChange x (setting_line s) bs n c) here (subst (λ x. IsChange at x bs n c) line root) in
-    subst (λ (j : Instance). IsChange (site_of now j) (line_of j) bs j.node c) view seen
+    let here : at ≡ site_of now ds (instance_of s n) = place ∙ (λ j. record { number = s.number; branches = few j; now = now; documents = ds }) in
+    let root : IsChange at l bs 0 bs n p = subst (λ m. IsChange at l bs 0 bs m p) (sym b.1.1.1.1) (subst (λ w. IsChange at l bs 0 w (node_of b.0) p) same (change b.0 b.1.0)) in
+    let seen : IsChange (site_of now ds (instance_of s n)) (setting_line s) bs 0 bs n p = subst (λ x. IsChange x (setting_line s) bs 0 bs n p) here (subst (λ x. IsChange at x bs 0 bs n p) line root) in
+    subst (λ (j : Instance). IsChange (site_of now ds j) (line_of j) bs 0 bs j.node p) view seen
 
 -- what the root is told: the strand of the instance can take a step
 pub root-can : (t : Tree Stand) (r now then : ℕ) (s : Setting) (i : Instance) (bs ws : List ℕ) → instance_of s (root_node t.strands) ≡ i → numbers t.strands ≡ r ∷ [] → IsGrown t.strands → then ≡ now → ws ≡ bs → can_go now bs i.node ≡ true →
@@ -98,32 +98,30 @@ root-can t r now then s i bs ws view e g moment same can b f =
     ∙ ap (λ (j : Instance). can_go now bs j.node) view
     ∙ can
 
--- ---- a strand that is put anew
-
--- with all branches of a `fork` that begins on it
-pub puts-whole : (s : Setting) (old new : Strands Stand) (i m : Instance) (p : Part) (ws : List ℕ) → instance_of s (root_node old) ≡ i → ws ≡ p.strand → root_node new ≡ replaced (take p.depth ws) (made_stand p.stand) (root_node old) →
-    m ≡ record i { node = root_node new; context = p.context; number = p.number } → Puts (steps.Whole m) p i
-puts-whole s old new i m p ws view same node is =
-    let x = made_stand p.stand in
-    record {
-      fits = ap (λ (j : Instance). j.id) is;
-      becomes = is ∙ ap (λ n. record i { node = n; context = p.context; number = p.number }) (node ∙ ap (λ w. replaced (take p.depth w) x (root_node old)) same ∙ ap (λ (j : Instance). replaced (changed p) x j.node) view);
-    }
-
 -- ---- the step that was prepared
 
--- the instance after a change
-abbrev pub instance_after : Instance → List ℕ → Change → Instance
-instance_after i bs c = with_step i (change_at c bs i.node)
+-- the tree has the strand that the change puts anew
+pub change-fits : (s : Site) (l : Line) (bs ws : List ℕ) (i : Instance) (p : Prepared) → ws ≡ p.strand → IsChange s l bs 0 bs i.node p → fits p.strands ws i.node
+change-fits s l bs ws i p same change =
+    subst (λ x. fits x ws i.node) (sym change.puts)
+    (subst (λ (w : List ℕ). (change.depth ≤ length w) × (has_strand (take change.depth w) i.node ≡ true)) (sym (same ∙ change.named)) (change.deep, change.there))
 
-pub becomes-after : (s : Setting) (n : Node) (i j : Instance) (bs ws : List ℕ) (c : Change) (k : ℕ) → instance_of s n ≡ i → ws ≡ bs → k ≡ s.number + used_by c.emitted →
-    j ≡ record i { node = replaced (take c.depth ws) (made_stand c.stand) i.node; context = c.context; number = k } → j ≡ instance_after i bs c
-becomes-after s n i j bs ws c k view same next is =
-    let number : k ≡ i.number + used_by c.emitted = next ∙ ap (λ (x : Instance). x.number + used_by c.emitted) view in
-    is ∙ λ a. record i { node = replaced (take c.depth (same a)) (made_stand c.stand) i.node; context = c.context; number = number a }
+-- the instance after a change, with the branches of a `fork` that begins
+pub prepared-by : (now : ℕ) (ds : List Loaded) (bs ws : List ℕ) (i : Instance) (c p : Prepared) (new : Strands) → ws ≡ c.strand → IsChange (site_of now ds i) (line_of i) bs 0 bs i.node c → IsBegun c.strands ws i.node new → p ≡ record c { strands = new } → IsPrepared now ds bs i p
+prepared-by now ds bs ws i c p new same change begun is = subst (IsPrepared now ds bs i) (sym is) (record {
+  fits = subst (λ w. fits new w i.node) same begun.fits;
+  step = ap (option_map (taken i)) change.step ∙ λ j. Some (record i { node = node j; context = c.context; number = sym change.number j }, c.emitted);
+})
+  where
+    d : ℕ
+    d = change.depth
 
-pub prepared-by : (now : ℕ) (bs : List ℕ) (i : Instance) (c : Change) (p : Prepared) → IsChange (site_of now i) (line_of i) bs i.node c → Fits p.step i → applied p.step i ≡ instance_after i bs c → p.emitted ≡ c.emitted → IsPrepared now bs i p
-prepared-by now bs i c p change fits is same = record {
-  fits = fits;
-  step = ap (option_map (taken i)) change.step ∙ λ j. Some (sym is j, sym same j);
-}
+    node : replaced (take d bs) (made_stand change.stand) i.node ≡ node_after new c.strand i.node
+    node =
+        ap (λ w. replaced (take d w) (made_stand change.stand) i.node) (sym change.named)
+        ∙ sym (ap (λ x. begun_after x c.strand i.node) change.puts)
+        ∙ sym (subst (λ w. node_after new w i.node ≡ begun_after c.strands w i.node) same begun.node)
+
+-- what stays as it is has begun
+pub begun-same : (s : Strands) (bs ws : List ℕ) (n : Node) (e : node_after s ws n ≡ begun_after s ws n) → fits s ws n → IsBegun s ws n s
+begun-same s bs ws n e f = record { fits = f; node = e }

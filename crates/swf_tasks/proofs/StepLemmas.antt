@@ -23,6 +23,8 @@ use Rattle.swf_scene.specs.Halts.{Makes}
 use Rattle.swf_stack.specs.Stands.{inward}
 use Rattle.swf_stack.specs.Stack.{plug, top_node, stepped_of, seen_in, waiting}
 use Rattle.swf_catalog.specs.Rounds.{round_of}
+use Rattle.swf_catalog.specs.declared.round.Round.{Round as DeclaredRound}
+use Rattle.swf_catalog.specs.declared.round.Round.TheVariants as rounds
 use Rattle.swf_scene.specs.declared.halt.Halt.{Halt}
 use Rattle.swf_stack.specs.declared.made.Frame.{Frame}
 use Rattle.swf_stack.specs.declared.made.Made.{Made}
@@ -57,18 +59,29 @@ local-put s l bs n f = by (option_and_then (rule s (line_at l bs n)) (top_at bs 
     by (Some x) = refl
 
 -- what has not ended takes its step inside a task
-local-inside : (s : Site) (l : Line) (bs : List ℕ) (r : Running) (round : Round) (i : ℕ) (n : Node) → is_open n ≡ true → local s l bs (Live r (At round i n)) ≡ option_map (put_back r round i) (local s (seen l r.task round) bs n)
-local-inside s l bs r round i (Fresh t v) p = local-put s (seen l r.task round) bs (Fresh t v) (put_back r round i)
-local-inside s l bs r round i (Live q k) p = local-put s (seen l r.task round) bs (Live q k) (put_back r round i)
+local-inside : (s : Site) (l : Line) (bs : List ℕ) (r : Running) (round : Round) (i : ℕ) (n : Node) → is_open n ≡ true → local s l bs (Live r (At round i n)) ≡ option_map (put_back l r round i) (local s (seen l r.task round) bs n)
+local-inside s l bs r round i (Fresh t v) p = local-put s (seen l r.task round) bs (Fresh t v) (put_back l r round i)
+local-inside s l bs r round i (Live q k) p = local-put s (seen l r.task round) bs (Live q k) (put_back l r round i)
 local-inside s l bs r round i (Done w f) p = cc
 local-inside s l bs r round i (Fault q) p = cc
+
+-- where the context is that of the instance
+put-frame : (l : Line) (f : Frame) (m : Stepped) → put_back l f.running (round_of f.round) f.place m ≡ put_in (f ∷ []) m
+put-frame l f m = by f.round
+  where
+    by : (x : DeclaredRound) → put_back l f.running (round_of x) f.place m ≡ record m { node = Live f.running (At (round_of x) f.place m.node) }
+    by rounds.Seq = refl
+    by (rounds.Each t) = refl
+    by (rounds.Try n) = refl
+    by (rounds.Catch p) = refl
 
 -- and so inside any number of tasks
 pub local-plug : (s : Site) (l : Line) (bs : List ℕ) (fs : List Frame) (n : Node) (m : Stepped) → is_open n ≡ true → local s (seen_in l fs) bs n ≡ Some m → local s l bs (plug fs n) ≡ Some (put_in fs m)
 local-plug s l bs [] n m p e = e
 local-plug s l bs (f ∷ fs) n m p e =
     local-inside s l bs f.running (round_of f.round) f.place (plug fs n) (open-plug fs n p)
-    ∙ ap (option_map (put_back f.running (round_of f.round) f.place)) (local-plug s (seen l f.running.task (round_of f.round)) bs fs n m p e)
+    ∙ ap (option_map (put_back l f.running (round_of f.round) f.place)) (local-plug s (seen l f.running.task (round_of f.round)) bs fs n m p e)
+    ∙ ap Some (put-frame l f (put_in fs m))
 
 -- ---- what a rule gives by a line is the step of the tree
 

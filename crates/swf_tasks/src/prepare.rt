@@ -13,14 +13,14 @@ use swf_text::Strand;
 
 impl Machine {
     /// What the step of a strand makes of the instance, which stays as it is.
-    pub fn prepare(
-        &self,
+    pub fn prepare<'a>(
+        &'a self,
         alloc: Global,
         strand: &Strand,
-        site: Site<'_>,
+        site: Site<'a>,
     ) -> Result<Prepared, AllocError>
         requires { can_go site.now strand.now self.now.node ≡ true }
-        ensures { IfOk result (IsPrepared site.now site.documents.now.documents strand.now self.now) }
+        ensures { IfOk result (IsPrepared site.entry.now site.entry.documents.now.documents strand.now self.now) }
     {
         let root = self.forest.root();
         let scene = Scene::of(alloc, &self.setting, self.forest.count() - 1, site)?;

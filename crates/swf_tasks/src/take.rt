@@ -70,14 +70,15 @@ impl Machine {
         strand: &Strand,
         site: Site<'_>,
     ) -> Result<StepResult, StepFault>
-        ensures ok { IfOk result (λ r. option_map (taken self.old) (step_at site.now site.documents.now.documents strand.now self.old) ≡ Some (self.new, emitted_of r)) }
+        ensures ok { IfOk result (λ r. option_map (taken self.old) (step_at site.entry.now site.entry.documents.now.documents strand.now self.old) ≡ Some (self.new, emitted_of r)) }
         ensures err { OnErr result (self.new ≡ self.old) }
-        ensures not_enabled { (result ≡ Err StepFault.NotEnabled) ↔ (can_go site.now strand.now self.old.node ≡ false) }
+        ensures not_enabled { (result ≡ Err StepFault.NotEnabled) ↔ (can_go site.entry.now strand.now self.old.node ≡ false) }
     {
-        if !self.enabled(strand, site.now) {
+        let Site { now, documents } = site;
+        if !self.enabled(strand, now) {
             return Err(StepFault::NotEnabled);
         }
-        let Ok(prepared) = self.prepare(alloc, strand, site) else {
+        let Ok(prepared) = self.prepare(alloc, strand, Site { now, documents }) else {
             return Err(StepFault::OutOfMemory);
         };
         match self.take(prepared) {
@@ -95,12 +96,13 @@ impl Machine {
         fuel: u32,
         site: Site<'_>,
     ) -> Result<u32, AllocError>
-        ensures ok { IfOk result (λ steps. (self.new, steps) ≡ advanced site.now site.documents.now.documents strand.now fuel self.old) }
-        ensures err { OnErr result ((steps : ℕ) × (advanced site.now site.documents.now.documents strand.now steps self.old ≡ (self.new, steps))) }
+        ensures ok { IfOk result (λ steps. (self.new, steps) ≡ advanced site.entry.now site.entry.documents.now.documents strand.now fuel self.old) }
+        ensures err { OnErr result ((steps : ℕ) × (advanced site.entry.now site.entry.documents.now.documents strand.now steps self.old ≡ (self.new, steps))) }
     {
+        let Site { now, documents } = site;
         let mut steps = 0;
-        while steps < fuel && !self.is_shared(strand) && self.enabled(strand, site.now) {
-            let prepared = self.prepare(alloc, strand, site)?;
+        while steps < fuel && !self.is_shared(strand) && self.enabled(strand, now) {
+            let prepared = self.prepare(alloc, strand, Site { now, documents })?;
             self.take(prepared);
             steps += 1;
         }

@@ -3,9 +3,9 @@
 use crate::values;
 use std::alloc::Global;
 use std::io;
+use swf_catalog::{Documents, SharedDocument, share_document};
 use swf_duration::Moment;
-use swf_catalog::{SharedDocument, share_document};
-use swf_tasks::Machine;
+use swf_tasks::{Machine, Site};
 use swf_test_tables::{add_line, add_outcome, no_meaning, split};
 use swf_text::{Strand, Text};
 use swf_validate::accept;
@@ -56,9 +56,14 @@ pub(crate) fn output_of(alloc: Global, machine: &Machine) -> io::Result<String> 
 }
 
 // What an instance is after the step of a strand.
-fn stepped(alloc: Global, machine: &Machine, strand: &Strand, now: Moment) -> io::Result<Machine> {
+fn stepped(
+    alloc: Global,
+    machine: &Machine,
+    strand: &Strand,
+    site: Site<'_>,
+) -> io::Result<Machine> {
     let mut next = machine.copy(alloc)?;
-    match next.step(alloc, strand, now) {
+    match next.step(alloc, strand, site) {
         Ok(_) => Ok(next),
         Err(_) => Err(no_meaning()),
     }
@@ -68,13 +73,13 @@ fn stepped(alloc: Global, machine: &Machine, strand: &Strand, now: Moment) -> io
 fn push_steps(
     alloc: Global,
     machine: &Machine,
-    now: Moment,
+    site: Site<'_>,
     next: &mut Vec<Machine>,
 ) -> io::Result<()> {
     let strands = machine.strands(alloc)?;
     for strand in strands.iter() {
-        if machine.enabled(strand, now) {
-            next.push(stepped(alloc, machine, strand, now)?)?;
+        if machine.enabled(strand, site.now) {
+            next.push(stepped(alloc, machine, strand, site)?)?;
         }
     }
     Ok(())
@@ -84,13 +89,13 @@ fn push_steps(
 fn stepped_all(
     alloc: Global,
     machines: &[Machine],
-    now: Moment,
+    site: Site<'_>,
     outcome: &mut Outcome,
 ) -> io::Result<Vec<Machine>> {
     let mut next = Vec::new(alloc);
     for machine in machines {
-        if machine.is_enabled(now) {
-            push_steps(alloc, machine, now, &mut next)?;
+        if machine.is_enabled(site.now) {
+            push_steps(alloc, machine, site, &mut next)?;
         } else {
             outcome.add(output_of(alloc, machine)?)?;
         }
@@ -99,7 +104,7 @@ fn stepped_all(
 }
 
 // Takes the steps of an instance in every order.
-fn explored(alloc: Global, machine: Machine, now: Moment) -> io::Result<Outcome> {
+fn explored(alloc: Global, machine: Machine, site: Site<'_>) -> io::Result<Outcome> {
     let mut outcome = Outcome {
         orders: 0,
         outputs: Vec::new(alloc),
@@ -107,7 +112,7 @@ fn explored(alloc: Global, machine: Machine, now: Moment) -> io::Result<Outcome>
     let mut machines = Vec::new(alloc);
     machines.push(machine)?;
     for _ in 0..MOST_STEPS {
-        machines = stepped_all(alloc, machines.as_slice(), now, &mut outcome)?;
+        machines = stepped_all(alloc, machines.as_slice(), site, &mut outcome)?;
     }
     if machines.is_empty() {
         Ok(outcome)
@@ -135,7 +140,12 @@ fn text_of(alloc: Global, outcome: &Outcome) -> io::Result<String> {
 // What every order of the steps of these tasks comes to.
 fn told(alloc: Global, tasks: &str, now: Moment) -> io::Result<String> {
     let machine = begun(alloc, tasks, now)?;
-    let outcome = explored(alloc, machine, now)?;
+    let documents = Documents::new(alloc);
+    let site = Site {
+        now,
+        documents: &documents,
+    };
+    let outcome = explored(alloc, machine, site)?;
     text_of(alloc, &outcome)
 }
 

@@ -46,16 +46,16 @@ returns c =
     ]
 
 pub innermost-requires : goal.innermost-requires
-innermost-requires c = some-done c.args.scene.now c.args.stand.now c.in-Done.output c.in-Done.flow c.in-Done.is c.requires
+innermost-requires c = some-done c.args.scene.site.now c.args.stand.now c.in-Done.output c.in-Done.flow c.in-Done.is c.requires
 
 pub innermost-requires-in-Fault : goal.innermost-requires-in-Fault
-innermost-requires-in-Fault c = some-failed c.args.scene.now c.args.stand.now c.in-Fault.problem c.in-Fault.is c.requires
+innermost-requires-in-Fault c = some-failed c.args.scene.site.now c.args.stand.now c.in-Fault.problem c.in-Fault.is c.requires
 
 pub listened-given-requires : goal.listened-given-requires
 listened-given-requires c =
-    ap (is_heard c.in-Hearing.running.task) c.as_slice.ensures ∙ enabled-hearing c.args.scene.now c.args.stand.now c.in-Hearing.running _ c.in-Hearing.heard c.in-Hearing.is ∙ c.requires
+    ap (is_heard c.in-Hearing.running.task) c.as_slice.ensures ∙ enabled-hearing c.args.scene.site.now c.args.stand.now c.in-Hearing.running _ c.in-Hearing.heard c.in-Hearing.is ∙ c.requires
 
 pub unreachable-requires : goal.unreachable-requires
 unreachable-requires c =
     let fs = inward c.args.stand.now.around in
-    no-fork c.args.scene.now fs c.in-Forked.field-0 (subst (λ t. can_go c.args.scene.now [] (plug fs (top_node t)) ≡ true) c.in-Forked.is c.requires)
+    no-fork c.args.scene.site.now fs c.in-Forked.field-0 (subst (λ t. can_go c.args.scene.site.now [] (plug fs (top_node t)) ≡ true) c.in-Forked.is c.requires)

@@ -6,5 +6,6 @@ use Rattle.swf_tasks.proofs.step.own_step.Goals as goal
 
 pub returns : goal.returns
 returns c =
-    own-change (site_of c.args.scene) (line_of c.args.scene) c.args.stand.now c.in_ok-made.made _ c.in_ok-made.ensures refl
-    (c.in_ok-inside.ensures.around ∙ ap (λ fs. option_to_list c.in_ok-made.made.frame ++ fs) c.outer_of.ensures) c.in_ok-inside.ensures.top refl refl
+    own-change (site_of c.args.scene) (line_of c.args.scene) c.args.stand.now c.in_ok-made.made c.in_ok-stand.stand c.args.strand.now c.args.depth _ c.in_ok-made.ensures refl
+    (c.in_ok-stand.ensures.around ∙ ap (λ fs. option_to_list c.in_ok-made.made.frame ++ fs) c.outer_of.ensures) c.in_ok-stand.ensures.top refl refl
+    (c.in_ok-strand.ensures ∙ c.as_slice.ensures) c.in_ok-number.ensures
