@@ -7,10 +7,10 @@ ghost use Rattle.swf_strands.specs.Strands.{IsHeld, node_of};
 ghost use Rattle.swf_offers.specs.EventTypes.{event_types, text_in, type_told, types_left, types_told};
 
 use std::alloc::AllocError;
+use swf_catalog::{TaskRef, Work};
 use swf_document::{Field, Filter, Template, TemplateNode};
 use swf_frames::{Forest, StrandId};
 use swf_meaning::Heard;
-use swf_catalog::{TaskRef, Work};
 use swf_stack::{Stand, Top, is_heard};
 use swf_strands::{child_of, stand_of};
 use swf_text::{Text, is_word};

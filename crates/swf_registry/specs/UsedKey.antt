@@ -1,8 +1,7 @@
 -- Which used key is looked up.
 use denote.Bor.{Bor}
-use Rattle.std.specs.Prelude.{◌≡◌, ◌&&◌, refl, ℕ, List, [], ◌∷◌, Bool, true, false, Option, Some, None, if◌then◌else◌}
+use Rattle.std.specs.Prelude.{◌≡◌, refl, ℕ, List, [], ◌∷◌, Bool, true, Option, Some, None, if◌then◌else◌}
 use Rattle.std.proofs.Common.{ap, ◌∙◌}
-use Rattle.swf_text.specs.Same.{same}
 use Rattle.swf_runs.proofs.OnceLemmas.{same_key_true}
 use Rattle.swf_document.specs.declared.document.DocKey.{DocKey}
 use Rattle.swf_meaning.specs.contracts.key.KeyPartialEq.TheImpl.{ghosts}
