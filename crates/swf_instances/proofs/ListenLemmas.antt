@@ -1,13 +1,13 @@
 -- Who listens neither for an event's type nor for events of more than one does not take it.
-use Rattle.std.proofs.Common.{◌≡◌, ◌∙◌, refl, ap, sym, cond, ℕ, zero, suc, ◌+◌, ◌&&◌, ◌||◌, List, [], ◌∷◌, ◌++◌, codes, map, Bool, true, false, Option, Some, None, arith}
+use Rattle.std.proofs.Common.{◌≡◌, ◌∙◌, refl, ap, sym, cond, ℕ, zero, ◌+◌, ◌&&◌, List, [], ◌∷◌, codes, map, Bool, true, false, Option, Some, None, arith}
 use Rattle.std.proofs.lemmas.Bool.{or_parts}
 use Rattle.std.proofs.lemmas.List.Folds.{list_any-append}
 use Rattle.std.specs.Cmp.Lexicographic.{texts_ties}
 use Rattle.std.specs.List.{list_all, list_any}
 use Rattle.swf_text.specs.Same.{same}
 use Rattle.swf_text.proofs.SameLemmas.{same_true}
-use Rattle.swf_value.specs.Members.{at, member_at, put}
-use Rattle.swf_value.specs.Value.{Value, null, boolean, int, text, list as listed, object as objected, Members}
+use Rattle.swf_value.specs.Members.{member_at, put}
+use Rattle.swf_value.specs.Value.{null, boolean, int, text, list as listed, object as objected, Members}
 use Rattle.swf_cloudevents.specs.Event.{event_value, with_payload}
 use Rattle.swf_cloudevents.specs.declared.event.Event.{Event}
 use Rattle.swf_cloudevents.proofs.Puts.{at_here, at_past}
@@ -15,14 +15,14 @@ use Rattle.swf_document.specs.Template.{Template, constant, run, list, object}
 use Rattle.swf_document.specs.declared.event.Filter.{Filter}
 use Rattle.swf_document.specs.declared.event.ListenSpec.{ListenSpec}
 use Rattle.swf_document.specs.declared.template.Field.{Field}
-use Rattle.swf_transform.specs.Filter.{attribute_matches, filter_matches, correlated, bind_all}
+use Rattle.swf_transform.specs.Filter.{attribute_matches, correlated, bind_all}
 use Rattle.swf_meaning.specs.Listen.{hears as hears_it, is_heard_by, is_met, is_satisfied, or_else, taken_from, takes}
 use Rattle.swf_meaning.specs.Node.{Node, Fresh, Live, Done, Fault, Inside, At, Later, Sleep, Hear, Forked, Nodes, no_nodes, branch, Running}
-use Rattle.swf_meaning.specs.Offer.{offered, offered_inside, offered_among, takes_by, or_same, around}
+use Rattle.swf_meaning.specs.Offer.{offered, offered_inside, offered_among, takes_by, or_same}
 use Rattle.swf_meaning.specs.Parts.{kind_of, listen_in}
 use Rattle.swf_meaning.specs.declared.heard.Heard.{Heard}
 use Rattle.swf_listeners.proofs.WantedLemmas.{hears}
-use Rattle.swf_offers.specs.EventTypes.{text_in, type_told, types_told, types_of, types_left, event_types}
+use Rattle.swf_offers.specs.EventTypes.{text_in, type_told, types_told, types_of, event_types}
 use Rattle.swf_offers.proofs.EventTypeLemmas.{event_types_among, event_types_among-branch, types-at, types-hear}
 
 -- a template of that text is a constant

@@ -1,5 +1,5 @@
 -- A step that is written into the map is the step of the definitions.
-use Rattle.std.proofs.Common.{◌≡◌, ◌∙◌, ◌+◌, ap, sym, refl, subst, ℕ, zero, suc, ◌<◌, None, arith, length-append, List, [], ◌∷◌, ◌++◌, ◌||◌, ◌==◌, length, Option, Some, option_map, slice_get}
+use Rattle.std.proofs.Common.{◌≡◌, ◌∙◌, ◌+◌, ap, sym, refl, subst, ℕ, zero, suc, ◌<◌, None, arith, length-append, List, [], ◌∷◌, ◌++◌, ◌||◌, ◌==◌, length, Option, Some, slice_get}
 use Rattle.std.specs.Prelude.{slice_set}
 use Rattle.std.specs.List.{AllByRecursion, IsDistinct}
 use Rattle.std.specs.Map.{keys_of}

@@ -43,7 +43,8 @@ impl World {
         ensures { IfOk result (IsPreparedStep self.now.world) }
     {
         let id = self.instances.at(number).id().copy()?;
-        let change = step_change(self.alloc, number, &self.instances, &strand, self.site())?;
+        let (instances, documents) = (&self.instances, &self.documents);
+        let change = step_change(self.alloc, number, instances, &strand, documents)?;
         Ok((Label::Step { id, strand }, change))
     }
 }

@@ -12,6 +12,7 @@ use crate::change::{Change, ChangeKind, ready, untold};
 use crate::refusal::{PrepareFault, Refusal};
 use crate::world::World;
 use std::alloc::{AllocError, Global};
+use swf_catalog::Documents;
 use swf_cloudevents::Event;
 use swf_instances::{Hearing, Instances};
 use swf_tasks::{Prepared, SentEvent, Site};
@@ -37,10 +38,10 @@ impl World {
     pub(crate) fn prepare_step(&self, id: &Text, strand: &Strand) -> Result<Change, PrepareFault>
         ensures { Prepares self.now.world (Label.Step id.now strand.now) result }
     {
-        let (instances, site) = (&self.instances, self.site());
+        let (instances, documents) = (&self.instances, &self.documents);
         match self.steppable(id, strand) {
             Err(refusal) => Err(PrepareFault::Refused(refusal)),
-            Ok(number) => ready(step_change(self.alloc, number, instances, strand, site)),
+            Ok(number) => ready(step_change(self.alloc, number, instances, strand, documents)),
         }
     }
 
@@ -57,19 +58,20 @@ impl World {
     }
 }
 
-/// The change of an instance's step. An event that goes out is offered to all, and to it as well.
-pub fn step_change(
+/// The change of an instance's step at the moment of all. An event that goes out is offered to all, and to it as well.
+pub fn step_change<'a>(
     alloc: Global,
     number: usize,
-    instances: &Instances,
+    instances: &'a Instances,
     strand: &Strand,
-    site: Site<'_>,
+    documents: &'a Documents,
 ) -> Result<Change, AllocError>
-    requires { CanGoAt site.now instances.now.instances number strand.now }
-    ensures { IfOk result (IsStepping site.entry.now site.entry.documents.now.documents number strand.now instances.now.instances) }
+    requires { CanGoAt instances.now.moment instances.now.instances number strand.now }
+    ensures { IfOk result (IsStepping instances.now.moment documents.now.documents number strand.now instances.now.instances) }
 {
     let instance = instances.at(number);
-    let prepared = instance.prepare(alloc, strand, site)?;
+    let now = instances.moment();
+    let prepared = instance.prepare(alloc, strand, Site { now, documents })?;
     let heard = heard_by(alloc, &prepared.emitted, instances, number)?;
     let prepared = instance.offered(alloc, prepared)?;
     Ok(untold(ChangeKind::Step {

@@ -10,7 +10,6 @@ use swf_cloudevents::Event;
 use swf_duration::Moment;
 use swf_instances::Instances;
 use swf_registry::UsedKeys;
-use swf_tasks::Site;
 use swf_text::Text;
 
 /// The world. Contracts see it as the world of the definitions, and how many more changes fit without memory.
@@ -62,17 +61,6 @@ impl World {
         ensures { result ≡ self.now.world.now }
     {
         self.instances.moment()
-    }
-
-    // What steps go by: the moment that was reached last, and the loaded documents.
-    pub(crate) fn site(&self) -> Site<'_>
-        ensures now { result.now ≡ self.now.world.now }
-        ensures documents { result.documents.now.documents ≡ self.now.world.documents }
-    {
-        Site {
-            now: self.now(),
-            documents: &self.documents,
-        }
     }
 
     /// Whether a moment, in milliseconds, is above now, and some strand waits until it, or until one before it. It takes no memory.

@@ -1,6 +1,5 @@
-use Rattle.std.proofs.Common.{◌≡◌, ◌<◌, ◌∙◌, ap, sym, subst, true, length, Some, slice_get, arith}
+use Rattle.std.proofs.Common.{◌<◌, ◌∙◌, sym, subst, length, arith}
 use Rattle.std.proofs.lemmas.List.{length-map}
-use Rattle.swf_queue.specs.Queue.{is_among}
 use Rattle.swf_instances.specs.Held.{instances_in}
 use Rattle.swf_instances.specs.Kept.{Listening}
 use Rattle.swf_instances.proofs.Lookups.{instance_there}

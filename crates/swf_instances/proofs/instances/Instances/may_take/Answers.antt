@@ -1,7 +1,6 @@
-use Rattle.std.proofs.Common.{◌≡◌, ◌∙◌, ap, sym, subst, true, length}
+use Rattle.std.proofs.Common.{◌∙◌, ap, sym, subst, true}
 use Rattle.std.proofs.lemmas.Result.{IfOk-weaker}
 use Rattle.swf_listeners.specs.Listeners.{numbers_where}
-use Rattle.swf_meaning.specs.World.{Instance}
 use Rattle.swf_instances.specs.Held.{instances_in}
 use Rattle.swf_instances.specs.Offers.{Covers}
 use Rattle.swf_instances.proofs.OfferLemmas.{covers_all, covers_who}

@@ -1,4 +1,4 @@
-use Rattle.std.proofs.Common.{◌≡◌, ◌∙◌, ◌+◌, ap, sym, subst, slice_get, Some, arith}
+use Rattle.std.proofs.Common.{◌≡◌, ◌∙◌, ◌+◌, sym, subst, slice_get, Some, arith}
 use Rattle.std.proofs.lemmas.List.{nil_from_length}
 use Rattle.swf_instances.specs.Offers.{Covers}
 use Rattle.swf_instances.proofs.OfferLemmas.{Between, Offered, between_done, between_first, between_more, between_next, offered_next, offered_skipped, takers_more}

@@ -1,6 +1,5 @@
-use Rattle.std.proofs.Common.{◌≡◌, ◌∙◌, ◌<◌, ap, sym, Some, length, slice_get, arith}
+use Rattle.std.proofs.Common.{◌≡◌, ◌∙◌, ap, Some, length, slice_get, arith}
 use Rattle.std.proofs.lemmas.List.{length-map}
-use Rattle.std.proofs.lemmas.Option.{slice_get_within}
 use Rattle.swf_strands.specs.Alarm.{alarm_of}
 use Rattle.swf_instances.specs.Held.{instances_in}
 use Rattle.swf_instances.specs.Offers.{ids, put_at}
