@@ -100,10 +100,14 @@ root-can t r now then s i bs ws view e g moment same can b f =
 
 -- ---- the step that was prepared
 
+-- the strand that the change puts anew
+puts-at : (s : Site) (l : Line) (bs : List ℕ) (n : Node) (p : Prepared) → (change : IsChange s l bs 0 bs n p) → p.strands ≡ strands.One change.depth change.stand
+puts-at s l bs n p change = change.puts ∙ ap (λ k. strands.One k change.stand) (omega arith)
+
 -- the tree has the strand that the change puts anew
 pub change-fits : (s : Site) (l : Line) (bs ws : List ℕ) (i : Instance) (p : Prepared) → ws ≡ p.strand → IsChange s l bs 0 bs i.node p → fits p.strands ws i.node
 change-fits s l bs ws i p same change =
-    subst (λ x. fits x ws i.node) (sym change.puts)
+    subst (λ x. fits x ws i.node) (sym (puts-at s l bs i.node p change))
     (subst (λ (w : List ℕ). (change.depth ≤ length w) × (has_strand (take change.depth w) i.node ≡ true)) (sym (same ∙ change.named)) (change.deep, change.there))
 
 -- the instance after a change, with the branches of a `fork` that begins
@@ -119,7 +123,7 @@ prepared-by now ds bs ws i c p new same change begun is = subst (IsPrepared now 
     node : replaced (take d bs) (made_stand change.stand) i.node ≡ node_after new c.strand i.node
     node =
         ap (λ w. replaced (take d w) (made_stand change.stand) i.node) (sym change.named)
-        ∙ sym (ap (λ x. begun_after x c.strand i.node) change.puts)
+        ∙ sym (ap (λ x. begun_after x c.strand i.node) (puts-at (site_of now ds i) (line_of i) bs i.node c change))
         ∙ sym (subst (λ w. node_after new w i.node ≡ begun_after c.strands w i.node) same begun.node)
 
 -- what stays as it is has begun

@@ -22,6 +22,8 @@ impl Machine {
         requires { can_go site.now strand.now self.now.node ≡ true }
         ensures { IfOk result (IsPrepared site.entry.now site.entry.documents.now.documents strand.now self.now) }
     {
+        let Site { now, documents } = site;
+        let site = Site { now, documents };
         let root = self.forest.root();
         let scene = Scene::of(alloc, &self.setting, self.forest.count() - 1, site)?;
         let Prepared {

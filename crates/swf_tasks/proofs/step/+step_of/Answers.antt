@@ -10,7 +10,7 @@ use Rattle.swf_tasks.proofs.step.+step_of.Goals as goal
 
 pub own_step-requires : goal.own_step-requires
 own_step-requires t c =
-    own-goes c.args.scene.now c.args.forest.now c.args.strand c.args.branches.now c.stand_of-stand.result.now c.requires.held (no-numbers c.args.branches.now c.in_default.ensures.cases) c.requires.can c.stand_of-stand.ensures
+    own-goes c.args.scene.site.now c.args.forest.now c.args.strand c.args.branches.now c.stand_of-stand.result.now c.requires.held (no-numbers c.args.branches.now c.in_default.ensures.cases) c.requires.can c.stand_of-stand.ensures
 
 pub returns-in_default : goal.returns-in_default
 returns-in_default t c =
@@ -20,16 +20,16 @@ pub unreachable-requires : goal.unreachable-requires
 unreachable-requires t c =
     let b = c.requires.held.1.0 in
     let f = c.requires.held.1.1.0 in
-    nowhere-goes c.args.scene.now c.in-Some.inner.now c.in-Some.number.now b (c.in_default-child_of.ensures.none b f) (subst (λ bs. can_go c.args.scene.now bs (node_of b) ≡ true) c.in-Some.ensures.cases.0 (c.requires.can b f))
+    nowhere-goes c.args.scene.site.now c.in-Some.inner.now c.in-Some.number.now b (c.in_default-child_of.ensures.none b f) (subst (λ bs. can_go c.args.scene.site.now bs (node_of b) ≡ true) c.in-Some.ensures.cases.0 (c.requires.can b f))
 
 pub step_of-requires : goal.step_of-requires
 step_of-requires t c =
-    let now : c.args.scene.now ≡ c.in_ok-copy.field-0.now = sym (ap (λ (s : Site). s.now) (c.in_ok-copy.ensures.site ∙ c.in_ok-scene.ensures.site)) in
+    let now : c.args.scene.site.now ≡ c.in_ok-copy.field-0.site.now = sym (ap (λ (s : Site). s.now) (c.in_ok-copy.ensures.site ∙ c.in_ok-scene.ensures.site)) in
     let size = ap length c.in-Some.ensures.cases.0 in (
       omega (arith, size, c.decreases),
       (
         child-held c.args.forest.now c.args.strand c.in-Some.number.now c.in-Some-child_of.child c.requires.held c.in-Some-child_of.ensures.child,
-        subst (λ n. Goes n c.args.forest.now c.in-Some-child_of.child c.in-Some.inner.now) now (child-goes c.args.scene.now c.args.forest.now c.args.strand c.in-Some.number.now c.in-Some-child_of.child c.args.branches.now c.in-Some.inner.now c.requires.held c.in-Some-child_of.ensures.child c.in-Some.ensures.cases.0 c.requires.can),
+        subst (λ n. Goes n c.args.forest.now c.in-Some-child_of.child c.in-Some.inner.now) now (child-goes c.args.scene.site.now c.args.forest.now c.args.strand c.in-Some.number.now c.in-Some-child_of.child c.args.branches.now c.in-Some.inner.now c.requires.held c.in-Some-child_of.ensures.child c.in-Some.ensures.cases.0 c.requires.can),
       ),
     )
 

@@ -22,7 +22,7 @@ returns-in_default c = λ b l way inner f seen change.
     goes-deeper at l way c.args.depth b c.args.number change.0 inner c.args.prepared _ (held-is c.args.forest.now c.args.above b c.requires.held f) change.1.0
     (subst (λ z. IsChange at z way (c.args.depth + 1) inner (node_of change.0.held) c.args.prepared) seen change.1.1)
     (none-of (λ t. t.now) c.ended.result (ended_at (c.args.depth + 1) c.args.prepared.strands) c.ended.ensures c.in_default.not-Some)
-    (λ j. record c.args.prepared { context = (c.in_ok-copy.ensures ∙ ap (λ (y : Line). y.context) seen) j })
+    (λ j. record c.args.prepared { context = (c.in_ok-prepared.ensures ∙ ap (λ (y : Line). y.context) seen) j })
 
 pub returns-in-Ok-None : goal.returns-in-Ok-None
 returns-in-Ok-None c = λ b l way inner f seen change.
@@ -37,7 +37,7 @@ returns-in-Ok-None c = λ b l way inner f seen change.
     (some-of (λ t. t.now) c.ended.result (ended_at (c.args.depth + 1) c.args.prepared.strands) c.in-Some.ended c.ended.ensures c.in-Some.is)
     (settles-to z (seen_in l (frames_of b.frames)) b c.args.number x w.running c.competes.result c.in_ok-outputs.outputs None seen
     (c.competes.ensures ∙ ap competes c.task.ensures) (c.in_ok-outputs.ensures b f) (ap (option_map (step_of z)) none) (sym (sym (ap top_of (c.stand_of.ensures b f))) ∙ w.is))
-    (λ j. record c.args.prepared { context = (c.in_ok-copy.ensures ∙ ap (λ (y : Line). y.context) seen) j })
+    (λ j. record c.args.prepared { context = (c.in_ok-prepared.ensures ∙ ap (λ (y : Line). y.context) seen) j })
 
 pub returns : goal.returns
 returns c = λ b l way inner f seen change.
