@@ -1,4 +1,4 @@
-use Rattle.std.proofs.Common.{◌≡◌, ◌∙◌, ap, sym, Ok}
+use Rattle.std.proofs.Common.{◌∙◌, ap, sym, Ok}
 use Rattle.swf_meaning.specs.Complete.{step_of, complete}
 use Rattle.swf_meaning.specs.Emit.{sending, emits}
 use Rattle.swf_rules.specs.Rules.{line_in}
