@@ -1,5 +1,5 @@
 -- What a prepared change asks of the world that it is made for, and the world that it makes.
-use Rattle.std.specs.Prelude.{◌≡◌, ◌+◌, ◌<◌, ◌≤◌, ℕ, List, [], ◌++◌, false, Option, Some, None, option_map, option_to_list, slice_get}
+use Rattle.std.specs.Prelude.{◌≡◌, ◌+◌, ◌<◌, ◌≤◌, ℕ, List, [], ◌++◌, false, Option, Some, option_map, option_to_list, slice_get}
 use Rattle.std.specs.List.{AllByRecursion}
 use Rattle.swf_cloudevents.specs.declared.event.Event.{Event}
 use Rattle.swf_document.specs.declared.document.DocKey.{DocKey}

@@ -7,8 +7,8 @@ use Rattle.swf_world.specs.Prepares.{IsSent, IsStepping}
 use Rattle.swf_world.proofs.StepLemmas.{can_there, prepared_ready}
 use Rattle.swf_world.proofs.step.step_change.Goals as goal
 
-pub at-requires : goal.at-requires
-at-requires c = slice_get_within c.args.instances.now.instances c.args.number c.requires.0 c.requires.1
+pub at-instance-requires : goal.at-instance-requires
+at-instance-requires c = slice_get_within c.args.instances.now.instances c.args.number c.requires.0 c.requires.1
 
 pub prepare-requires : goal.prepare-requires
 prepare-requires c =
