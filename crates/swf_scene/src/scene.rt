@@ -36,13 +36,14 @@ impl<'a> Scene<'a> {
         site: Site<'a>,
     ) -> Result<Scene<'a>, AllocError>
         ensures line { IfOk result (λ s. line_of s ≡ setting_line setting.now) }
-        ensures site { IfOk result (λ s. site_of s ≡ record { number = setting.now.number; branches = branches; now = site.now; documents = site.documents.now.documents }) }
+        ensures site { IfOk result (λ s. site_of s ≡ record { number = setting.now.number; branches = branches; now = site.entry.now; documents = site.entry.documents.now.documents }) }
     {
+        let Site { now, documents } = site;
         Ok(Scene {
             setting,
             context: setting.context.copy()?,
             branches,
-            site,
+            site: Site { now, documents },
             around: Vec::new(alloc),
         })
     }
@@ -56,7 +57,10 @@ impl<'a> Scene<'a> {
             setting: self.setting,
             context: self.context.copy()?,
             branches: self.branches,
-            site: self.site,
+            site: Site {
+                now: self.site.now,
+                documents: self.site.documents,
+            },
             around: copy_variables(alloc, &self.around)?,
         })
     }
@@ -109,7 +113,10 @@ impl<'a> Scene<'a> {
             setting: self.setting,
             context: self.context.copy()?,
             branches: self.branches,
-            site: self.site,
+            site: Site {
+                now: self.site.now,
+                documents: self.site.documents,
+            },
             around: Vec::new(alloc),
         })
     }
