@@ -16,8 +16,8 @@ impl Rule<'_> {
     pub fn looping(&self, spec: &ForSpec) -> Result<Made, Halt>
         ensures { Makes (looping (line_in self.now) self.now.running.now (loop_of spec.now)) result }
     {
-        let vars = self.within()?;
-        let items = first(self.alloc, &spec.items, &vars, self.running.input())?;
+        let sight = self.within()?;
+        let items = first(self.alloc, &spec.items, sight.vars(), self.running.input())?;
         let items = self.value_of(items)?;
         self.over(&items)
     }

@@ -114,15 +114,8 @@ impl Rule<'_> {
         match reference {
             RetryRef::Written(policy) => Some(policy),
             RetryRef::Named(name) => {
-                let retries = self
-                    .scene
-                    .setting
-                    .document
-                    .get()
-                    .document()
-                    .retries
-                    .as_slice();
-                retry_named(name, retries)
+                let document = self.scene.setting.document.get().document();
+                retry_named(name, document.retries.as_slice())
             }
         }
     }
@@ -176,13 +169,12 @@ impl Rule<'_> {
         ensures { Makes (by_verdict (site_in self.now) (line_in self.now) self.now.running.now retries problem.now (verdict_of verdict)) result }
     {
         match verdict {
-            Verdict::Pass => Err(Halt::Fault(problem.copy()?)),
+            Verdict::Pass | Verdict::Stay => Err(Halt::Fault(problem.copy()?)),
             Verdict::Again(delay) => self.later(retries, delay),
             Verdict::Handle => {
                 let round = Round::Catch(problem.copy()?);
                 self.comes_to(round, 0, self.running.input().copy()?)
             }
-            Verdict::Stay => Err(Halt::Fault(problem.copy()?)),
             Verdict::Give => self.complete(self.running.input().copy()?),
         }
     }

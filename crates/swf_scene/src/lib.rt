@@ -10,5 +10,5 @@ mod site;
 pub use halt::{Halt, fails, value_of};
 pub use scene::Scene;
 pub use setting::Setting;
-pub use sight::{before, behind, catching, retrying, within};
+pub use sight::{Sight, before, behind, catching, retrying, within};
 pub use site::Site;

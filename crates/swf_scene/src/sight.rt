@@ -3,12 +3,13 @@ ghost use Rattle.std.specs.Prelude.{◌≡◌, ◌++◌, ◌∷◌, [], ◌<◌,
 ghost use Rattle.swf_text.specs.Same.{is_ascii};
 ghost use Rattle.swf_text.specs.Pointer.{pointer};
 ghost use Rattle.swf_value.specs.Value.{int, text, object, member, no_members};
-ghost use Rattle.swf_meaning.specs.Line.{variable, last_part, task_value, of_workflow, with_context, of_task, before, within, behind, is_workflow};
+ghost use Rattle.swf_meaning.specs.Line.{variable, last_part, task_value, of_workflow, with_context, of_task, before, within, is_workflow};
 ghost use Rattle.swf_meaning.specs.Around.{round_variables};
 ghost use Rattle.swf_meaning.specs.Parts.{kind_of};
 ghost use Rattle.swf_meaning.specs.Try.{catching, retrying};
 ghost use Rattle.swf_catalog.specs.Rounds.{round_of};
 ghost use Rattle.swf_scene.specs.Setting.{line_of};
+ghost use Rattle.swf_scene.specs.Sights.{vars_of};
 ghost use Rattle.swf_catalog.specs.TaskRef.{loop_variables};
 
 use crate::scene::Scene;
@@ -23,6 +24,25 @@ use swf_value::Json;
 
 /// Room for as many variables as most expressions see.
 const MOST_OFTEN: usize = 8;
+
+/// What expressions of a task see: variables that were made for others before, or are made for these.
+#[derive(Drop)]
+pub enum Sight<'a> {
+    Lent(&'a Vars),
+    Made(Vars),
+}
+
+impl Sight<'_> {
+    /// The variables.
+    pub fn vars(&self) -> &Vars
+        ensures { result.now ≡ vars_of self.now }
+    {
+        match self {
+            Sight::Lent(vars) => vars,
+            Sight::Made(vars) => vars,
+        }
+    }
+}
 
 // Adds a variable whose name is shared.
 fn push_variable(variables: &mut Vec<Variable>, name: &Text, value: Json) -> Result<(), AllocError>
@@ -214,9 +234,9 @@ fn around(alloc: Global, scene: &Scene, running: &Running) -> Result<Vec<Variabl
     }
 }
 
-// What `if`, a task's own definition and `output.as` see, as a list that may grow.
-fn inside(alloc: Global, scene: &Scene, running: &Running) -> Result<Vec<Variable>, AllocError>
-    ensures { IfOk result (λ xs. xs.items ≡ within (line_of scene.entry.now) running.now) }
+/// What `if`, a task's own definition and `output.as` see.
+pub fn within(alloc: Global, scene: &Scene, running: &Running) -> Result<Vars, AllocError>
+    ensures { IfOk result (λ r. r ≡ within (line_of scene.entry.now) running.now) }
 {
     let mut variables = around(alloc, scene, running)?;
     push_variable(
@@ -224,26 +244,20 @@ fn inside(alloc: Global, scene: &Scene, running: &Running) -> Result<Vec<Variabl
         words_of(scene).input(),
         running.input().copy()?,
     )?;
-    Ok(variables)
+    Ok(Vars::of(variables))
 }
 
-/// What `if`, a task's own definition and `output.as` see.
-pub fn within(alloc: Global, scene: &Scene, running: &Running) -> Result<Vars, AllocError>
-    ensures { IfOk result (λ r. r ≡ within (line_of scene.entry.now) running.now) }
-{
-    Ok(Vars::of(inside(alloc, scene, running)?))
-}
-
-/// What `export.as` sees, on the transformed output.
+/// What `export.as` sees, on the transformed output, besides what `output.as` sees.
 pub fn behind(
     alloc: Global,
     scene: &Scene,
-    running: &Running,
+    within: &Vars,
     output: &Json,
 ) -> Result<Vars, AllocError>
-    ensures { IfOk result (λ r. r ≡ behind (line_of scene.entry.now) running.now output.now) }
+    ensures { IfOk result (λ r. r ≡ within.now ++ variable (codes "output") output.now ∷ []) }
 {
-    let mut variables = inside(alloc, scene, running)?;
+    let mut variables = Vec::with_capacity(alloc, MOST_OFTEN)?;
+    push_variables(&mut variables, within.as_slice())?;
     push_variable(&mut variables, words_of(scene).output(), output.copy()?)?;
     Ok(Vars::of(variables))
 }

@@ -69,12 +69,23 @@ fn guarded(rule: &Rule) -> Result<Made, Halt>
     let Some(condition) = running.task().cond() else {
         return begun(rule);
     };
-    let vars = within(rule.alloc, rule.scene, running)?;
-    if rule.asked(&vars, running.input(), condition)? {
+    let sight = rule.within()?;
+    if rule.asked(sight.vars(), running.input(), condition)? {
         begun(rule)
     } else {
         skipped(rule)
     }
+}
+
+// Whether a task that begins asks for variables, for its `if` or for what it does.
+fn asks(task: &TaskRef) -> bool {
+    if task.cond().is_some() {
+        return true;
+    }
+    matches!(
+        task.work(),
+        Work::Emit(_) | Work::For(_) | Work::Set(_) | Work::Switch(_)
+    )
 }
 
 /// A task that has not begun takes its step.
@@ -83,9 +94,20 @@ pub fn enter(alloc: Global, scene: &Scene, task: &TaskRef, raw: &Json) -> Result
 {
     let input = input_of(alloc, scene, task, raw)?;
     let running = Running::new(task.copy()?, raw.copy()?, input);
+    let running = &running;
+    if !asks(task) {
+        return guarded(&Rule {
+            alloc,
+            scene,
+            running,
+            vars: None,
+        });
+    }
+    let vars = within(alloc, scene, running)?;
     guarded(&Rule {
         alloc,
         scene,
-        running: &running,
+        running,
+        vars: Some(&vars),
     })
 }

@@ -82,6 +82,7 @@ fn settle(
         alloc,
         scene: &scene,
         running,
+        vars: None,
     };
     let given = rule.settled(running.task().competes(), ended, outputs);
     let made = match given {
@@ -233,6 +234,7 @@ fn next_of(alloc: Global, scene: Scene, stand: &Stand) -> Result<Made, AllocErro
                 alloc,
                 scene: &scene,
                 running,
+                vars: None,
             };
             rule.woken(*retries)
         }
@@ -241,6 +243,7 @@ fn next_of(alloc: Global, scene: Scene, stand: &Stand) -> Result<Made, AllocErro
                 alloc,
                 scene: &scene,
                 running,
+                vars: None,
             };
             listened(&rule, heard.as_slice())
         }
