@@ -1,5 +1,5 @@
 -- The step of the first instance in the queue that can take one.
-use Rattle.std.proofs.Common.{◌≡◌, ◌∙◌, ap, cond, refl, sym, ℕ, zero, suc, ◌<◌, List, [], ◌∷◌, length, not, true, false, is_some, Option, Some, None, Ok, slice_get, position}
+use Rattle.std.proofs.Common.{◌≡◌, ◌∙◌, ap, cond, refl, ℕ, zero, suc, ◌<◌, List, [], ◌∷◌, length, not, true, false, is_some, Option, Some, None, Ok, slice_get, position}
 use Rattle.std.proofs.lemmas.Bool.{or_left, or_right}
 use Rattle.std.proofs.lemmas.Option.{same_Some, slice_get_within}
 use Rattle.swf_text.specs.Same.{same}
