@@ -47,6 +47,6 @@ abbrev pub listed : Option Tasks → Tasks
 listed None = no_tasks
 listed (Some ts) = ts
 
--- the variables of a iteration
+-- the variables of an iteration
 abbrev pub loop_variables : ForSpec → Iteration → List Variable
 loop_variables s t = iteration_variables (loop_of s) t.number (slice_get t.items t.number)

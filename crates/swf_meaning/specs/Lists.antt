@@ -56,11 +56,11 @@ begins_with w (Some m) = Fresh m w
 abbrev pub iteration_begins : Line → Running → Round → Value → Stepped
 iteration_begins l r round w = becomes l (Live r (At round zero (begins_with w (task_at (list_of r.task round) zero))))
 
--- a iteration begins where `while` is true, and else the task is complete
+-- an iteration begins where `while` is true, and else the task is complete
 abbrev pub iteration_decided : Line → Running → Round → Value → Bool → Result Stepped Problem
 iteration_decided l r round w b = if b then Ok (iteration_begins l r round w) else complete l r w
 
--- `while` is asked before a iteration, and sees its variables
+-- `while` is asked before an iteration, and sees its variables
 abbrev pub iteration_guarded : Line → Running → Round → Value → Option Tree → Result Stepped Problem
 iteration_guarded l r round w None = Ok (iteration_begins l r round w)
 iteration_guarded l r round w (Some e) = do
