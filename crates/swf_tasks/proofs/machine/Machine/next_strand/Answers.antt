@@ -39,6 +39,6 @@ returns-else-branch-2 c =
     let r = c.root-root.result in
     let way = c.lead_on.new.path.items in
     of-root (λ n. is_enabled c.args.now n ≡ false) c.self.inside.setting t r c.args.self.now c.self.view_is c.root-root.ensures.root c.self.invariant.0 (λ b f. elim c.if-branch.branch [
-      | then-branch w ↦ absurd (yes-no (sym w.value-is ∙ c.if-branch-2.false))
+      | then-branch w ↦ absurd (yes-no (sym w.if-branch.true ∙ sym w.value-is ∙ c.if-branch-2.false))
       | else-branch+in_ok-lead_in w ↦ led_in-none c.args.now t r way w.lead_in.new.path.items w.in_ok-lead_in.field-0 (sym w.value-is ∙ c.if-branch-2.false) w.in_ok-lead_in.ensures b f
     ])

@@ -22,10 +22,10 @@ begun-requires c =
     let ds = c.args.site.documents.now.documents in
     let i = c.args.self.now in
     let bs = c.args.strand.now in
-    let p = c.in_ok-step_of.field-0 in
+    let p = c.in_ok-strand.field-0 in
     let change : IsChange (site_at now ds i) (line_at i) bs 0 bs i.node p =
-    root-change c.self.inside.forest c.root-root.result c.count.result now ds c.self.inside.setting i (site_of c.in_ok-scene.scene) (line_of c.in_ok-scene.scene) bs bs p c.self.view_is c.root-root.ensures.root c.self.invariant.0
-    c.count.ensures c.in_ok-scene.ensures.site c.in_ok-scene.ensures.line refl c.in_ok-step_of.ensures in
+    root-change c.self.inside.forest c.root-root.result c.count-branches.result now ds c.self.inside.setting i (site_of c.in_ok-scene.scene) (line_of c.in_ok-scene.scene) bs bs p c.self.view_is c.root-root.ensures.root c.self.invariant.0
+    c.count-branches.ensures c.in_ok-scene.ensures.site c.in_ok-scene.ensures.line refl c.in_ok-strand.ensures in
     change-fits (site_at now ds i) (line_at i) bs c.as_slice.result.now i p c.as_slice.ensures change
 
 pub returns : goal.returns
@@ -34,8 +34,8 @@ returns c =
     let ds = c.args.site.documents.now.documents in
     let i = c.args.self.now in
     let bs = c.args.strand.now in
-    let p = c.in_ok-step_of.field-0 in
+    let p = c.in_ok-strand.field-0 in
     let change : IsChange (site_at now ds i) (line_at i) bs 0 bs i.node p =
-    root-change c.self.inside.forest c.root-root.result c.count.result now ds c.self.inside.setting i (site_of c.in_ok-scene.scene) (line_of c.in_ok-scene.scene) bs bs p c.self.view_is c.root-root.ensures.root c.self.invariant.0
-    c.count.ensures c.in_ok-scene.ensures.site c.in_ok-scene.ensures.line refl c.in_ok-step_of.ensures in
+    root-change c.self.inside.forest c.root-root.result c.count-branches.result now ds c.self.inside.setting i (site_of c.in_ok-scene.scene) (line_of c.in_ok-scene.scene) bs bs p c.self.view_is c.root-root.ensures.root c.self.invariant.0
+    c.count-branches.ensures c.in_ok-scene.ensures.site c.in_ok-scene.ensures.line refl c.in_ok-strand.ensures in
     prepared-by now ds bs c.as_slice.result.now i p _ c.in_ok-strands.strands c.as_slice.ensures change c.in_ok-strands.ensures refl
