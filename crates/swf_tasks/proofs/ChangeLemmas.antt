@@ -334,8 +334,8 @@ pub nowhere-goes : (now : ℕ) (is : List ℕ) (i : ℕ) (b : Branch Stand) → 
 nowhere-goes now is i b none can = yes-no (sym can ∙ ap (top_is (can_top now)) (top-no-child b i is none))
 
 -- the numbers of a way behind the first ones
-pub way-end : (ws xs : List ℕ) (k n : ℕ) → ws ≡ xs → n ≡ length ws → n ≤ k → drop k xs ≡ []
-way-end ws xs k n same len past = let all = ap length same in drop_all k xs (omega (arith, all, len, past))
+pub way-end : (ws xs : List ℕ) (k : ℕ) → ws ≡ xs → length ws ≤ k → drop k xs ≡ []
+way-end ws xs k same past = let all = ap length same in drop_all k xs (omega (arith, all, past))
 
 way-next : (xs : List ℕ) (k x : ℕ) → slice_get xs k ≡ Some x → drop k xs ≡ x ∷ drop (suc k) xs
 way-next [] k x e = absurd (nothing x (sym (get-nothing k) ∙ e))
@@ -346,10 +346,10 @@ way-next [] k x e = absurd (nothing x (sym (get-nothing k) ∙ e))
 way-next (y ∷ ys) zero x e = ap (λ z. z ∷ ys) (same_Some y x e)
 way-next (y ∷ ys) (suc k) x e = way-next ys k x e
 
-pub way-more : (ws xs : List ℕ) (k n : ℕ) → ws ≡ xs → n ≡ length ws → k < n → drop k xs ≡ get_or ws k 0 ∷ drop (k + 1) xs
-way-more ws xs k n same len less =
+pub way-more : (ws xs : List ℕ) (k : ℕ) → ws ≡ xs → k < length ws → drop k xs ≡ get_or ws k 0 ∷ drop (k + 1) xs
+way-more ws xs k same less =
     let all = ap length same in
-    way-next xs k (get_or xs k 0) (slice_get-get_or xs k 0 (omega (arith, all, len, less)))
+    way-next xs k (get_or xs k 0) (slice_get-get_or xs k 0 (omega (arith, all, less)))
     ∙ ap (λ w. get_or w k 0 ∷ drop (suc k) xs) (sym same)
     ∙ ap (λ m. get_or ws k 0 ∷ drop m xs) (sym (add-one k))
 

@@ -1,4 +1,4 @@
-use Rattle.std.proofs.Common.{◌≡◌, ◌∙◌, ◌+◌, ◌∷◌, List, ℕ, ap, refl, sym, subst, arith, drop, length, true}
+use Rattle.std.proofs.Common.{◌≡◌, ◌∙◌, ◌+◌, ◌∷◌, List, ℕ, ap, sym, subst, arith, drop, length, true}
 use Rattle.std.specs.Prelude.{get_or}
 use Rattle.swf_meaning.specs.Line.{Site}
 use Rattle.swf_meaning.specs.Strands.{can_go}
@@ -12,14 +12,14 @@ pub own_step-requires : goal.own_step-requires
 own_step-requires t c =
     let bs = c.args.strand.now in
     let k = c.args.depth in
-    own-goes c.args.scene.site.now c.args.forest.now c.args.above (drop k bs) c.stand_of-stand.result.now c.requires.held (way-end c.as_slice-numbers.result.now bs k (length c.as_slice-numbers.result.now) c.as_slice-numbers.ensures refl c.if-depth-numbers.true) c.requires.can c.stand_of-stand.ensures
+    own-goes c.args.scene.site.now c.args.forest.now c.args.above (drop k bs) c.stand_of-stand.result.now c.requires.held (way-end c.as_slice-numbers.result.now bs k c.as_slice-numbers.ensures c.if-depth-numbers.true) c.requires.can c.stand_of-stand.ensures
 
 pub returns-then-depth-numbers : goal.returns-then-depth-numbers
 returns-then-depth-numbers t c =
     let bs = c.args.strand.now in
     let k = c.args.depth in
     own-told (site_of c.args.scene) (line_of c.args.scene) bs k c.args.forest.now c.args.above (drop k bs) c.stand_of-stand.result.now c.own_step.result
-    (way-end c.as_slice-numbers.result.now bs k (length c.as_slice-numbers.result.now) c.as_slice-numbers.ensures refl c.if-depth-numbers.true) c.requires.can c.stand_of-stand.ensures c.own_step.ensures
+    (way-end c.as_slice-numbers.result.now bs k c.as_slice-numbers.ensures c.if-depth-numbers.true) c.requires.can c.stand_of-stand.ensures c.own_step.ensures
 
 pub unreachable-requires : goal.unreachable-requires
 unreachable-requires t c =
@@ -28,7 +28,7 @@ unreachable-requires t c =
     let ws = c.as_slice-numbers.result.now in
     let b = c.requires.held.1.0 in
     let f = c.requires.held.1.1.0 in
-    let more : drop k bs ≡ get_or ws k 0 ∷ drop (k + 1) bs = way-more ws bs k (length ws) c.as_slice-numbers.ensures refl c.if-depth-numbers.false in
+    let more : drop k bs ≡ get_or ws k 0 ∷ drop (k + 1) bs = way-more ws bs k c.as_slice-numbers.ensures c.if-depth-numbers.false in
     nowhere-goes c.args.scene.site.now (drop (k + 1) bs) (get_or ws k 0) b (c.in_default.ensures.none b f) (subst (λ is. can_go c.args.scene.site.now is (node_of b) ≡ true) more (c.requires.can b f))
 
 pub step_of-requires : goal.step_of-requires
@@ -38,7 +38,7 @@ step_of-requires t c =
     let ws = c.as_slice-numbers.result.now in
     let i = get_or ws k 0 in
     let now : c.args.scene.site.now ≡ c.in_ok-copy.field-0.site.now = sym (ap (λ (s : Site). s.now) (c.in_ok-copy.ensures.site ∙ c.in_ok-scene.ensures.site)) in
-    let more : drop k bs ≡ i ∷ drop (k + 1) bs = way-more ws bs k (length ws) c.as_slice-numbers.ensures refl c.if-depth-numbers.false in
+    let more : drop k bs ≡ i ∷ drop (k + 1) bs = way-more ws bs k c.as_slice-numbers.ensures c.if-depth-numbers.false in
     let less = c.if-depth-numbers.false in
     let all : length ws ≡ length bs = ap length c.as_slice-numbers.ensures in (
       omega (arith, all, less, c.decreases),
@@ -58,7 +58,7 @@ returns t c =
     let k = c.args.depth in
     let ws = c.as_slice-numbers.result.now in
     let i = get_or ws k 0 in
-    let more : drop k bs ≡ i ∷ drop (k + 1) bs = way-more ws bs k (length ws) c.as_slice-numbers.ensures refl c.if-depth-numbers.false in
+    let more : drop k bs ≡ i ∷ drop (k + 1) bs = way-more ws bs k c.as_slice-numbers.ensures c.if-depth-numbers.false in
     branch-told (site_of c.args.scene) (site_of c.in_ok-scene.scene) (site_of c.in_ok-copy.field-0) (line_of c.args.scene) (line_of c.in_ok-scene.scene) (line_of c.in_ok-copy.field-0) bs k c.args.forest.now c.args.above i c.in-Some.branch (drop k bs) (drop (k + 1) bs)
     c.stand_of-stand.result.now c.in_ok-prepared.prepared c.settle.result
     c.requires.held c.in-Some.ensures.child more c.stand_of-stand.ensures c.in_ok-scene.ensures.site c.in_ok-copy.ensures.site c.in_ok-scene.ensures.line c.in_ok-copy.ensures.line c.in_ok-prepared.ensures c.settle.ensures
