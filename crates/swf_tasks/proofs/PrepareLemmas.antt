@@ -1,5 +1,5 @@
 -- What the step of a strand makes of an instance.
-use Rattle.std.proofs.Common.{◌≡◌, ◌∙◌, refl, sym, ap, subst, ℕ, ◌+◌, ◌-◌, ◌≤◌, Bool, true, false, List, [], ◌∷◌, length, take, Option, Some, None, arith}
+use Rattle.std.proofs.Common.{◌≡◌, ◌∙◌, refl, sym, ap, subst, ℕ, ◌+◌, ◌-◌, ◌≤◌, Bool, true, false, List, [], ◌∷◌, length, take, Some, None, arith}
 use Rattle.std.proofs.lemmas.Option.{same_Some}
 use Rattle.std.specs.Prelude.{option_map}
 use Rattle.swf_cloudevents.specs.declared.event.Event.{Event}
@@ -9,10 +9,10 @@ use Rattle.swf_meaning.specs.Documents.{Loaded}
 use Rattle.swf_meaning.specs.Line.{Line, Site}
 use Rattle.swf_meaning.specs.Offer.{offered}
 use Rattle.swf_meaning.specs.Strands.{branches_in, can_go}
-use Rattle.swf_meaning.specs.World.{Instance, line_of, site_of, with_step}
+use Rattle.swf_meaning.specs.World.{Instance, line_of, site_of}
 use Rattle.swf_meaning.proofs.TopsLemmas.{strands_among, strands_among-branch, branches_in-at, branches_in-fork}
 use Rattle.swf_stack.specs.Stands.{frames_of, top_of}
-use Rattle.swf_stack.specs.Stack.{plug, top_node, used_by}
+use Rattle.swf_stack.specs.Stack.{plug, top_node}
 use Rattle.swf_catalog.specs.Rounds.{round_of}
 use Rattle.swf_scene.specs.Setting.{setting_line, instance_of}
 use Rattle.swf_stack.specs.declared.made.Frame.{Frame}
@@ -21,7 +21,7 @@ use Rattle.swf_stack.specs.declared.made.Top.{Top}
 use Rattle.swf_stack.specs.declared.made.Top.TheVariants as tops
 use Rattle.swf_scene.specs.declared.setting.Setting.{Setting}
 use Rattle.swf_tasks.specs.Prepares.{applied, begun_after, fits, Fits, IsBegun, IsPrepared, node_after}
-use Rattle.swf_tasks.specs.Stepped.{IsChange, change_at}
+use Rattle.swf_tasks.specs.Stepped.{IsChange}
 use Rattle.swf_strands.specs.Strands.{strand_node, nodes_of, node_of, root_node, is_fork, made_stand, IsStrand, IsGrown}
 use Rattle.swf_tasks.specs.Taken.{offered_own, taken}
 use Rattle.swf_strands.specs.Ways.{has_strand, replaced}

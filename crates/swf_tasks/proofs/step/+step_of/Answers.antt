@@ -1,4 +1,4 @@
-use Rattle.std.proofs.Common.{◌≡◌, ◌∙◌, ◌+◌, ◌∷◌, List, ℕ, ap, sym, subst, arith, drop, length, true}
+use Rattle.std.proofs.Common.{◌≡◌, ◌∙◌, ◌+◌, ◌∷◌, ap, sym, subst, arith, drop, length, true}
 use Rattle.std.specs.Prelude.{get_or}
 use Rattle.swf_meaning.specs.Line.{Site}
 use Rattle.swf_meaning.specs.Strands.{can_go}

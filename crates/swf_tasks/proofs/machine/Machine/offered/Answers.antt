@@ -1,4 +1,4 @@
-use Rattle.std.proofs.Common.{◌≡◌, ◌∙◌, Some, ap, refl, sym}
+use Rattle.std.proofs.Common.{◌∙◌, Some, ap, refl, sym}
 use Rattle.swf_strands.proofs.TreeLemmas.{root-held}
 use Rattle.swf_offers.proofs.OfferLemmas.{offered-all}
 use Rattle.swf_tasks.specs.Prepares.{node_after}

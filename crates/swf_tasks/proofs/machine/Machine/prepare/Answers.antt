@@ -1,4 +1,4 @@
-use Rattle.std.proofs.Common.{◌≡◌, ◌∙◌, ap, refl}
+use Rattle.std.proofs.Common.{ap, refl}
 use Rattle.swf_meaning.specs.Line.{Site}
 use Rattle.swf_meaning.specs.World.{line_of as line_at, site_of as site_at}
 use Rattle.swf_scene.specs.Setting.{line_of, site_of}
