@@ -1,8 +1,9 @@
 -- A step changes one strand of a node.
-use Rattle.std.proofs.Common.{◌≡◌, ◌∙◌, refl, sym, ap, subst, ℕ, zero, suc, ◌+◌, ◌≤◌, Bool, true, false, List, [], ◌∷◌, ◌++◌, length, take, drop, Option, Some, None, Ok, Err, is_some, add-one, arith}
-use Rattle.std.specs.Prelude.{nat_eq, option_map, option_and_then, option_to_list, slice_get, if◌then◌else◌, Result, IfOk}
+use Rattle.std.proofs.Common.{◌≡◌, ◌∙◌, refl, sym, ap, subst, ℕ, zero, suc, ◌+◌, ◌≤◌, ◌<◌, Bool, true, false, List, [], ◌∷◌, ◌++◌, length, take, drop, Option, Some, None, Ok, Err, is_some, add-one, arith}
+use Rattle.std.specs.Prelude.{get_or, nat_eq, option_map, option_and_then, option_to_list, slice_get, if◌then◌else◌, Result, IfOk}
 use Rattle.std.proofs.lemmas.Bool.{eq-eqb, eqb-true}
-use Rattle.std.proofs.lemmas.Option.{same_Some}
+use Rattle.std.proofs.lemmas.List.{drop_all}
+use Rattle.std.proofs.lemmas.Option.{same_Some, slice_get-get_or}
 use Rattle.swf_value.specs.Value.{Value}
 use Rattle.swf_document.specs.declared.common.Flow.TheVariants as flows
 use Rattle.swf_document.specs.declared.error.Problem.{Problem}
@@ -333,26 +334,24 @@ pub nowhere-goes : (now : ℕ) (is : List ℕ) (i : ℕ) (b : Branch Stand) → 
 nowhere-goes now is i b none can = yes-no (sym can ∙ ap (top_is (can_top now)) (top-no-child b i is none))
 
 -- the numbers of a way behind the first ones
-drop-nothing : (k : ℕ) → drop {A = ℕ} k [] ≡ []
-drop-nothing zero = refl
-drop-nothing (suc k) = refl
-
-get-nothing : (k : ℕ) → slice_get {X = ℕ} [] k ≡ None
-get-nothing zero = refl
-get-nothing (suc k) = refl
-
-pub way-end : (xs : List ℕ) (k : ℕ) → slice_get xs k ≡ None → drop k xs ≡ []
-way-end [] k e = drop-nothing k
-way-end (x ∷ xs) zero e = absurd (nothing x (sym e))
-way-end (x ∷ xs) (suc k) e = way-end xs k e
+pub way-end : (ws xs : List ℕ) (k : ℕ) → ws ≡ xs → length ws ≤ k → drop k xs ≡ []
+way-end ws xs k same past = let all = ap length same in drop_all k xs (omega (arith, all, past))
 
 way-next : (xs : List ℕ) (k x : ℕ) → slice_get xs k ≡ Some x → drop k xs ≡ x ∷ drop (suc k) xs
 way-next [] k x e = absurd (nothing x (sym (get-nothing k) ∙ e))
+  where
+    get-nothing : (k : ℕ) → slice_get {X = ℕ} [] k ≡ None
+    get-nothing zero = refl
+    get-nothing (suc k) = refl
 way-next (y ∷ ys) zero x e = ap (λ z. z ∷ ys) (same_Some y x e)
 way-next (y ∷ ys) (suc k) x e = way-next ys k x e
 
-pub way-more : (xs : List ℕ) (k x : ℕ) → slice_get xs k ≡ Some x → drop k xs ≡ x ∷ drop (k + 1) xs
-way-more xs k x e = way-next xs k x e ∙ ap (λ n. x ∷ drop n xs) (sym (add-one k))
+pub way-more : (ws xs : List ℕ) (k : ℕ) → ws ≡ xs → k < length ws → drop k xs ≡ get_or ws k 0 ∷ drop (k + 1) xs
+way-more ws xs k same less =
+    let all = ap length same in
+    way-next xs k (get_or xs k 0) (slice_get-get_or xs k 0 (omega (arith, all, less)))
+    ∙ ap (λ w. get_or w k 0 ∷ drop (suc k) xs) (sym same)
+    ∙ ap (λ m. get_or ws k 0 ∷ drop m xs) (sym (add-one k))
 
 -- ---- the step of a strand itself, told of the strand
 

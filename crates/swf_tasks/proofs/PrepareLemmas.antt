@@ -2,15 +2,17 @@
 use Rattle.std.proofs.Common.{◌≡◌, ◌∙◌, refl, sym, ap, subst, ℕ, ◌+◌, ◌-◌, ◌≤◌, Bool, true, false, List, [], ◌∷◌, length, take, Some, None, arith}
 use Rattle.std.proofs.lemmas.Option.{same_Some}
 use Rattle.std.specs.Prelude.{option_map}
+use Rattle.swf_cloudevents.specs.declared.event.Event.{Event}
 use Rattle.swf_frames.specs.Tree.{Tree, Strands as Below, no_strands, strand, Branch, find, numbers, count}
 use Rattle.swf_meaning.specs.Node.{Node, Live, Forked}
 use Rattle.swf_meaning.specs.Documents.{Loaded}
 use Rattle.swf_meaning.specs.Line.{Line, Site}
+use Rattle.swf_meaning.specs.Offer.{offered}
 use Rattle.swf_meaning.specs.Strands.{branches_in, can_go}
-use Rattle.swf_meaning.specs.World.{Instance, line_of, site_of, with_step}
+use Rattle.swf_meaning.specs.World.{Instance, line_of, site_of}
 use Rattle.swf_meaning.proofs.TopsLemmas.{strands_among, strands_among-branch, branches_in-at, branches_in-fork}
 use Rattle.swf_stack.specs.Stands.{frames_of, top_of}
-use Rattle.swf_stack.specs.Stack.{plug, top_node, used_by}
+use Rattle.swf_stack.specs.Stack.{plug, top_node}
 use Rattle.swf_catalog.specs.Rounds.{round_of}
 use Rattle.swf_scene.specs.Setting.{setting_line, instance_of}
 use Rattle.swf_stack.specs.declared.made.Frame.{Frame}
@@ -19,13 +21,14 @@ use Rattle.swf_stack.specs.declared.made.Top.{Top}
 use Rattle.swf_stack.specs.declared.made.Top.TheVariants as tops
 use Rattle.swf_scene.specs.declared.setting.Setting.{Setting}
 use Rattle.swf_tasks.specs.Prepares.{applied, begun_after, fits, Fits, IsBegun, IsPrepared, node_after}
-use Rattle.swf_tasks.specs.Stepped.{IsChange, change_at}
+use Rattle.swf_tasks.specs.Stepped.{IsChange}
 use Rattle.swf_strands.specs.Strands.{strand_node, nodes_of, node_of, root_node, is_fork, made_stand, IsStrand, IsGrown}
-use Rattle.swf_tasks.specs.Taken.{taken}
+use Rattle.swf_tasks.specs.Taken.{offered_own, taken}
 use Rattle.swf_strands.specs.Ways.{has_strand, replaced}
 use Rattle.swf_tasks.specs.declared.prepared.Prepared.{Prepared}
 use Rattle.swf_tasks.specs.declared.prepared.Strands.{Strands}
 use Rattle.swf_tasks.specs.declared.prepared.Strands.TheVariants as strands
+use Rattle.swf_offers.proofs.OfferLemmas.{AreOffered}
 use Rattle.swf_strands.proofs.TreeLemmas.{fork-node, plain-node, root-holds}
 
 -- ---- how many branches run
@@ -126,6 +129,32 @@ prepared-by now ds bs ws i c p new same change begun is = subst (IsPrepared now 
         ∙ sym (ap (λ x. begun_after x c.strand i.node) (puts-at (site_of now ds i) (line_of i) bs i.node c change))
         ∙ sym (subst (λ w. node_after new w i.node ≡ begun_after c.strands w i.node) same begun.node)
 
--- what stays as it is has begun
-pub begun-same : (s : Strands) (bs ws : List ℕ) (n : Node) (e : node_after s ws n ≡ begun_after s ws n) → fits s ws n → IsBegun s ws n s
-begun-same s bs ws n e f = record { fits = f; node = e }
+-- ---- the branches of a `fork` that begins
+
+-- where the strands are all told, none begins
+pub begun-all : (s : Strands) (bs : List ℕ) (n : Node) → ((d : ℕ) (h : Stand) → s ≡ strands.One d h → ⊥) → fits s bs n → IsBegun s bs n s
+begun-all (strands.One d h) bs n isnt f = absurd (isnt d h refl)
+begun-all (strands.All t) bs n isnt f = record { fits = f; node = refl }
+
+-- ---- the event that goes out is offered to the instance as well
+
+abbrev pub IsOffered : Prepared → Prepared → Instance → Type 0
+IsOffered p q i = Fits q i × (applied q i ≡ offered_own p.emitted (applied p i)) × (q.emitted ≡ p.emitted)
+
+pub offered-some : (p q : Prepared) (i : Instance) (e : Event) (all : Below Stand) (new : Tree Stand) (k : ℕ) → p.emitted ≡ Some e → root_node all ≡ node_after p.strands p.strand i.node → AreOffered e all new.strands k → q ≡ record p { strands = strands.All new } → IsOffered p q i
+offered-some p q i e all new k sent node off is = subst (λ (x : Prepared). IsOffered p x i) (sym is) (
+  off.grown,
+  ap (λ n. record (applied p i) { node = n }) (off.node ∙ ap (λ n. (offered e n).0) node) ∙ sym (ap (λ o. offered_own o (applied p i)) sent),
+  refl,
+)
+
+-- ---- the strands after a step
+
+-- the tree of the strands of an instance has it
+pub fits-root : (s : Strands) (ws bs : List ℕ) (t : Setting) (old : Below Stand) (i : Instance) → instance_of t (root_node old) ≡ i → ws ≡ bs → fits s bs i.node → fits s ws (root_node old)
+fits-root s ws bs t old i view same f = subst (λ w. fits s w (root_node old)) (sym same) (subst (λ (j : Instance). fits s bs j.node) (sym view) f)
+
+-- the instance after a step
+pub applied-by : (s : Setting) (old new : Below Stand) (p : Prepared) (i : Instance) (ws : List ℕ) → instance_of s (root_node old) ≡ i → ws ≡ p.strand → root_node new ≡ node_after p.strands ws (root_node old) → record (instance_of s (root_node new)) { context = p.context; number = p.number } ≡ applied p i
+applied-by s old new p i ws view same node =
+    ap (λ n. record (instance_of s n) { context = p.context; number = p.number }) (node ∙ ap (λ w. node_after p.strands w (root_node old)) same) ∙ ap (applied p) view

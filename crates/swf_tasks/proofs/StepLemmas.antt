@@ -32,7 +32,7 @@ use Rattle.swf_stack.specs.declared.made.Stand.{Stand}
 use Rattle.swf_stack.specs.declared.made.Top.{Top}
 use Rattle.swf_stack.specs.declared.made.Top.TheVariants as tops
 use Rattle.swf_strands.proofs.AskLemmas.{can_go-live, can_go-until}
-use Rattle.swf_tasks.specs.Installed.{put_in, IsStep, behind, outer, own_node}
+use Rattle.swf_tasks.specs.Installed.{put_in, IsRuled, IsSeen, IsStep, behind, outer, own_node}
 use Rattle.swf_tasks.specs.Taken.{IsListened}
 
 pub plug-append : (fs gs : List Frame) (n : Node) → plug (fs ++ gs) n ≡ plug fs (plug gs n)
@@ -85,21 +85,14 @@ local-plug s l bs (f ∷ fs) n m p e =
 
 -- ---- what a rule gives by a line is the step of the tree
 
-abbrev pub IsRule : {E : Type 0} → Line → Result Made Halt → Result Made E → Type 0
-IsRule z g r = IfOk r (λ m. (x : Result Stepped Problem) → Makes x g → stepped_of m ≡ step_of z x)
-
--- the line of what takes the step
-abbrev pub IsSeen : Line → Line → Stand → Type 0
-IsSeen l z h = z ≡ seen_in l (inward (outer h.top h.around))
+pub made-step : {E : Type 0} (s : Site) (l z : Line) (h : Stand) (g : Result Made Halt) (r : Result Made E) → IsRuled s l z h g → IfOk r (λ m. (x : Result Stepped Problem) → Makes x g → stepped_of m ≡ step_of z x) → IfOk r (λ m. IsStep s l h (stepped_of m))
+made-step s l z h g (Ok m) ruled makes = ruled.1.1 ∙ ap (λ y. Some (put_in (inward (outer h.top h.around)) y)) (sym (makes ruled.0 ruled.1.0))
+made-step s l z h g (Err e) ruled makes = tt
 
 -- the rule of the node k applies, with the tasks around it
-made : {E : Type 0} (s : Site) (l z : Line) (h : Stand) (k : Node) (x : Result Stepped Problem) (g : Result Made Halt) (r : Result Made E) → own_node h ≡ plug (inward (outer h.top h.around)) k → is_open k ≡ true → local s z [] k ≡ Some (step_of z x) →
-    IsSeen l z h → Makes x g → IsRule z g r → IfOk r (λ m. IsStep s l h (stepped_of m))
-made s l z h k x g (Ok m) e p is seen makes rule =
-    let os = inward (outer h.top h.around) in
-    ap (local s l []) e ∙ local-plug s l [] os k (step_of z x) p (subst (λ y. local s y [] k ≡ Some (step_of z x)) seen is)
-    ∙ ap (λ y. Some (put_in os y)) (sym (rule x makes))
-made s l z h k x g (Err y) e p is seen makes rule = tt
+made : (s : Site) (l z : Line) (h : Stand) (k : Node) (x : Result Stepped Problem) (g : Result Made Halt) → own_node h ≡ plug (inward (outer h.top h.around)) k → is_open k ≡ true → local s z [] k ≡ Some (step_of z x) → IsSeen l z h → Makes x g → IsRuled s l z h g
+made s l z h k x g e p is seen makes =
+    (x, (makes, ap (local s l []) e ∙ local-plug s l [] (inward (outer h.top h.around)) k (step_of z x) p (subst (λ y. local s y [] k ≡ Some (step_of z x)) seen is)))
 
 -- all tasks stand around what has not ended
 stays : (h : Stand) (x : Top) → h.top ≡ x → outer x h.around ≡ h.around → own_node h ≡ plug (inward (outer h.top h.around)) (top_node x)
@@ -108,8 +101,8 @@ stays h x e o =
     λ i. plug (inward (same i)) (top_node (e i))
 
 -- Enter
-pub made-fresh : {E : Type 0} (s : Site) (l z : Line) (h : Stand) (t : Task) (v : Value) (g : Result Made Halt) (r : Result Made E) → h.top ≡ tops.Fresh t v → IsSeen l z h → Makes (enter s z t v) g → IsRule z g r → IfOk r (λ m. IsStep s l h (stepped_of m))
-made-fresh s l z h t v g r e = made s l z h (Fresh t v) (enter s z t v) g r (stays h (tops.Fresh t v) e refl) refl refl
+pub made-fresh : (s : Site) (l z : Line) (h : Stand) (t : Task) (v : Value) (g : Result Made Halt) → h.top ≡ tops.Fresh t v → IsSeen l z h → Makes (enter s z t v) g → IsRuled s l z h g
+made-fresh s l z h t v g e = made s l z h (Fresh t v) (enter s z t v) g (stays h (tops.Fresh t v) e refl) refl refl
 
 -- Wake
 pub enabled-until : (now : ℕ) (h : Stand) (r : Running) (n : Option ℕ) (m : ℕ) → h.top ≡ tops.Waiting r n m → nat_le m now ≡ can_go now [] (own_node h)
@@ -119,10 +112,9 @@ woken : (s : Site) (l : Line) (r : Running) (n : Option ℕ) (m : ℕ) → nat_l
 woken s l r None m h = ap (λ b. option_map (step_of l) (if b then Some (woken_to l r None) else None)) h
 woken s l r (Some n) m h = ap (λ b. option_map (step_of l) (if b then Some (woken_to l r (Some n)) else None)) h
 
-pub made-waiting : {E : Type 0} (s : Site) (l z : Line) (h : Stand) (q : Running) (n : Option ℕ) (until : ℕ) (g : Result Made Halt) (r : Result Made E) → h.top ≡ tops.Waiting q n until → can_go s.now [] (own_node h) ≡ true → IsSeen l z h → Makes (woken_to z q n) g → IsRule z g r →
-    IfOk r (λ m. IsStep s l h (stepped_of m))
-made-waiting s l z h q n until g r e p =
-    made s l z h (Live q (waiting n until)) (woken_to z q n) g r (stays h (tops.Waiting q n until) e refl) refl (woken s z q n until (enabled-until s.now h q n until e ∙ p))
+pub made-waiting : (s : Site) (l z : Line) (h : Stand) (q : Running) (n : Option ℕ) (until : ℕ) (g : Result Made Halt) → h.top ≡ tops.Waiting q n until → can_go s.now [] (own_node h) ≡ true → IsSeen l z h → Makes (woken_to z q n) g → IsRuled s l z h g
+made-waiting s l z h q n until g e p =
+    made s l z h (Live q (waiting n until)) (woken_to z q n) g (stays h (tops.Waiting q n until) e refl) refl (woken s z q n until (enabled-until s.now h q n until e ∙ p))
 
 -- Wake, of a task that heard all
 pub enabled-hearing : (now : ℕ) (h : Stand) (r : Running) (bound : Members) (hs : List Heard) → h.top ≡ tops.Hearing r bound hs → is_heard r.task hs ≡ can_go now [] (own_node h)
@@ -135,11 +127,10 @@ heard_some l r hs e = by (listen_in (kind_of r.task)) e
     by None e = cc
     by (Some spec) e = (complete l r (events_of spec hs), ap (λ b. if b then Some (complete l r (events_of spec hs)) else None) e)
 
-pub made-hearing : {E : Type 0} (s : Site) (l z : Line) (h : Stand) (q : Running) (bound : Members) (hs : List Heard) (g : Result Made Halt) (r : Result Made E) → h.top ≡ tops.Hearing q bound hs → can_go s.now [] (own_node h) ≡ true → IsSeen l z h → IsListened z q hs g → IsRule z g r →
-    IfOk r (λ m. IsStep s l h (stepped_of m))
-made-hearing s l z h q bound hs g r e p seen listened =
+pub made-hearing : (s : Site) (l z : Line) (h : Stand) (q : Running) (bound : Members) (hs : List Heard) (g : Result Made Halt) → h.top ≡ tops.Hearing q bound hs → can_go s.now [] (own_node h) ≡ true → IsSeen l z h → IsListened z q hs g → IsRuled s l z h g
+made-hearing s l z h q bound hs g e p seen listened =
     let some = heard_some z q hs (enabled-hearing s.now h q bound hs e ∙ p) in
-    made s l z h (Live q (Hear bound hs)) some.0 g r (stays h (tops.Hearing q bound hs) e refl) refl (ap (option_map (step_of z)) some.1) seen (listened some.0 some.1)
+    made s l z h (Live q (Hear bound hs)) some.0 g (stays h (tops.Hearing q bound hs) e refl) refl (ap (option_map (step_of z)) some.1) seen (listened some.0 some.1)
 
 -- Next, and Catch or Pass up, of the innermost task
 ends-in : (h : Stand) (x : Top) (f : Frame) → h.top ≡ x → h.around ≡ f ∷ behind h.around → outer x h.around ≡ behind h.around →
@@ -148,12 +139,10 @@ ends-in h x f e a o =
     (λ i. plug (inward (a i)) (top_node (e i))) ∙ plug-append (inward (behind h.around)) (f ∷ []) (top_node x)
     ∙ ap (λ fs. plug (inward fs) (Live f.running (At (round_of f.round) f.place (top_node x)))) (sym (ap (λ y. outer y h.around) e ∙ o))
 
-pub made-moved : {E : Type 0} (s : Site) (l z : Line) (h : Stand) (w : Value) (d : Flow) (f : Frame) (g : Result Made Halt) (r : Result Made E) → h.top ≡ tops.Done w d → h.around ≡ f ∷ behind h.around → IsSeen l z h → Makes (moved_on z f.running (round_of f.round) f.place w d) g → IsRule z g r →
-    IfOk r (λ m. IsStep s l h (stepped_of m))
-made-moved s l z h w d f g r e a =
-    made s l z h (Live f.running (At (round_of f.round) f.place (Done w d))) (moved_on z f.running (round_of f.round) f.place w d) g r (ends-in h (tops.Done w d) f e a refl) refl refl
+pub made-moved : (s : Site) (l z : Line) (h : Stand) (w : Value) (d : Flow) (f : Frame) (g : Result Made Halt) → h.top ≡ tops.Done w d → h.around ≡ f ∷ behind h.around → IsSeen l z h → Makes (moved_on z f.running (round_of f.round) f.place w d) g → IsRuled s l z h g
+made-moved s l z h w d f g e a =
+    made s l z h (Live f.running (At (round_of f.round) f.place (Done w d))) (moved_on z f.running (round_of f.round) f.place w d) g (ends-in h (tops.Done w d) f e a refl) refl refl
 
-pub made-failed : {E : Type 0} (s : Site) (l z : Line) (h : Stand) (q : Problem) (f : Frame) (g : Result Made Halt) (r : Result Made E) → h.top ≡ tops.Fault q → h.around ≡ f ∷ behind h.around → IsSeen l z h → Makes (failed s z f.running (round_of f.round) q) g → IsRule z g r →
-    IfOk r (λ m. IsStep s l h (stepped_of m))
-made-failed s l z h q f g r e a =
-    made s l z h (Live f.running (At (round_of f.round) f.place (Fault q))) (failed s z f.running (round_of f.round) q) g r (ends-in h (tops.Fault q) f e a refl) refl refl
+pub made-failed : (s : Site) (l z : Line) (h : Stand) (q : Problem) (f : Frame) (g : Result Made Halt) → h.top ≡ tops.Fault q → h.around ≡ f ∷ behind h.around → IsSeen l z h → Makes (failed s z f.running (round_of f.round) q) g → IsRuled s l z h g
+made-failed s l z h q f g e a =
+    made s l z h (Live f.running (At (round_of f.round) f.place (Fault q))) (failed s z f.running (round_of f.round) q) g (ends-in h (tops.Fault q) f e a refl) refl refl

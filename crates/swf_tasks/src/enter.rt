@@ -88,14 +88,11 @@ fn asks(task: &TaskRef) -> bool {
     )
 }
 
-/// A task that has not begun takes its step.
-pub fn enter(alloc: Global, scene: &Scene, task: &TaskRef, raw: &Json) -> Result<Made, Halt>
-    ensures { Makes (enter (site_of scene.entry.now) (line_of scene.entry.now) task.now raw.now) result }
+// A task begins, unless its `if` is not true. Its variables are made at most once.
+fn entered<'s>(alloc: Global, scene: &'s Scene<'s>, running: &'s Running) -> Result<Made, Halt>
+    ensures { Makes (guarded (site_of scene.entry.now) (line_of scene.entry.now) running.now (common_of running.now.task).cond) result }
 {
-    let input = input_of(alloc, scene, task, raw)?;
-    let running = Running::new(task.copy()?, raw.copy()?, input);
-    let running = &running;
-    if !asks(task) {
+    if !asks(running.task()) {
         return guarded(&Rule {
             alloc,
             scene,
@@ -110,4 +107,13 @@ pub fn enter(alloc: Global, scene: &Scene, task: &TaskRef, raw: &Json) -> Result
         running,
         vars: Some(&vars),
     })
+}
+
+/// A task that has not begun takes its step.
+pub fn enter(alloc: Global, scene: &Scene, task: &TaskRef, raw: &Json) -> Result<Made, Halt>
+    ensures { Makes (enter (site_of scene.entry.now) (line_of scene.entry.now) task.now raw.now) result }
+{
+    let input = input_of(alloc, scene, task, raw)?;
+    let running = Running::new(task.copy()?, raw.copy()?, input);
+    entered(alloc, scene, &running)
 }

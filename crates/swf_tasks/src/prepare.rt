@@ -23,9 +23,9 @@ impl Machine {
         ensures { IfOk result (IsPrepared site.entry.now site.entry.documents.now.documents strand.now self.now) }
     {
         let Site { now, documents } = site;
-        let site = Site { now, documents };
         let root = self.forest.root();
-        let scene = Scene::of(alloc, &self.setting, self.forest.count() - 1, site)?;
+        let branches = self.forest.count() - 1;
+        let scene = Scene::of(alloc, &self.setting, branches, Site { now, documents })?;
         let Prepared {
             strand,
             strands,

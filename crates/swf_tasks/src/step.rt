@@ -3,15 +3,16 @@ ghost use Rattle.std.specs.Prelude.{◌≡◌, ◌<◌, ◌+◌, ◌-◌, ◌^�
 ghost use Rattle.swf_frames.specs.Tree.{Branch, find};
 ghost use Rattle.swf_document.specs.declared.error.Problem.{Problem as TheProblem};
 ghost use Rattle.swf_meaning.specs.Complete.{Stepped, step_of};
-ghost use Rattle.swf_meaning.specs.Fork.{outputs, put};
+ghost use Rattle.swf_meaning.specs.Fork.{competes, outputs, put};
 ghost use Rattle.swf_meaning.specs.Line.{Line};
 ghost use Rattle.swf_meaning.specs.Strands.{can_go};
+ghost use Rattle.swf_rules.specs.Settles.{MakesSome, ending};
 ghost use Rattle.swf_scene.specs.Halts.{Makes};
 ghost use Rattle.swf_stack.specs.Stands.{frames_of};
 ghost use Rattle.swf_stack.specs.Stack.{seen_in, stepped_of, top_node, used_by};
 ghost use Rattle.swf_scene.specs.Setting.{line_of, site_of};
 ghost use Rattle.swf_stack.specs.declared.made.Stand.{Stand as TheStand};
-ghost use Rattle.swf_tasks.specs.Installed.{IsStep, behind, outer, own_node};
+ghost use Rattle.swf_tasks.specs.Installed.{IsRuled, IsSeen, IsStep, behind, outer, own_node};
 ghost use Rattle.swf_tasks.specs.Stepped.{IsChange, IsChangeOf, IsForkOf, ended_at, ended_in, has_ended, listed, output_of_top, output_on};
 ghost use Rattle.swf_strands.specs.Strands.{IsHeld, node_of, nodes_of};
 
@@ -23,29 +24,30 @@ use swf_chain::Chain;
 use swf_frames::{Forest, StrandId};
 use swf_rules::{Rule, failed, moved_on};
 use swf_scene::{Halt, Scene};
-use swf_stack::{Frame, Made, SentEvent, Stand, Top};
+use swf_stack::{Frame, Made, Running, SentEvent, Stand, Top};
 use swf_strands::{child_of, named, stand_of};
 use swf_text::Strand;
 use swf_value::Json;
 
 /// The step of a strand, told from the one that so many of its branch numbers lead to.
-pub fn step_of(
+pub fn step_of<'s>(
     alloc: Global,
-    forest: &Forest<Stand>,
+    forest: &'s Forest<Stand>,
     above: StrandId,
     strand: &Strand,
     depth: usize,
-    scene: Scene,
+    scene: Scene<'s>,
 ) -> Result<Prepared, AllocError>
     requires held { IsHeld forest.now above }
     requires can { (b : Branch TheStand) → find forest.now.strands above ≡ Some b → can_go scene.site.now (drop depth strand.now) (node_of b) ≡ true }
     ensures { IfOk result (λ p. (b : Branch TheStand) → find forest.now.strands above ≡ Some b → IsChange (site_of scene.entry) (line_of scene.entry) strand.now depth (drop depth strand.now) (node_of b) p) }
 {
     let stand = stand_of(forest, above);
-    let Some(number) = strand.as_slice().get(depth) else {
+    let numbers = strand.as_slice();
+    if depth >= numbers.len() {
         return own_step(alloc, scene, stand, strand, depth);
-    };
-    let number = *number as usize;
+    }
+    let number = numbers[depth] as usize;
     let Some(branch) = child_of(forest, above, number) else {
         unreachable!();
     };
@@ -55,13 +57,13 @@ pub fn step_of(
 }
 
 // The step of a branch, with what becomes of its `fork`. A branch leaves the context as it was.
-fn settle(
+fn settle<'s>(
     alloc: Global,
-    forest: &Forest<Stand>,
+    forest: &'s Forest<Stand>,
     above: StrandId,
     depth: usize,
     number: usize,
-    scene: Scene,
+    scene: Scene<'s>,
     mut prepared: Prepared,
 ) -> Result<Prepared, AllocError>
     requires held { IsHeld forest.now above }
@@ -78,13 +80,7 @@ fn settle(
         unreachable!();
     };
     let outputs = outputs_of(alloc, forest, above, number, ended)?;
-    let rule = Rule {
-        alloc,
-        scene: &scene,
-        running,
-        vars: None,
-    };
-    let given = rule.settled(running.task().competes(), ended, outputs);
+    let given = settled(alloc, &scene, running, ended, outputs);
     let made = match given {
         Ok(None) => return Ok(prepared),
         Ok(Some(made)) => made,
@@ -94,6 +90,25 @@ fn settle(
     prepared.strands = Strands::One { depth, stand };
     prepared.context = made.context;
     Ok(prepared)
+}
+
+// What a `fork` comes to of which a branch has just ended so, and all branches have these outputs.
+fn settled<'s>(
+    alloc: Global,
+    scene: &'s Scene<'s>,
+    running: &'s Running,
+    ended: &Top,
+    all: Option<Json>,
+) -> Result<Option<Made>, Halt>
+    ensures { MakesSome (ending (line_of scene.entry.now) running.now (competes running.now.task) all ended.now) result }
+{
+    let rule = Rule {
+        alloc,
+        scene,
+        running,
+        vars: None,
+    };
+    rule.settled(running.task().competes(), ended, all)
 }
 
 // What the strand ended in that so many branch numbers lead to, where it is the one that is put anew and it ended.
@@ -173,10 +188,10 @@ fn outputs_of(
 }
 
 // What stands innermost on a strand takes its step, to which so many of these branch numbers lead.
-fn own_step(
+fn own_step<'s>(
     alloc: Global,
-    scene: Scene,
-    stand: &Stand,
+    scene: Scene<'s>,
+    stand: &'s Stand,
     strand: &Strand,
     depth: usize,
 ) -> Result<Prepared, AllocError>
@@ -218,13 +233,22 @@ fn outer_of(stand: &Stand) -> &Chain<Frame>
 }
 
 // What the step makes of what stands innermost.
-fn next_of(alloc: Global, scene: Scene, stand: &Stand) -> Result<Made, AllocError>
+fn next_of<'s>(alloc: Global, scene: Scene<'s>, stand: &'s Stand) -> Result<Made, AllocError>
     requires { can_go scene.site.now [] (own_node stand.now) ≡ true }
     ensures { IfOk result (λ m. IsStep (site_of scene.entry) (line_of scene.entry) stand.now (stepped_of m)) }
 {
     let scene = scene.inside(alloc, outer_of(stand))?;
-    let given = match &stand.top {
-        Top::Fresh { task, raw } => enter(alloc, &scene, task, raw),
+    let given = ruled(alloc, &scene, stand);
+    made_of(&scene, given)
+}
+
+// What the rule gives that applies to what stands innermost.
+fn ruled<'s>(alloc: Global, scene: &'s Scene<'s>, stand: &'s Stand) -> Result<Made, Halt>
+    requires { can_go scene.now.site.now [] (own_node stand.now) ≡ true }
+    ensures { (l : Line) → IsSeen l (line_of scene.entry.now) stand.now → IsRuled (site_of scene.entry.now) l (line_of scene.entry.now) stand.now result }
+{
+    match &stand.top {
+        Top::Fresh { task, raw } => enter(alloc, scene, task, raw),
         Top::Waiting {
             running,
             retries,
@@ -232,7 +256,7 @@ fn next_of(alloc: Global, scene: Scene, stand: &Stand) -> Result<Made, AllocErro
         } => {
             let rule = Rule {
                 alloc,
-                scene: &scene,
+                scene,
                 running,
                 vars: None,
             };
@@ -241,17 +265,16 @@ fn next_of(alloc: Global, scene: Scene, stand: &Stand) -> Result<Made, AllocErro
         Top::Hearing { running, heard, .. } => {
             let rule = Rule {
                 alloc,
-                scene: &scene,
+                scene,
                 running,
                 vars: None,
             };
             listened(&rule, heard.as_slice())
         }
         Top::Forked(_) => unreachable!(),
-        Top::Done { output, flow } => moved_on(alloc, &scene, innermost(stand), output, flow),
-        Top::Fault(problem) => failed(alloc, &scene, innermost(stand), problem),
-    };
-    made_of(&scene, given)
+        Top::Done { output, flow } => moved_on(alloc, scene, innermost(stand), output, flow),
+        Top::Fault(problem) => failed(alloc, scene, innermost(stand), problem),
+    }
 }
 
 // The task that runs innermost.

@@ -3,15 +3,18 @@ ghost use Rattle.std.specs.Prelude.{◌≡◌, ◌↔◌, ℕ, Err, IfOk, OnErr,
 ghost use Rattle.swf_meaning.specs.Shared.{advanced};
 ghost use Rattle.swf_meaning.specs.Strands.{can_go};
 ghost use Rattle.swf_meaning.specs.World.{step_at};
-ghost use Rattle.swf_tasks.specs.Prepares.{applied, Fits};
+ghost use Rattle.swf_strands.specs.Alarm.{alarm_of};
+ghost use Rattle.swf_strands.specs.Strands.{IsGrown, root_node};
+ghost use Rattle.swf_tasks.specs.Prepares.{applied, fits, Fits, node_after};
 ghost use Rattle.swf_tasks.specs.Taken.{taken, emitted_of};
 
 use crate::machine::Machine;
 use crate::prepared::{Prepared, Strands};
 use std::alloc::{AllocError, Global};
 use swf_cloudevents::Event;
+use swf_frames::Forest;
 use swf_scene::Site;
-use swf_stack::SentEvent;
+use swf_stack::{SentEvent, Stand};
 use swf_strands::{alarm_in, put_kept};
 use swf_text::Strand;
 use thiserror::Error;
@@ -47,16 +50,7 @@ impl Machine {
             number,
             emitted,
         } = prepared;
-        match strands {
-            Strands::One { depth, stand } => {
-                let changed = &strand.as_slice()[..depth];
-                self.alarm = put_kept(&mut self.forest, changed, stand, self.alarm);
-            }
-            Strands::All(forest) => {
-                self.alarm = alarm_in(&forest, forest.root());
-                self.forest = forest;
-            }
-        }
+        self.alarm = put_strands(&mut self.forest, strand.as_slice(), strands, self.alarm);
         self.setting.context = context;
         self.setting.number = number;
         self.last = strand;
@@ -107,5 +101,29 @@ impl Machine {
             steps += 1;
         }
         Ok(steps)
+    }
+}
+
+// The strands are put anew. Answers the least moment, in milliseconds, that one of them waits for then.
+fn put_strands(
+    forest: &mut Forest<Stand>,
+    strand: &[u16],
+    strands: Strands,
+    alarm: Option<u64>,
+) -> Option<u64>
+    requires grown { IsGrown forest.old.strands }
+    requires fits { fits strands strand.now (root_node forest.old.strands) }
+    requires alarm { alarm ≡ alarm_of (root_node forest.old.strands) }
+    ensures grown { IsGrown forest.new.strands }
+    ensures node { root_node forest.new.strands ≡ node_after strands strand.now (root_node forest.old.strands) }
+    ensures alarm { result ≡ alarm_of (root_node forest.new.strands) }
+{
+    match strands {
+        Strands::One { depth, stand } => put_kept(forest, &strand[..depth], stand, alarm),
+        Strands::All(all) => {
+            let alarm = alarm_in(&all, all.root());
+            *forest = all;
+            alarm
+        }
     }
 }
