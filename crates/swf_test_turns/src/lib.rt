@@ -8,4 +8,4 @@ mod work;
 pub use examples::{
     moment_before_outcome, replies_held_back, three_inputs, two_answers, work_comes_later,
 };
-pub use work::{Done, Job, work_of_a_script};
+pub use work::{Done, Job, take_with_work, work_of_a_script};
