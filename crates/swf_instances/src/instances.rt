@@ -142,7 +142,7 @@ impl Instances {
         ensures instances { self.new.instances ≡ self.old.instances ++ instance ∷ [] }
         ensures moment { self.new.moment ≡ self.old.moment }
     {
-        self.machines.insert(id, instance.into_machine()).unwrap();
+        self.machines.insert(id, instance.into_inner()).unwrap();
         self.queue.add();
         self.alarms.add();
         self.listeners.add(self.alloc);

@@ -8,6 +8,7 @@ ghost use Rattle.swf_instances.specs.Offers.{ids, put_all, put_at, Covers, IsHea
 use crate::instances::Instances;
 use std::alloc::{AllocError, Global};
 use swf_cloudevents::Event;
+use swf_document::Boxed;
 use swf_tasks::{BoxedMachine, Machine};
 use swf_transform::Offer;
 
@@ -82,7 +83,7 @@ impl Instances {
         ensures moment { self.new.moment ≡ self.old.moment }
     {
         for Hearing { number, instance } in heard {
-            self.put(number, instance.into_machine());
+            self.put(number, instance.into_inner());
         }
     }
 
@@ -133,7 +134,7 @@ fn offer_one(
     }
     let mut instance = instance.copy(alloc)?;
     let taken = instance.deliver_event(alloc, offer)?;
-    let instance = BoxedMachine::new(alloc, instance)?;
+    let instance = Boxed::new(alloc, instance)?;
     heard.push(Hearing { number, instance })?;
     Ok(taken)
 }

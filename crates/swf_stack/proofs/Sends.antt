@@ -8,11 +8,11 @@ use Rattle.swf_chain.specs.contracts.chain.Chain as chain
 use Rattle.swf_cloudevents.specs.contracts.named.NamedValues as named
 use Rattle.swf_cloudevents.specs.contracts.event.Payload as payload
 use Rattle.swf_cloudevents.specs.contracts.event.Event as event
+use Rattle.swf_document.specs.contracts.boxed.Boxed as boxed
 use Rattle.swf_meaning.specs.contracts.heard.Heard as heard
-use Rattle.swf_document.proofs.Sent.{text_send, text_sync, json_send, json_sync, flow_inside_send, flow_inside_sync, listing_send, listing_sync, problem_inside_send, problem_inside_sync}
+use Rattle.swf_document.proofs.Sent.{text_send, text_sync, json_send, json_sync, boxed_send, boxed_sync, flow_inside_send, flow_inside_sync, listing_send, listing_sync, problem_inside_send, problem_inside_sync}
 use Rattle.swf_catalog.proofs.TaskSends.{task_send, task_sync, round_inside_send, round_inside_sync}
 use Rattle.swf_stack.specs.contracts.running.Running as running
-use Rattle.swf_stack.specs.contracts.sent.SentEvent as sent
 use Rattle.swf_stack.specs.contracts.made.Frame as frame
 use Rattle.swf_stack.specs.contracts.made.Top as top
 use Rattle.swf_stack.specs.contracts.made.Stand as stand
@@ -64,11 +64,11 @@ running_send = search (sendable, task_send, json_send) depth 20
 pub running_sync : IsSync running.the_row
 running_sync = search (sendable, task_sync, json_sync) depth 20
 
-pub sent_send : IsSend sent.the_row
-sent_send = search (sendable, crosses, event_send) depth 20
+pub sent_send : IsSend (boxed.the_row event.the_row)
+sent_send = boxed_send event.the_row event_send
 
-pub sent_sync : IsSync sent.the_row
-sent_sync = search (sendable, crosses, event_sync) depth 20
+pub sent_sync : IsSync (boxed.the_row event.the_row)
+sent_sync = boxed_sync event.the_row event_sync
 
 pub frame_inside_send : IsSend (frame.the_field).row
 frame_inside_send = search (sendable, running_send, round_inside_send) depth 20

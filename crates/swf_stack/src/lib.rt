@@ -5,10 +5,8 @@ mod crossing;
 mod heard;
 mod made;
 mod running;
-mod sent;
 
 pub use crossing::stand_crosses;
 pub use heard::{events_of, is_heard, takes};
-pub use made::{Frame, Made, Stand, Top};
+pub use made::{Frame, Made, SentEvent, Stand, Top};
 pub use running::Running;
-pub use sent::SentEvent;

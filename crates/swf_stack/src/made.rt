@@ -2,12 +2,11 @@
 ghost use Rattle.std.specs.Prelude.{◌≡◌, ◌<◌, ◌-◌, ◌^◌, ◌++◌, [], IfOk, option_to_list};
 
 use crate::running::Running;
-use crate::sent::SentEvent;
 use std::alloc::{AllocError, Global};
 use swf_catalog::{Round, TaskRef};
 use swf_chain::Chain;
-use swf_cloudevents::NamedValues;
-use swf_document::{Flow, Listing, Problem};
+use swf_cloudevents::{Event, NamedValues};
+use swf_document::{Boxed, Flow, Listing, Problem};
 use swf_frames::CopyFrame;
 use swf_meaning::Heard;
 use swf_value::Json;
@@ -55,6 +54,9 @@ pub struct Stand {
     pub around: Chain<Frame>,
     pub top: Top,
 }
+
+/// An event that goes out, behind a box, since most steps send none.
+pub type SentEvent = Boxed<Event>;
 
 /// What a step makes of the task that takes it: the task with what runs in it, or what it ended in; the context; and the event
 /// that goes out, where one does.

@@ -2,7 +2,6 @@
 #![tactic(auto)]
 
 mod ask;
-mod boxed;
 mod enter;
 mod hear;
 mod machine;
@@ -13,8 +12,7 @@ mod step;
 mod take;
 mod view;
 
-pub use boxed::BoxedMachine;
-pub use machine::Machine;
+pub use machine::{BoxedMachine, Machine};
 pub use prepared::{Prepared, Strands};
 pub use swf_scene::Site;
 pub use swf_stack::SentEvent;

@@ -8,7 +8,7 @@ use crate::view::{InstanceView, Node};
 use std::alloc::{AllocError, Global};
 use std::marker::Model;
 use swf_catalog::{SharedDocument, TaskRef};
-use swf_document::Problem;
+use swf_document::{Boxed, Problem};
 use swf_duration::Moment;
 use swf_frames::Forest;
 use swf_scene::Setting;
@@ -29,6 +29,9 @@ pub struct Machine {
     /// The least moment that a strand waits for, in milliseconds.
     pub(crate) alarm: Option<u64>,
 }
+
+/// An instance behind a box, since most steps put only a part of one anew.
+pub type BoxedMachine = Boxed<Machine>;
 
 impl Model for Machine {
     ghost use Rattle.swf_meaning.specs.World.{Instance};

@@ -54,7 +54,7 @@ impl Machine {
         let Some(sent) = &prepared.emitted else {
             return Ok(prepared);
         };
-        let offer = Offer::new(alloc, sent.event())?;
+        let offer = Offer::new(alloc, sent.get())?;
         let Prepared {
             strand,
             strands,

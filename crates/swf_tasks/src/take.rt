@@ -77,7 +77,7 @@ impl Machine {
         };
         match self.take(prepared) {
             None => Ok(StepResult::Quiet),
-            Some(event) => Ok(StepResult::Emitted(event.into_event())),
+            Some(event) => Ok(StepResult::Emitted(event.into_inner())),
         }
     }
 

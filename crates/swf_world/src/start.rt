@@ -15,7 +15,7 @@ use crate::refusal::{PrepareFault, Refusal};
 use crate::world::World;
 use std::alloc::{AllocError, Global};
 use swf_catalog::SharedDocument;
-use swf_document::DocKey;
+use swf_document::{Boxed, DocKey};
 use swf_duration::Moment;
 use swf_meaning::Key;
 use swf_registry::Sought;
@@ -98,5 +98,5 @@ fn begun(
 {
     let (document, input) = (document.copy()?, input.copy()?);
     let machine = Machine::begin(alloc, id.copy()?, document, input, now)?;
-    BoxedMachine::new(alloc, machine)
+    Boxed::new(alloc, machine)
 }

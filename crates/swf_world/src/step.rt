@@ -91,7 +91,7 @@ fn heard_by(
     ensures { IfOk result (λ hs. IsSent number emitted.now instances.now.instances hs.items) }
 {
     match emitted {
-        Some(sent) => Ok(instances.offer(alloc, sent.event(), number)?.heard),
+        Some(sent) => Ok(instances.offer(alloc, sent.get(), number)?.heard),
         None => Ok(Vec::new(alloc)),
     }
 }
@@ -102,6 +102,6 @@ fn put_out(outbox: &mut Vec<Event>, emitted: Option<SentEvent>)
     ensures { outbox.new.items ≡ outbox.old.items ++ option_to_list emitted }
 {
     if let Some(event) = emitted {
-        outbox.push(event.into_event()).unwrap();
+        outbox.push(event.into_inner()).unwrap();
     }
 }

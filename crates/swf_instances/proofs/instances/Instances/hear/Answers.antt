@@ -19,7 +19,7 @@ pub put-requires : goal.put-requires
 put-requires c =
     let is = c.loop-number.self.instances in
     let from = subst (AllByRecursion (IsHeardFrom is)) c.in-Some.ensures.steps.0 c.loop-number.invariant.from in
-    from.0 ∙ ap (λ j. Some j.id) (sym c.into_machine.ensures)
+    from.0 ∙ ap (λ j. Some j.id) (sym c.into_inner.ensures)
 
 pub loop-number-preserved : goal.loop-number-preserved
 loop-number-preserved c =
@@ -27,7 +27,7 @@ loop-number-preserved c =
     let hs = c.next.new.self.rest.items in
     let n = c.in-Some.field-0.number in
     let j = c.in-Some.field-0.instance in
-    let put : c.put.new.self.instances ≡ put_at n j is = c.put.ensures.instances ∙ ap (λ j. put_at n j is) c.into_machine.ensures in
+    let put : c.put.new.self.instances ≡ put_at n j is = c.put.ensures.instances ∙ ap (λ j. put_at n j is) c.into_inner.ensures in
     let from = subst (AllByRecursion (IsHeardFrom is)) c.in-Some.ensures.steps.0 c.loop-number.invariant.from in
     let same : ids is ≡ ids c.put.new.self.instances = sym (ap ids put ∙ ids_put is n j from.0) in
     record {
