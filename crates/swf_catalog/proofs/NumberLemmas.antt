@@ -1,7 +1,7 @@
 -- How many rows there are, and where they stand.
-use Rattle.std.proofs.Common.{◌≡◌, ◌∙◌, ℕ, zero, suc, ◌+◌, ◌<◌, ◌≤◌, true, List, [], ◌∷◌, ◌++◌, length, get_or, drop, refl, ap, sym, arith, append_assoc, length-append}
+use Rattle.std.proofs.Common.{◌≡◌, ◌∙◌, ℕ, zero, suc, ◌+◌, ◌<◌, true, List, [], ◌∷◌, ◌++◌, length, drop, refl, ap, sym, arith, append_assoc, length-append}
 use Rattle.std.specs.Prelude.{is_some}
-use Rattle.swf_document.specs.Task.{Task, task, Tasks, no_tasks, named, Kind, call, do_all, emit, for, fork, listen, raise, run, set, switch, try, wait, Handler, no_handler, handler, weight_task, weight_tasks}
+use Rattle.swf_document.specs.Task.{Task, task, Tasks, no_tasks, named, Kind, call, do_all, emit, for, fork, listen, raise, run, set, switch, try, wait, Handler, no_handler, handler}
 use Rattle.swf_document.specs.TaskNode.{task_of, tasks_of}
 use Rattle.swf_document.specs.declared.tasks.Named.{Named}
 use Rattle.swf_meaning.specs.Next.{task_at}
@@ -9,12 +9,6 @@ use Rattle.swf_catalog.specs.Numbers.{Entry, all, begin, begins, begins_of, behi
 use Rattle.swf_catalog.specs.Rows.{entries_of}
 use Rattle.swf_catalog.specs.declared.row.Begins.{Begins}
 use Rattle.swf_catalog.specs.declared.row.Row.{Row}
-
--- a task in a list weighs no more than all of it
-pub weight_named : (ns : List Named) (i : ℕ) (n : Named) → i < length ns → n ≡ get_or ns i n → weight_task (task_of n.task) ≤ weight_tasks (tasks_of ns)
-weight_named [] i n h p = absurd (omega arith)
-weight_named (x ∷ xs) zero n h p = omega (arith, ap (λ m. weight_task (task_of m.task)) p)
-weight_named (x ∷ xs) (suc i) n h p = omega (arith, weight_named xs i n (omega arith) p)
 
 -- a list has a task at each of its places
 pub count-some : (ts : Tasks) (i : ℕ) → i < count ts → is_some (task_at ts i) ≡ true

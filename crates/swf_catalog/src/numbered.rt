@@ -110,7 +110,7 @@ impl NumberedDocument {
         }
     }
 
-    // The number of a task of a list that begins at a number.
+    // The number of a task of a list that begins at a number. There are fewer rows than a number can count, so the sum fits.
     fn number_at(&self, begin: usize, place: usize) -> usize
         requires { is_some (numbered self.now (begin + place)) ≡ true }
         ensures { result ≡ begin + place }

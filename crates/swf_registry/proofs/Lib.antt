@@ -1,2 +1,1 @@
-pub mod BuiltLemmas
 pub mod Lookups

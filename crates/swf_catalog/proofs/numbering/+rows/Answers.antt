@@ -3,7 +3,8 @@ use Rattle.swf_value.proofs.Writing.{first_of_rest}
 use Rattle.swf_document.specs.TaskNode.{handler_of, tasks_of}
 use Rattle.swf_catalog.specs.Numbers.{all, begin, behind, count, handler_begin, inside_handler}
 use Rattle.swf_catalog.specs.Rows.{entries_of}
-use Rattle.swf_catalog.proofs.NumberLemmas.{length-begins_of, more-begins, more-inside, next-all, next-own, weight_named}
+use Rattle.swf_catalog.proofs.NumberLemmas.{length-begins_of, more-begins, more-inside, next-all, next-own}
+use Rattle.swf_document.proofs.Weights.{weight_named}
 use Rattle.swf_catalog.proofs.numbering.+rows.Goals as goal
 
 pub add_inside-add_kind-requires : goal.add_inside-add_kind-requires
