@@ -4,3 +4,4 @@ pub mod ChangeLemmas
 pub mod OutputLemmas
 pub mod PrepareLemmas
 pub mod AdvanceLemmas
+pub mod MachineSends

@@ -2,6 +2,7 @@
 #![tactic(auto)]
 
 mod ask;
+mod crossing;
 mod enter;
 mod hear;
 mod machine;
@@ -12,6 +13,7 @@ mod step;
 mod take;
 mod view;
 
+pub use crossing::machine_crosses;
 pub use machine::{BoxedMachine, Machine};
 pub use prepared::{Prepared, Strands};
 pub use swf_scene::Site;
