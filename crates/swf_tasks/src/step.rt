@@ -1,8 +1,6 @@
 // What a step of a strand leads to, and what becomes of the forks that it ends.
 ghost use Rattle.std.specs.Prelude.{◌≡◌, ◌<◌, ◌+◌, ◌-◌, ◌^◌, ◌∷◌, [], ℕ, List, IfOk, Result, Some, drop, option_map, true};
 ghost use Rattle.swf_frames.specs.Tree.{Branch, find};
-ghost use Rattle.swf_document.specs.declared.error.Problem.{Problem as TheProblem};
-ghost use Rattle.swf_meaning.specs.Complete.{Stepped, step_of};
 ghost use Rattle.swf_meaning.specs.Fork.{competes, outputs, put};
 ghost use Rattle.swf_meaning.specs.Line.{Line};
 ghost use Rattle.swf_meaning.specs.Strands.{can_go};
@@ -84,7 +82,7 @@ fn settle<'s>(
     let made = match given {
         Ok(None) => return Ok(prepared),
         Ok(Some(made)) => made,
-        Err(halt) => made_of(&scene, Err(halt))?,
+        Err(halt) => swf_rules::step_of(&scene, Err(halt))?,
     };
     let stand = Stand::inside(alloc, around, made.frame, made.top)?;
     prepared.strands = Strands::One { depth, stand };
@@ -239,7 +237,7 @@ fn next_of<'s>(alloc: Global, scene: Scene<'s>, stand: &'s Stand) -> Result<Made
 {
     let scene = scene.inside(alloc, outer_of(stand))?;
     let given = ruled(alloc, &scene, stand);
-    made_of(&scene, given)
+    swf_rules::step_of(&scene, given)
 }
 
 // What the rule gives that applies to what stands innermost.
@@ -286,20 +284,4 @@ fn innermost(stand: &Stand) -> &Frame
         unreachable!();
     };
     frame
-}
-
-// What a rule gives, an error included.
-fn made_of(scene: &Scene, given: Result<Made, Halt>) -> Result<Made, AllocError>
-    ensures { IfOk result (λ m. (g : Result Stepped TheProblem) → Makes g given → stepped_of m ≡ step_of (line_of scene.entry.now) g) }
-{
-    match given {
-        Ok(made) => Ok(made),
-        Err(Halt::Fault(problem)) => Ok(Made {
-            frame: None,
-            top: Top::Fault(problem),
-            context: scene.context.copy()?,
-            emitted: None,
-        }),
-        Err(Halt::OutOfMemory) => Err(AllocError),
-    }
 }
