@@ -1,11 +1,12 @@
 -- What is noted of what instances listen for, and of which it is not.
-use Rattle.std.proofs.Common.{◌≡◌, ◌∙◌, ap, sym, refl, ℕ, zero, suc, ◌+◌, ◌<◌, ◌==◌, ◌||◌, inl, inr, List, [], ◌∷◌, ◌++◌, length, drop, true, false, Some, slice_get, arith, length-append}
+use Rattle.std.proofs.Common.{◌≡◌, ◌∙◌, ap, sym, refl, subst, Bool, ℕ, zero, suc, ◌+◌, ◌<◌, ◌==◌, ◌||◌, inl, inr, List, [], ◌∷◌, ◌++◌, length, drop, true, false, Some, slice_get, arith, length-append}
 use Rattle.std.specs.Prelude.{slice_set}
 use Rattle.std.proofs.lemmas.Bool.{cases_eq, eq-eqb, ne_eqb, or_parts, or_from}
 use Rattle.std.proofs.lemmas.List.Folds.{list_any-append}
 use Rattle.std.proofs.lemmas.Option.{same_Some}
 use Rattle.swf_listeners.specs.Listeners.{wanted_by}
 use Rattle.swf_listeners.specs.Wanted.{Wanted, nothing, wanted_of}
+use Rattle.swf_listeners.proofs.WantedLemmas.{wants_nothing}
 use Rattle.swf_meaning.specs.World.{Instance}
 use Rattle.swf_offers.specs.EventTypes.{event_types}
 use Rattle.swf_queue.specs.Queue.{Queue, is_among}
@@ -31,6 +32,32 @@ noted_stale is wanted stale next n j l among count = record {
       let other : m ≡ n → ⊥ = λ e. let f : true ≡ false = sym (eq-eqb m n e) ∙ p.1 in cc in
       l.noted m i (sym (others_put n m j is other) ∙ at) p.0;
 }
+
+own_put : (n : ℕ) (j k : Instance) (is : List Instance) → slice_get (put_at n j is) n ≡ Some k → k ≡ j
+own_put n j k [] at = cc
+own_put zero j k (i ∷ is) at = sym (same_Some j k at)
+own_put (suc n) j k (i ∷ is) at = own_put n j k is at
+
+-- one that wanted nothing, and listens for nothing after its step, is noted as it was
+noted_same : (is : List Instance) (wanted : List Wanted) (stale : Queue) (n : ℕ) (i j : Instance) → Listening is wanted stale → slice_get is n ≡ Some i → wanted_by wanted n ≡ nothing → (event_types i.node ≡ [] → event_types j.node ≡ []) → Listening (put_at n j is) wanted stale
+noted_same is wanted stale n i j l there none after = record {
+  many = l.many ∙ sym (length_put is n j);
+  count = l.count ∙ sym (length_put is n j);
+  noted = λ m k at gone. elim (cases_eq m n) [
+    | inl e ↦
+        let own : k ≡ j = own_put n j k is (ap (slice_get (put_at n j is)) (sym e) ∙ at) in
+        let before : event_types i.node ≡ [] = wants_nothing (event_types i.node) (sym (l.noted n i there (ap (λ x. is_among x stale.numbers) (sym e) ∙ gone)) ∙ none) in
+        ap (wanted_by wanted) e ∙ none ∙ sym (ap (λ (x : Instance). wanted_of (event_types x.node)) own ∙ ap wanted_of (after before))
+    | inr other ↦ l.noted m k (sym (others_put n m j is other) ∙ at) gone
+  ];
+}
+
+-- one that takes a step is noted anew, unless it wanted nothing and goes on to
+pub noted_later : (is : List Instance) (wanted : List Wanted) (stale next : Queue) (n : ℕ) (i j : Instance) (may_change : Bool) → Listening is wanted stale → slice_get is n ≡ Some i → next.count ≡ stale.count →
+    (may_change ≡ true → (m : ℕ) → is_among m next.numbers ≡ (is_among m stale.numbers || (m == n))) → (may_change ≡ false → next ≡ stale) → (may_change ≡ false → wanted_by wanted n ≡ nothing) →
+    (may_change ≡ false → event_types i.node ≡ [] → event_types j.node ≡ []) → Listening (put_at n j is) wanted next
+noted_later is wanted stale next n i j true l there count among same none after = noted_stale is wanted stale next n j l (among refl) count
+noted_later is wanted stale next n i j false l there count among same none after = subst (Listening (put_at n j is) wanted) (sym (same refl)) (noted_same is wanted stale n i j l there (none refl) (after refl))
 
 set_own : (ws : List Wanted) (n : ℕ) (w : Wanted) → n < length ws → wanted_by (slice_set ws n w) n ≡ w
 set_own [] n w e = absurd (omega arith)

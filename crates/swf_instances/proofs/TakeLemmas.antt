@@ -18,7 +18,7 @@ use Rattle.std.proofs.lemmas.List.{map-append}
 use Rattle.swf_meaning.specs.Wake.{waits}
 use Rattle.swf_instances.specs.Waits.{alarms_of}
 use Rattle.swf_instances.proofs.QueuedLemmas.{queued_put, queued_pushed, length_put}
-use Rattle.swf_instances.proofs.NoteLemmas.{noted_pushed, noted_stale}
+use Rattle.swf_instances.proofs.NoteLemmas.{noted_pushed}
 use Rattle.swf_listeners.specs.Wanted.{Wanted, nothing}
 use Rattle.swf_instances.proofs.WaitLemmas.{alarms_put, alarms_pushed}
 use Rattle.swf_strands.specs.Alarm.{alarm_of}
@@ -80,8 +80,8 @@ fits_there es n p is i e f there = subst (Fits p) (same_Some f.0 i (sym f.1 ∙ 
 -- with another instance of the same id in a place, which joins the queue, all goes on to agree
 pub kept_put : (es : List (List ℕ × Instance)) (now n : ℕ) (queue next : Queue) (alarms : List (Option ℕ)) (wanted : List Wanted) (stale fresh : Queue) (j : Instance) → Kept es now queue alarms wanted stale →
     slice_get (ids (instances_in es)) n ≡ Some j.id → ((m : ℕ) → is_among m next.numbers ≡ (is_among m queue.numbers || (m == n))) → next.count ≡ queue.count →
-    ((m : ℕ) → is_among m fresh.numbers ≡ (is_among m stale.numbers || (m == n))) → fresh.count ≡ stale.count → Kept (set_value_at es n j) now next (slice_set alarms n (alarm_of j.node)) wanted fresh
-kept_put es now n queue next alarms wanted stale fresh j kept own among count among_stale count_stale =
+    Listening (put_at n j (instances_in es)) wanted fresh → Kept (set_value_at es n j) now next (slice_set alarms n (alarm_of j.node)) wanted fresh
+kept_put es now n queue next alarms wanted stale fresh j kept own among count listening =
     let is = instances_in es in
     let put : instances_in (set_value_at es n j) ≡ put_at n j is = set_put es n j in
     record {
@@ -91,7 +91,7 @@ kept_put es now n queue next alarms wanted stale fresh j kept own among count am
         count = count ∙ kept.waiting.count ∙ sym (length_put is n j) ∙ sym (ap length put);
         own = ap (λ os. slice_set os n (alarm_of j.node)) kept.waiting.own ∙ alarms_put is n j ∙ sym (ap alarms_of put);
       };
-      listening = subst (λ xs. Listening xs wanted fresh) (sym put) (noted_stale is wanted stale fresh n j kept.listening among_stale count_stale);
+      listening = subst (λ xs. Listening xs wanted fresh) (sym put) listening;
     }
 
 -- those with one more, which does not wait, agree with the queue and the alarms

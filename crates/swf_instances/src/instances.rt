@@ -6,7 +6,7 @@ ghost use Rattle.swf_meaning.specs.Answer.{instance_at};
 ghost use Rattle.swf_meaning.specs.Wake.{is_due, waits};
 ghost use Rattle.swf_instances.specs.Takes.{FitsAt, take_at};
 
-use crate::listening::note_all;
+use crate::listening::{may_change, note_all, note_later};
 use indexmap::IndexMap;
 use std::alloc::{AllocError, Global};
 use std::marker::Model;
@@ -158,7 +158,8 @@ impl Instances {
         ensures emitted { result ≡ prepared.emitted }
     {
         self.queue.put(number);
-        self.stale.put(number);
+        let may_change = may_change(&self.listeners, number, &prepared);
+        note_later(&mut self.stale, number, may_change);
         let instance = &mut self.machines[number];
         let emitted = instance.take(prepared);
         self.alarms.set(number, instance.alarm());

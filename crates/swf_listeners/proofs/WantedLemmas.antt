@@ -10,7 +10,7 @@ use Rattle.std.specs.Prelude.{fold}
 use Rattle.std.specs.declared.cmp.Ordering.{Ordering}
 use Rattle.std.specs.declared.cmp.Ordering.TheVariants.{Less, Equal, Greater}
 use Rattle.swf_text.specs.Same.{same}
-use Rattle.swf_text.proofs.SameLemmas.{same_true}
+use Rattle.swf_text.proofs.SameLemmas.{same_refl, same_true}
 use Rattle.swf_listeners.specs.Listeners.{numbers_where, wanted_by, who}
 use Rattle.swf_listeners.specs.Wanted.{Wanted, nothing, with_listen, wanted_of, has, wants}
 
@@ -67,6 +67,12 @@ wants_of t listens = from nothing listens ∙ none (list_any (hears t) listens)
     from : (w : Wanted) (listens : List (Option (List ℕ))) → wants t (fold with_listen w listens) ≡ (list_any (hears t) listens || wants t w)
     from w [] = refl
     from w (x ∷ listens) = from (with_listen w x) listens ∙ ap (λ b. list_any (hears t) listens || b) (wants_more t w x) ∙ turned (list_any (hears t) listens) (hears t x) (wants t w)
+
+-- who wants nothing has no listen
+pub wants_nothing : (listens : List (Option (List ℕ))) → wanted_of listens ≡ nothing → listens ≡ []
+wants_nothing [] e = refl
+wants_nothing (None ∷ listens) e = let f : true ≡ false = sym (wants_of [] (None ∷ listens)) ∙ ap (wants []) e in cc
+wants_nothing (Some t ∷ listens) e = let f : true ≡ false = sym (wants_of t (Some t ∷ listens) ∙ ap (λ b. b || list_any (hears t) listens) (same_refl t)) ∙ ap (wants t) e in cc
 
 -- the numbers that pass are those below the bound at which the test does
 pub among_where : (test : ℕ → Bool) (n bound : ℕ) → list_any (λ m. n == m) (numbers_where test bound) ≡ (nat_lt n bound && test n)

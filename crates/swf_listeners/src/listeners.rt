@@ -1,8 +1,8 @@
 // Who may take an event.
-ghost use Rattle.std.specs.Prelude.{◌≡◌, ◌≤◌, ◌<◌, ◌+◌, ◌++◌, ◌∷◌, ◌||◌, ℕ, List, [], true, false, length, slice_index_or, slice_set, OnOk, IfOk};
+ghost use Rattle.std.specs.Prelude.{◌≡◌, ◌↔◌, IsTrue, ◌≤◌, ◌<◌, ◌+◌, ◌++◌, ◌∷◌, ◌||◌, ℕ, List, [], true, false, length, slice_index_or, slice_set, OnOk, IfOk};
 ghost use Rattle.std.specs.Option.{option_map_or};
 ghost use Rattle.swf_listeners.specs.Wanted.{nothing};
-ghost use Rattle.swf_listeners.specs.Listeners.{Fits, numbers_where, places_of, who};
+ghost use Rattle.swf_listeners.specs.Listeners.{Fits, numbers_where, places_of, wanted_by, who};
 
 use crate::marks::Marks;
 use crate::wanted::Wanted;
@@ -101,6 +101,14 @@ impl Listeners {
         self.marks.mark_all(&wanted.types, number, true);
         self.any[number] = wanted.any;
         self.wanted[number] = wanted;
+    }
+
+    /// Whether the instance of a number wants nothing.
+    pub fn wants_nothing(&self, number: usize) -> bool
+        requires { number < length self.now.wanted }
+        ensures { IsTrue result ↔ (wanted_by self.now.wanted number ≡ nothing) }
+    {
+        self.wanted[number].is_nothing()
     }
 
     /// The numbers of those that may take an event of a type, in ascending order.

@@ -1,5 +1,5 @@
 // What an instance listens for.
-ghost use Rattle.std.specs.Prelude.{◌≡◌, IfOk, OnOk, true};
+ghost use Rattle.std.specs.Prelude.{◌≡◌, ◌↔◌, IsTrue, IfOk, OnOk, true};
 ghost use Rattle.swf_listeners.specs.Wanted.{nothing, wanted_of, with_listen};
 
 use std::alloc::{AllocError, Global};
@@ -44,6 +44,13 @@ impl Wanted {
             wanted.want(listen)?;
         }
         Ok(wanted)
+    }
+
+    /// Whether it is nothing.
+    pub(crate) fn is_nothing(&self) -> bool
+        ensures { IsTrue result ↔ (self.now ≡ nothing) }
+    {
+        !self.any && self.types.is_empty()
     }
 
     // One listen more.

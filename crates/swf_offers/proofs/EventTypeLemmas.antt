@@ -6,7 +6,7 @@ use Rattle.std.specs.Prelude.{flat_map}
 use Rattle.swf_value.specs.Value.{Members}
 use Rattle.swf_frames.specs.Tree.{Tree, Branch, find}
 use Rattle.swf_frames.specs.Paths.{nth}
-use Rattle.swf_meaning.specs.Node.{Node, Fresh, Live, Done, Fault, At, Hear, Forked, Nodes, no_nodes, branch, Round, Running}
+use Rattle.swf_meaning.specs.Node.{Node, Fresh, Live, Done, Fault, Inside, At, Later, Sleep, Hear, Forked, Nodes, no_nodes, branch, Round, Running}
 use Rattle.swf_meaning.specs.Strands.{in_branch, tops, tops_from}
 use Rattle.swf_meaning.specs.declared.heard.Heard.{Heard}
 use Rattle.swf_catalog.specs.Rounds.{round_of}
@@ -16,6 +16,7 @@ use Rattle.swf_stack.specs.declared.made.Frame.{Frame}
 use Rattle.swf_stack.specs.declared.made.Stand.{Stand}
 use Rattle.swf_stack.specs.declared.made.Top.{Top}
 use Rattle.swf_strands.specs.Strands.{nodes_of, node_of, is_fork, IsGrownAt, IsHeld}
+use Rattle.swf_strands.specs.Ways.{replaced, replaced_inside, replaced_among}
 use Rattle.swf_strands.proofs.AskLemmas.{nodes_from, from-child, from-end}
 use Rattle.swf_strands.proofs.TreeLemmas.{fork-node, plain-node, held-is, IsChild}
 use Rattle.swf_offers.specs.EventTypes.{event_types, types_left, types_top}
@@ -29,7 +30,7 @@ types-at r round i (Live q k) = refl
 types-at r round i (Done w f) = refl
 types-at r round i (Fault p) = refl
 
-types-plug : (fs : List Frame) (n : Node) → event_types (plug fs n) ≡ event_types n
+pub types-plug : (fs : List Frame) (n : Node) → event_types (plug fs n) ≡ event_types n
 types-plug [] n = refl
 types-plug (f ∷ fs) n = types-at f.running (round_of f.round) f.place (plug fs n) ∙ types-plug fs n
 
@@ -101,3 +102,34 @@ typed-more t n i c old new more child are of b f =
 pub typed-all : (t : Tree Stand) (n i : ℕ) (old new : List (Option (List ℕ))) → ((b : Branch Stand) → find t.strands n ≡ Some b → nth b.below i ≡ None) → AreTyped t n old i new → (b : Branch Stand) → find t.strands n ≡ Some b → new ≡ old ++ event_types (node_of b)
 typed-all t n i old new none are b f =
     sym (append-nil new) ∙ ap (λ ns. new ++ event_types_among ns) (sym (from-end b i (none b f))) ∙ are b f
+
+-- ---- where no strand listens for anything
+
+none-both : (xs ys : List (Option (List ℕ))) → xs ++ ys ≡ [] → (xs ≡ []) × (ys ≡ [])
+none-both [] ys e = (refl, e)
+none-both (x ∷ xs) ys e = cc
+
+-- a strand that is put anew and does not listen brings nothing
+mutual
+  pub none-replaced : (bs : List ℕ) (m n : Node) → event_types m ≡ [] → event_types n ≡ [] → event_types (replaced bs m n) ≡ []
+  none-replaced [] m n own all = own
+  none-replaced (b ∷ bs) m (Fresh t v) own all = all
+  none-replaced (b ∷ bs) m (Live r k) own all = none-inside b bs m r k own all
+  none-replaced (b ∷ bs) m (Done w f) own all = all
+  none-replaced (b ∷ bs) m (Fault p) own all = all
+
+  none-inside : (b : ℕ) (bs : List ℕ) (m : Node) (r : Running) (k : Inside) → event_types m ≡ [] → event_types (Live r k) ≡ [] → event_types (Live r (replaced_inside b bs m k)) ≡ []
+  none-inside b bs m r (At round i n) own all = types-at r round i (replaced (b ∷ bs) m n) ∙ none-replaced (b ∷ bs) m n own (sym (types-at r round i n) ∙ all)
+  none-inside b bs m r (Later n until) own all = all
+  none-inside b bs m r (Sleep until) own all = all
+  none-inside b bs m r (Hear bound hs) own all = all
+  none-inside b bs m r (Forked ns) own all = none-among b bs m ns own all
+
+  none-among : (b : ℕ) (bs : List ℕ) (m : Node) (ns : Nodes) → event_types m ≡ [] → event_types_among ns ≡ [] → event_types_among (replaced_among b bs m ns) ≡ []
+  none-among b bs m no_nodes own all = all
+  none-among zero bs m (branch n ns) own all =
+      let both = none-both (event_types n) (event_types_among ns) (sym (event_types_among-branch n ns) ∙ all) in
+      event_types_among-branch (replaced bs m n) ns ∙ ap (λ xs. xs ++ event_types_among ns) (none-replaced bs m n own both.0) ∙ both.1
+  none-among (suc b) bs m (branch n ns) own all =
+      let both = none-both (event_types n) (event_types_among ns) (sym (event_types_among-branch n ns) ∙ all) in
+      event_types_among-branch n (replaced_among b bs m ns) ∙ ap (λ xs. xs ++ event_types_among (replaced_among b bs m ns)) both.0 ∙ none-among b bs m ns own both.1

@@ -5,3 +5,4 @@ pub mod OutputLemmas
 pub mod PrepareLemmas
 pub mod AdvanceLemmas
 pub mod MachineSends
+pub mod ListenLemmas

@@ -1,8 +1,10 @@
 -- A step that was prepared, and what it makes of the instance.
-use Rattle.std.specs.Prelude.{◌≡◌, ◌≤◌, ℕ, List, true, length, take, Some, option_map}
+use Rattle.std.specs.Prelude.{◌≡◌, ◌≤◌, ℕ, List, Bool, true, false, length, take, Some, option_map}
 use Rattle.swf_meaning.specs.Documents.{Loaded}
 use Rattle.swf_meaning.specs.Node.{Node}
 use Rattle.swf_meaning.specs.World.{Instance, step_at}
+use Rattle.swf_stack.specs.declared.made.Top.{Top}
+use Rattle.swf_stack.specs.declared.made.Top.TheVariants as tops
 use Rattle.swf_strands.specs.Forks.{stand_node}
 use Rattle.swf_strands.specs.Strands.{IsGrown, made_stand, root_node}
 use Rattle.swf_strands.specs.Ways.{has_strand, replaced}
@@ -23,6 +25,20 @@ begun_after (strands.All f) bs n = root_node f.strands
 
 abbrev pub applied : Prepared → Instance → Instance
 applied p i = record i { node = node_after p.strands p.strand i.node; context = p.context; number = p.number }
+
+-- a task that listens stands innermost
+abbrev pub listens : Top → Bool
+listens (tops.Fresh t v) = false
+listens (tops.Done w f) = false
+listens (tops.Fault p) = false
+listens (tops.Waiting r n until) = false
+listens (tops.Hearing r bound hs) = true
+listens (tops.Forked r) = false
+
+-- a strand may listen that is put anew
+abbrev pub may_listen : Strands → Bool
+may_listen (strands.One d h) = listens h.top
+may_listen (strands.All f) = true
 
 -- the tree has the strand that is put anew
 abbrev pub fits : Strands → List ℕ → Node → Type 0

@@ -1,6 +1,9 @@
 // A step that was prepared.
+ghost use Rattle.std.specs.Prelude.{◌≡◌};
+ghost use Rattle.swf_tasks.specs.Prepares.{listens, may_listen};
+
 use swf_frames::Forest;
-use swf_stack::{SentEvent, Stand};
+use swf_stack::{SentEvent, Stand, Top};
 use swf_text::Strand;
 use swf_value::Json;
 
@@ -24,4 +27,26 @@ pub enum Strands {
     One { depth: usize, stand: Stand },
     /// These are all of them.
     All(Forest<Stand>),
+}
+
+impl Prepared {
+    /// Whether a strand may listen that it puts anew. Where none does, an instance that listens for nothing goes on to.
+    pub fn may_listen(&self) -> bool
+        ensures { result ≡ may_listen self.now.strands }
+    {
+        match &self.strands {
+            Strands::One { stand, .. } => listens(&stand.top),
+            Strands::All(_) => true,
+        }
+    }
+}
+
+// Whether a task that listens stands innermost.
+fn listens(top: &Top) -> bool
+    ensures { result ≡ listens top.now }
+{
+    match top {
+        Top::Hearing { .. } => true,
+        _ => false,
+    }
 }
