@@ -3,6 +3,7 @@ use Rattle.std.proofs.lemmas.List.{length-map}
 use Rattle.swf_strands.specs.Alarm.{alarm_of}
 use Rattle.swf_instances.specs.Held.{instances_in}
 use Rattle.swf_instances.specs.Offers.{ids, put_at}
+use Rattle.swf_instances.proofs.NoteLemmas.{noted_stale}
 use Rattle.swf_instances.proofs.TakeLemmas.{id_within, kept_put, set_put}
 use Rattle.swf_instances.proofs.instances.Instances.put.Goals as goal
 
@@ -33,7 +34,7 @@ invariant_of-self c =
     let j = c.args.instance in
     let own : slice_get (ids (instances_in es)) n ≡ Some j.id = ap (λ h. slice_get (ids h.instances) n) c.self.view_is ∙ c.requires in
     rw (c.set.ensures.moments, c.alarm.ensures)
-    (kept_put es c.self.inside.moment n c.self.inside.queue c.put.new.self c.self.inside.alarms.moments c.self.inside.listeners.wanted c.self.inside.stale c.put-2.new.self j c.self.invariant own c.put.ensures.among c.put.ensures.count c.put-2.ensures.among c.put-2.ensures.count)
+    (kept_put es c.self.inside.moment n c.self.inside.queue c.put.new.self c.self.inside.alarms.moments c.self.inside.listeners.wanted c.self.inside.stale c.put-2.new.self j c.self.invariant own c.put.ensures.among c.put.ensures.count (noted_stale (instances_in es) c.self.inside.listeners.wanted c.self.inside.stale c.put-2.new.self n j c.self.invariant.listening c.put-2.ensures.among c.put-2.ensures.count))
 
 pub returns-clause-instances : goal.returns-clause-instances
 returns-clause-instances c = set_put c.self.inside.machines.entries c.args.number c.args.instance ∙ ap (λ h. put_at c.args.number c.args.instance h.instances) c.self.view_is

@@ -8,6 +8,10 @@ use Rattle.swf_instances.specs.Held.{instances_in}
 use Rattle.swf_instances.specs.Offers.{ids}
 use Rattle.swf_instances.specs.Takes.{take_at}
 use Rattle.swf_instances.proofs.Lookups.{instance_there}
+use Rattle.swf_meaning.specs.World.{Instance}
+use Rattle.swf_offers.specs.EventTypes.{event_types}
+use Rattle.swf_tasks.proofs.ListenLemmas.{none-applied}
+use Rattle.swf_instances.proofs.NoteLemmas.{noted_later}
 use Rattle.swf_instances.proofs.TakeLemmas.{fits_there, kept_put, same_id, set_put, take_put}
 use Rattle.swf_instances.proofs.instances.Instances.take.Goals as goal
 
@@ -15,8 +19,12 @@ pub put-requires : goal.put-requires
 put-requires c =
     omega (arith, slice_get_within c.args.self.now.instances c.args.number c.requires.0 c.requires.1, ap (λ h. length h.instances) c.self.view_is, c.self.invariant.waiting.count)
 
-pub put-requires-2 : goal.put-requires-2
-put-requires-2 c =
+pub may_change-may_change-requires : goal.may_change-may_change-requires
+may_change-may_change-requires c =
+    omega (arith, slice_get_within c.args.self.now.instances c.args.number c.requires.0 c.requires.1, ap (λ h. length h.instances) c.self.view_is, c.self.invariant.listening.many)
+
+pub note_later-requires : goal.note_later-requires
+note_later-requires c =
     omega (arith, slice_get_within c.args.self.now.instances c.args.number c.requires.0 c.requires.1, ap (λ h. length h.instances) c.self.view_is, c.self.invariant.listening.count)
 
 pub index_mut-instance-requires : goal.index_mut-instance-requires
@@ -50,7 +58,9 @@ invariant_of-self c =
     let own : slice_get (ids (instances_in es)) n ≡ Some j.id =
     slice_get-map (λ i. i.id) (instances_in es) n ∙ ap (option_map (λ i. i.id)) there ∙ ap (λ id. Some id) (sym (ap (λ j. j.id) c.take-emitted.ensures.changed ∙ same_id c.args.prepared i)) in
     rw (c.set.ensures.moments, c.alarm.ensures)
-    (kept_put es c.self.inside.moment n c.self.inside.queue c.put.new.self c.self.inside.alarms.moments c.self.inside.listeners.wanted c.self.inside.stale c.put-2.new.self j c.self.invariant own c.put.ensures.among c.put.ensures.count c.put-2.ensures.among c.put-2.ensures.count)
+    (kept_put es c.self.inside.moment n c.self.inside.queue c.put.new.self c.self.inside.alarms.moments c.self.inside.listeners.wanted c.self.inside.stale c.note_later.new.stale j c.self.invariant own c.put.ensures.among c.put.ensures.count
+      (noted_later (instances_in es) c.self.inside.listeners.wanted c.self.inside.stale c.note_later.new.stale n i j c.may_change-may_change.result c.self.invariant.listening there c.note_later.ensures.count c.note_later.ensures.changed c.note_later.ensures.same
+        (λ e. (c.may_change-may_change.ensures e).0) (λ e none. ap (λ (k : Instance). event_types k.node) c.take-emitted.ensures.changed ∙ none-applied c.args.prepared i (c.may_change-may_change.ensures e).1 none)))
 
 pub returns-clause-instances : goal.returns-clause-instances
 returns-clause-instances c =
