@@ -59,8 +59,8 @@ invariant_of-self c =
     slice_get-map (λ i. i.id) (instances_in es) n ∙ ap (option_map (λ i. i.id)) there ∙ ap (λ id. Some id) (sym (ap (λ j. j.id) c.take-emitted.ensures.changed ∙ same_id c.args.prepared i)) in
     rw (c.set.ensures.moments, c.alarm.ensures)
     (kept_put es c.self.inside.moment n c.self.inside.queue c.put.new.self c.self.inside.alarms.moments c.self.inside.listeners.wanted c.self.inside.stale c.note_later.new.stale j c.self.invariant own c.put.ensures.among c.put.ensures.count
-      (noted_later (instances_in es) c.self.inside.listeners.wanted c.self.inside.stale c.note_later.new.stale n i j c.may_change-may_change.result c.self.invariant.listening there c.note_later.ensures.count c.note_later.ensures.changed c.note_later.ensures.same
-        (λ e. (c.may_change-may_change.ensures e).0) (λ e none. ap (λ (k : Instance). event_types k.node) c.take-emitted.ensures.changed ∙ none-applied c.args.prepared i (c.may_change-may_change.ensures e).1 none)))
+    (noted_later (instances_in es) c.self.inside.listeners.wanted c.self.inside.stale c.note_later.new.stale n i j c.may_change-may_change.result c.self.invariant.listening there c.note_later.ensures.count c.note_later.ensures.changed c.note_later.ensures.same
+    (λ e. (c.may_change-may_change.ensures e).0) (λ e none. ap (λ (k : Instance). event_types k.node) c.take-emitted.ensures.changed ∙ none-applied c.args.prepared i (c.may_change-may_change.ensures e).1 none)))
 
 pub returns-clause-instances : goal.returns-clause-instances
 returns-clause-instances c =
