@@ -79,8 +79,13 @@ fn seen(alloc: Global, view: &InstanceView) -> io::Result<String> {
     )?)
 }
 
-// How many steps an instance takes on its root strand with that fuel, and its output.
-fn advanced(alloc: Global, machine: &mut Machine, fuel: u32, site: Site<'_>) -> io::Result<String> {
+// How many steps an instance takes on its root strand with that fuel, where no document is loaded, and its output.
+fn advanced(alloc: Global, machine: &mut Machine, fuel: u32, now: Moment) -> io::Result<String> {
+    let documents = Documents::new(alloc);
+    let site = Site {
+        now,
+        documents: &documents,
+    };
     let steps = machine.advance(alloc, &Strand::root(alloc), fuel, site)?;
     let output = orders::output_of(alloc, machine)?;
     Ok(format!(in alloc; "{steps} steps, output {output}")?)
@@ -93,8 +98,8 @@ fn viewed(alloc: Global, machine: &Machine) -> io::Result<String> {
 }
 
 // Both, in this order.
-fn told_of(alloc: Global, machine: &mut Machine, fuel: u32, site: Site<'_>) -> io::Result<String> {
-    let advanced = advanced(alloc, machine, fuel, site)?;
+fn told_of(alloc: Global, machine: &mut Machine, fuel: u32, now: Moment) -> io::Result<String> {
+    let advanced = advanced(alloc, machine, fuel, now)?;
     let seen = viewed(alloc, machine)?;
     Ok(format!(in alloc; "{advanced}; {seen}")?)
 }
@@ -103,12 +108,7 @@ fn told_of(alloc: Global, machine: &mut Machine, fuel: u32, site: Site<'_>) -> i
 fn advance_by(alloc: Global, fuel: u32, tasks: &str) -> io::Result<String> {
     let now = Moment::new(7);
     let mut machine = orders::begun(alloc, tasks, now)?;
-    let documents = Documents::new(alloc);
-    let site = Site {
-        now,
-        documents: &documents,
-    };
-    told_of(alloc, &mut machine, fuel, site)
+    told_of(alloc, &mut machine, fuel, now)
 }
 
 // A row has the fuel, and the tasks of a workflow.

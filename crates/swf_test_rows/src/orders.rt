@@ -55,14 +55,14 @@ pub(crate) fn output_of(alloc: Global, machine: &Machine) -> io::Result<String> 
     Ok(values::text_of(alloc, output)?)
 }
 
-// What an instance is after the step of a strand.
-fn stepped(
-    alloc: Global,
-    machine: &Machine,
-    strand: &Strand,
-    site: Site<'_>,
-) -> io::Result<Machine> {
+// What an instance is after the step of a strand, where no document is loaded.
+fn stepped(alloc: Global, machine: &Machine, strand: &Strand, now: Moment) -> io::Result<Machine> {
     let mut next = machine.copy(alloc)?;
+    let documents = Documents::new(alloc);
+    let site = Site {
+        now,
+        documents: &documents,
+    };
     match next.step(alloc, strand, site) {
         Ok(_) => Ok(next),
         Err(_) => Err(no_meaning()),
@@ -73,13 +73,13 @@ fn stepped(
 fn push_steps(
     alloc: Global,
     machine: &Machine,
-    site: Site<'_>,
+    now: Moment,
     next: &mut Vec<Machine>,
 ) -> io::Result<()> {
     let strands = machine.strands(alloc)?;
     for strand in strands.iter() {
-        if machine.enabled(strand, site.now) {
-            next.push(stepped(alloc, machine, strand, site)?)?;
+        if machine.enabled(strand, now) {
+            next.push(stepped(alloc, machine, strand, now)?)?;
         }
     }
     Ok(())
@@ -89,13 +89,13 @@ fn push_steps(
 fn stepped_all(
     alloc: Global,
     machines: &[Machine],
-    site: Site<'_>,
+    now: Moment,
     outcome: &mut Outcome,
 ) -> io::Result<Vec<Machine>> {
     let mut next = Vec::new(alloc);
     for machine in machines {
-        if machine.is_enabled(site.now) {
-            push_steps(alloc, machine, site, &mut next)?;
+        if machine.is_enabled(now) {
+            push_steps(alloc, machine, now, &mut next)?;
         } else {
             outcome.add(output_of(alloc, machine)?)?;
         }
@@ -104,7 +104,7 @@ fn stepped_all(
 }
 
 // Takes the steps of an instance in every order.
-fn explored(alloc: Global, machine: Machine, site: Site<'_>) -> io::Result<Outcome> {
+fn explored(alloc: Global, machine: Machine, now: Moment) -> io::Result<Outcome> {
     let mut outcome = Outcome {
         orders: 0,
         outputs: Vec::new(alloc),
@@ -112,7 +112,7 @@ fn explored(alloc: Global, machine: Machine, site: Site<'_>) -> io::Result<Outco
     let mut machines = Vec::new(alloc);
     machines.push(machine)?;
     for _ in 0..MOST_STEPS {
-        machines = stepped_all(alloc, machines.as_slice(), site, &mut outcome)?;
+        machines = stepped_all(alloc, machines.as_slice(), now, &mut outcome)?;
     }
     if machines.is_empty() {
         Ok(outcome)
@@ -140,12 +140,7 @@ fn text_of(alloc: Global, outcome: &Outcome) -> io::Result<String> {
 // What every order of the steps of these tasks comes to.
 fn told(alloc: Global, tasks: &str, now: Moment) -> io::Result<String> {
     let machine = begun(alloc, tasks, now)?;
-    let documents = Documents::new(alloc);
-    let site = Site {
-        now,
-        documents: &documents,
-    };
-    let outcome = explored(alloc, machine, site)?;
+    let outcome = explored(alloc, machine, now)?;
     text_of(alloc, &outcome)
 }
 
