@@ -25,7 +25,7 @@ pub fn list_types(
     requires { IsHeld forest.now strand }
     ensures { OnOk result ((b : Branch TheStand) → find forest.now.strands strand ≡ Some b → types.new.items ≡ types.old.items ++ event_types (node_of b)) }
 {
-    list_own(&stand_of(forest, strand).top, types)?;
+    list_own(stand_of(forest, strand).top.get(), types)?;
     let mut number = 0;
     while let Some(child) = child_of(forest, strand, number) {
         list_types(forest, child, types)?;

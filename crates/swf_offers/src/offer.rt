@@ -8,6 +8,7 @@ ghost use Rattle.swf_strands.specs.Strands.{IsHeld, node_of};
 
 use crate::hear::{hears, offered};
 use std::alloc::{AllocError, Global};
+use swf_document::Boxed;
 use swf_frames::{Forest, StrandId};
 use swf_stack::Stand;
 use swf_strands::{child_of, stand_of};
@@ -23,7 +24,7 @@ pub fn hears_in(
     requires { IsHeld forest.now strand }
     ensures { IfOk result (λ h. (b : Branch TheStand) → find forest.now.strands strand ≡ Some b → h ≡ nat_lt 0 (offered offer.now (node_of b)).1) }
 {
-    if hears(alloc, &stand_of(forest, strand).top, offer)? {
+    if hears(alloc, stand_of(forest, strand).top.get(), offer)? {
         return Ok(true);
     }
     let mut number = 0;
@@ -67,10 +68,11 @@ fn offer_here(
     ensures { IfOk result (λ taken. (b : Branch TheStand) → find forest.old.strands strand ≡ Some b → IsOfferHere offer.now strand b forest.old forest.new taken) }
 {
     let stand = stand_of(forest, strand);
-    let Some(top) = offered(alloc, &stand.top, offer)? else {
+    let Some(top) = offered(alloc, stand.top.get(), offer)? else {
         return Ok(0);
     };
     let around = stand.around.copy()?;
+    let top = Boxed::new(alloc, top)?;
     let stands = one(alloc, Stand { around, top })?;
     let _ = forest.replace(strand, stands);
     Ok(1)

@@ -11,7 +11,7 @@ ghost use Rattle.swf_scene.specs.Setting.{line_of};
 use crate::rule::Rule;
 use std::alloc::{AllocError, Global};
 use swf_catalog::TaskRef;
-use swf_document::{ErrorKind, Flow};
+use swf_document::{Boxed, ErrorKind, Flow};
 use swf_scene::{Halt, Scene, before, behind, value_of};
 use swf_stack::{Made, Top};
 use swf_transform::{fill, is_within};
@@ -31,31 +31,31 @@ pub fn input_of(alloc: Global, scene: &Scene, task: &TaskRef, raw: &Json) -> Res
 }
 
 /// What a task comes to in which nothing runs, with this context.
-pub fn becoming(top: Top, context: Json) -> Made
-    ensures { stepped_of result ≡ record { node = made_node top; context = context; used = 0; emitted = None } }
+pub fn becoming(alloc: Global, top: Top, context: Json) -> Result<Made, AllocError>
+    ensures { IfOk result (λ m. stepped_of m ≡ record { node = made_node top; context = context; used = 0; emitted = None }) }
 {
-    Made {
+    Ok(Made {
         frame: None,
-        top,
+        top: Boxed::new(alloc, top)?,
         context,
         emitted: None,
-    }
+    })
 }
 
 /// A task that is done.
-pub fn finished(output: Json, flow: Flow, context: Json) -> Made
-    ensures { stepped_of result ≡ finished output flow context }
+pub fn finished(alloc: Global, output: Json, flow: Flow, context: Json) -> Result<Made, AllocError>
+    ensures { IfOk result (λ m. stepped_of m ≡ finished output flow context) }
 {
-    becoming(Top::Done { output, flow }, context)
+    becoming(alloc, Top::Done { output, flow }, context)
 }
 
 /// The step of a rule, which ends the task in its error where it gives one.
-pub fn step_of(scene: &Scene, given: Result<Made, Halt>) -> Result<Made, AllocError>
+pub fn step_of(alloc: Global, scene: &Scene, given: Result<Made, Halt>) -> Result<Made, AllocError>
     ensures { IfOk result (λ made. (m : Result Stepped Problem) → Makes m given → stepped_of made ≡ step_of (line_of scene.entry.now) m) }
 {
     match given {
         Ok(made) => Ok(made),
-        Err(Halt::Fault(problem)) => Ok(becoming(Top::Fault(problem), scene.context.copy()?)),
+        Err(Halt::Fault(problem)) => becoming(alloc, Top::Fault(problem), scene.context.copy()?),
         Err(Halt::OutOfMemory) => Err(AllocError),
     }
 }
@@ -79,12 +79,12 @@ impl Rule<'_> {
         ensures { Makes (exported (line_in self.now) self.now.running.now flow output (common_of self.now.running.now.task).export_as) result }
     {
         match self.running.task().export_as() {
-            None => Ok(finished(output, flow, self.scene.context.copy()?)),
+            None => Ok(finished(self.alloc, output, flow, self.scene.context.copy()?)?),
             Some(template) => {
                 let sight = self.within()?;
                 let vars = behind(self.alloc, self.scene, sight.vars(), &output)?;
                 let context = self.value_of(fill(self.alloc, template, &vars, &output)?)?;
-                Ok(finished(output, flow, context))
+                Ok(finished(self.alloc, output, flow, context)?)
             }
         }
     }

@@ -69,7 +69,7 @@ impl Rule<'_> {
             Ok(event) => {
                 let event = Boxed::new(self.alloc, event)?;
                 let given = self.complete(self.running.input().copy()?);
-                Ok(with_event(step_of(self.scene, given)?, event))
+                Ok(with_event(step_of(self.alloc, self.scene, given)?, event))
             }
             Err(EventFault::Bad { .. }) => Err(self.fails(ErrorKind::Validation, "bad event")),
             Err(EventFault::OutOfMemory) => Err(Halt::OutOfMemory),

@@ -49,7 +49,7 @@ impl Rule<'_> {
             return self.complete(Json::list(self.alloc, Vec::new(self.alloc))?);
         }
         let top = Top::Forked(self.running.copy()?);
-        Ok(becoming(top, self.scene.context.copy()?))
+        Ok(becoming(self.alloc, top, self.scene.context.copy()?)?)
     }
 
     /// What becomes of a `fork` one of whose branches ended, with the outputs of all once all are done; none where the others go
@@ -69,7 +69,7 @@ impl Rule<'_> {
                 flow: Flow::End,
             } => {
                 let context = self.scene.context.copy()?;
-                Ok(Some(finished(output.copy()?, Flow::End, context)))
+                Ok(Some(finished(self.alloc, output.copy()?, Flow::End, context)?))
             }
             Top::Done { output, .. } if compete => Ok(Some(self.complete(output.copy()?)?)),
             Top::Done { .. } => match outputs {

@@ -97,7 +97,7 @@ impl Rule<'_> {
             bound,
             heard: Listing::of(self.alloc, Vec::new(self.alloc))?,
         };
-        Ok(becoming(top, self.scene.context.copy()?))
+        Ok(becoming(self.alloc, top, self.scene.context.copy()?)?)
     }
 
     /// A `listen` that heard all is complete.

@@ -13,7 +13,7 @@ ghost use Rattle.swf_stack.specs.Stack.{made_node, stepped_of};
 use crate::rule::Rule;
 use std::alloc::AllocError;
 use swf_catalog::{Iteration, Round, TaskRef};
-use swf_document::Flow;
+use swf_document::{Boxed, Flow};
 use swf_expr::Expr;
 use swf_scene::{Halt, within};
 use swf_stack::{Frame, Made, Top};
@@ -108,13 +108,14 @@ impl Rule<'_> {
     {
         let context = self.scene.context.copy()?;
         let running = self.running.copy()?;
+        let frame = Frame {
+            running,
+            round,
+            place,
+        };
         Ok(Made {
-            frame: Some(Frame {
-                running,
-                round,
-                place,
-            }),
-            top,
+            frame: Some(Boxed::new(self.alloc, frame)?),
+            top: Boxed::new(self.alloc, top)?,
             context,
             emitted: None,
         })

@@ -61,10 +61,10 @@ impl Rule<'_> {
         ensures { Makes (ended (line_in self.now) self.now.running.now output) result }
     {
         if !self.running.task().is_workflow() {
-            return Ok(finished(output, Flow::End, self.scene.context.copy()?));
+            return Ok(finished(self.alloc, output, Flow::End, self.scene.context.copy()?)?);
         }
         let output = self.output_of(output)?;
-        Ok(finished(output, Flow::End, self.scene.context.copy()?))
+        Ok(finished(self.alloc, output, Flow::End, self.scene.context.copy()?)?)
     }
 }
 

@@ -28,7 +28,7 @@ impl Rule<'_> {
             retries,
             until,
         };
-        Ok(becoming(top, self.scene.context.copy()?))
+        Ok(becoming(self.alloc, top, self.scene.context.copy()?)?)
     }
 
     // One more try after a delay.

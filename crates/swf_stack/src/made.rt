@@ -48,11 +48,11 @@ pub enum Top {
     Forked(Running),
 }
 
-/// What a strand holds: the tasks that run on it, the innermost first, and what stands innermost.
+/// What a strand holds: the tasks that run on it, the innermost first, and what stands innermost, behind a box so that a strand is small.
 #[derive(Drop)]
 pub struct Stand {
     pub around: Chain<Frame>,
-    pub top: Top,
+    pub top: Boxed<Top>,
 }
 
 /// An event that goes out, behind a box, since most steps send none.
@@ -62,8 +62,8 @@ pub type SentEvent = Boxed<Event>;
 /// that goes out, where one does.
 #[derive(Drop)]
 pub struct Made {
-    pub frame: Option<Frame>,
-    pub top: Top,
+    pub frame: Option<Boxed<Frame>>,
+    pub top: Boxed<Top>,
     pub context: Json,
     pub emitted: Option<SentEvent>,
 }
@@ -108,38 +108,40 @@ impl Top {
 
 impl Stand {
     /// What a strand holds on which no task runs.
-    pub fn alone(top: Top) -> Stand
-        ensures { result ≡ record { around = []; top = top } }
+    pub fn alone(alloc: Global, top: Top) -> Result<Stand, AllocError>
+        ensures { IfOk result (λ s. s ≡ record { around = []; top = top }) }
     {
-        Stand {
+        let top = Boxed::new(alloc, top)?;
+        Ok(Stand {
             around: Chain::new(),
             top,
-        }
+        })
     }
 
     /// What a strand holds with this inside its running tasks.
     pub fn inside(
         alloc: Global,
         around: &Chain<Frame>,
-        frame: Option<Frame>,
-        top: Top,
+        frame: Option<Boxed<Frame>>,
+        top: Boxed<Top>,
     ) -> Result<Stand, AllocError>
         ensures around { IfOk result (λ s. s.around ≡ option_to_list frame ++ around.now) }
         ensures top { IfOk result (λ s. s.top ≡ top) }
     {
         let mut around = around.copy()?;
         if let Some(frame) = frame {
-            around = around.with(alloc, frame)?;
+            around = around.with(alloc, frame.into_inner())?;
         }
         Ok(Stand { around, top })
     }
 }
 
 impl CopyFrame for Stand {
-    fn copy(&self, _alloc: Global) -> Result<Stand, AllocError> {
+    fn copy(&self, alloc: Global) -> Result<Stand, AllocError> {
+        let top = self.top.get().copy()?;
         Ok(Stand {
             around: self.around.copy()?,
-            top: self.top.copy()?,
+            top: Boxed::new(alloc, top)?,
         })
     }
 }

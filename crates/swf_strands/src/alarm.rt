@@ -39,7 +39,7 @@ pub fn own_until(forest: &Forest<Stand>, strand: StrandId) -> Option<u64>
     requires { IsHeld forest.now strand }
     ensures { (b : Branch TheStand) → find forest.now.strands strand ≡ Some b → result ≡ own_until (node_of b) }
 {
-    until_of(&stand_of(forest, strand).top)
+    until_of(stand_of(forest, strand).top.get())
 }
 
 /// The least moment, in milliseconds, that a strand or one below it waits for. It takes no memory.
@@ -94,7 +94,7 @@ pub fn put_kept(
     ensures node { root_node forest.new.strands ≡ replaced changed.now (stand_node stand) (root_node forest.old.strands) }
     ensures alarm { result ≡ alarm_of (root_node forest.new.strands) }
 {
-    let until = until_of(&stand.top);
+    let until = until_of(stand.top.get());
     let dropped = alarm_at(forest, changed);
     put_at(forest, changed, stand);
     if is_left(alarm, dropped) {

@@ -16,7 +16,7 @@ use swf_stack::{Stand, Top, is_heard};
 fn can_go(stand: &Stand, now: Moment) -> bool
     ensures { (ns : Nodes) → result ≡ can_go now [] (strand_node (stand.now ∷ []) ns) }
 {
-    match &stand.top {
+    match stand.top.get() {
         Top::Fresh { .. } => true,
         Top::Done { .. } => !stand.around.is_empty(),
         Top::Fault(_) => !stand.around.is_empty(),

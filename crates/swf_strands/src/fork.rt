@@ -26,7 +26,7 @@ pub fn branches_of(alloc: Global, top: &Top) -> Result<Option<Vec<Stand>>, Alloc
             return Err(AllocError);
         }
         let raw = running.input().copy()?;
-        branches.push(Stand::alone(Top::Fresh { task: branch, raw }))?;
+        branches.push(Stand::alone(alloc, Top::Fresh { task: branch, raw })?)?;
     }
     Ok(Some(branches))
 }

@@ -73,7 +73,7 @@ impl Machine {
         let Some(strand) = strand_at(&self.forest, self.forest.root(), strand.as_slice()) else {
             return false;
         };
-        match &stand_of(&self.forest, strand).top {
+        match stand_of(&self.forest, strand).top.get() {
             Top::Hearing { running, heard, .. } => !is_heard(running.task(), heard.as_slice()),
             _ => false,
         }
@@ -110,7 +110,7 @@ impl Machine {
             return false;
         };
         let Stand { around, top } = stand_of(&self.forest, strand);
-        match top {
+        match top.get() {
             Top::Fresh { task, .. } => task.is_shared(),
             Top::Fault(_) => is_error_shared(around),
             _ => false,

@@ -13,9 +13,9 @@ ghost use Rattle.swf_scene.specs.Setting.{line_of, site_of};
 use std::alloc::Global;
 use swf_catalog::{Round, TaskRef, Work};
 use swf_document::{Flow, Template};
-use swf_rules::{Rule, input_of};
+use swf_rules::{Rule, finished, input_of};
 use swf_scene::{Halt, Scene, within};
-use swf_stack::{Made, Running, Top};
+use swf_stack::{Made, Running};
 use swf_value::Json;
 
 // A `set` gives what its template is filled to.
@@ -50,15 +50,9 @@ fn begun(rule: &Rule) -> Result<Made, Halt>
 fn skipped(rule: &Rule) -> Result<Made, Halt>
     ensures { Makes (Ok (becomes (line_in rule.now) (Done rule.now.running.now.raw Continue))) result }
 {
-    Ok(Made {
-        frame: None,
-        top: Top::Done {
-            output: rule.running.raw().copy()?,
-            flow: Flow::Continue,
-        },
-        context: rule.scene.context.copy()?,
-        emitted: None,
-    })
+    let output = rule.running.raw().copy()?;
+    let context = rule.scene.context.copy()?;
+    Ok(finished(rule.alloc, output, Flow::Continue, context)?)
 }
 
 // A task begins, unless its `if` is not true.

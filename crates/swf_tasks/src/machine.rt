@@ -66,7 +66,7 @@ impl Machine {
         let raw = input.copy()?;
         Ok(Machine {
             setting: Setting::new(alloc, document, id, input, now)?,
-            forest: Forest::new(alloc, Stand::alone(Top::Fresh { task, raw }))?,
+            forest: Forest::new(alloc, Stand::alone(alloc, Top::Fresh { task, raw })?)?,
             last: Strand::root(alloc),
             alarm: None,
         })
@@ -130,7 +130,7 @@ impl Machine {
         ensures { option_map (λ v. v.now) result ≡ output_in self.now.node }
     {
         let Stand { around, top } = stand_of(&self.forest, self.forest.root());
-        match top {
+        match top.get() {
             Top::Done { output, .. } if around.is_empty() => Some(output),
             _ => None,
         }
@@ -141,7 +141,7 @@ impl Machine {
         ensures { option_map (λ p. p.now) result ≡ problem_in self.now.node }
     {
         let Stand { around, top } = stand_of(&self.forest, self.forest.root());
-        match top {
+        match top.get() {
             Top::Fault(problem) if around.is_empty() => Some(problem),
             _ => None,
         }

@@ -51,7 +51,7 @@ impl Machine {
         let Strands::One { depth, stand } = strands else {
             return Ok(strands);
         };
-        let Some(branches) = branches_of(alloc, &stand.top)? else {
+        let Some(branches) = branches_of(alloc, stand.top.get())? else {
             return Ok(Strands::One { depth, stand });
         };
         let forest = forked(alloc, &self.forest, &strand[..depth], stand, branches)?;

@@ -35,7 +35,7 @@ impl Prepared {
         ensures { result ≡ may_listen self.now.strands }
     {
         match &self.strands {
-            Strands::One { stand, .. } => listens(&stand.top),
+            Strands::One { stand, .. } => listens(stand.top.get()),
             Strands::All(_) => true,
         }
     }

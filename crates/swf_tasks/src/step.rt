@@ -74,7 +74,7 @@ fn settle<'s>(
         return Ok(prepared);
     };
     let Stand { around, top } = stand_of(forest, above);
-    let Top::Forked(running) = top else {
+    let Top::Forked(running) = top.get() else {
         unreachable!();
     };
     let outputs = outputs_of(alloc, forest, above, number, ended)?;
@@ -82,7 +82,7 @@ fn settle<'s>(
     let made = match given {
         Ok(None) => return Ok(prepared),
         Ok(Some(made)) => made,
-        Err(halt) => swf_rules::step_of(&scene, Err(halt))?,
+        Err(halt) => swf_rules::step_of(alloc, &scene, Err(halt))?,
     };
     let stand = Stand::inside(alloc, around, made.frame, made.top)?;
     prepared.strands = Strands::One { depth, stand };
@@ -123,8 +123,8 @@ fn ended(strands: &Strands, depth: usize) -> Option<&Top>
 fn ended_in(stand: &Stand) -> Option<&Top>
     ensures { option_map (λ t. t.now) result ≡ ended_in stand.now.around stand.now.top }
 {
-    if stand.around.is_empty() && has_ended(&stand.top) {
-        Some(&stand.top)
+    if stand.around.is_empty() && has_ended(stand.top.get()) {
+        Some(stand.top.get())
     } else {
         None
     }
@@ -151,7 +151,7 @@ fn output_on(stand: &Stand) -> Option<&Json>
     ensures { option_map (λ w. w.now) result ≡ output_on stand.now.around stand.now.top }
 {
     if stand.around.is_empty() {
-        output_of(&stand.top)
+        output_of(stand.top.get())
     } else {
         None
     }
@@ -225,7 +225,7 @@ fn outer_of(stand: &Stand) -> &Chain<Frame>
     ensures { result.now ≡ outer stand.now.top stand.now.around }
 {
     match stand.around.split_first() {
-        Some((_, outer)) if has_ended(&stand.top) => outer,
+        Some((_, outer)) if has_ended(stand.top.get()) => outer,
         _ => &stand.around,
     }
 }
@@ -237,7 +237,7 @@ fn next_of<'s>(alloc: Global, scene: Scene<'s>, stand: &'s Stand) -> Result<Made
 {
     let scene = scene.inside(alloc, outer_of(stand))?;
     let given = ruled(alloc, &scene, stand);
-    swf_rules::step_of(&scene, given)
+    swf_rules::step_of(alloc, &scene, given)
 }
 
 // What the rule gives that applies to what stands innermost.
@@ -245,7 +245,7 @@ fn ruled<'s>(alloc: Global, scene: &'s Scene<'s>, stand: &'s Stand) -> Result<Ma
     requires { can_go scene.now.site.now [] (own_node stand.now) ≡ true }
     ensures { (l : Line) → IsSeen l (line_of scene.entry.now) stand.now → IsRuled (site_of scene.entry.now) l (line_of scene.entry.now) stand.now result }
 {
-    match &stand.top {
+    match stand.top.get() {
         Top::Fresh { task, raw } => enter(alloc, scene, task, raw),
         Top::Waiting {
             running,
