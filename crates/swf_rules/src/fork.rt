@@ -49,7 +49,8 @@ impl Rule<'_> {
             return self.complete(Json::list(self.alloc, Vec::new(self.alloc))?);
         }
         let top = Top::Forked(self.running.copy()?);
-        Ok(becoming(self.alloc, top, self.scene.context.copy()?)?)
+        let made = becoming(self.alloc, top, self.scene.context.copy()?)?;
+        Ok(made)
     }
 
     /// What becomes of a `fork` one of whose branches ended, with the outputs of all once all are done; none where the others go

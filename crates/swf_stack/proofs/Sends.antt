@@ -100,26 +100,38 @@ top_inside_sync = search (sendable, task_sync, running_sync, json_sync, flow_ins
 pub top_sync : IsSync top.the_row
 top_sync = search (sendable, top_inside_sync) depth 4
 
+pub boxed_top_send : IsSend (boxed.the_row top.the_row)
+boxed_top_send = boxed_send top.the_row top_send
+
+pub boxed_top_sync : IsSync (boxed.the_row top.the_row)
+boxed_top_sync = boxed_sync top.the_row top_sync
+
 pub stand_inside_send : IsSend (stand.the_field).row
-stand_inside_send = search (sendable, chain_frame_send, top_inside_send) depth 20
+stand_inside_send = search (sendable, chain_frame_send, boxed_top_send) depth 20
 
 pub stand_send : IsSend stand.the_row
 stand_send = search (sendable, stand_inside_send) depth 4
 
 pub stand_inside_sync : IsSync (stand.the_field).row
-stand_inside_sync = search (sendable, chain_frame_sync, top_inside_sync) depth 20
+stand_inside_sync = search (sendable, chain_frame_sync, boxed_top_sync) depth 20
 
 pub stand_sync : IsSync stand.the_row
 stand_sync = search (sendable, stand_inside_sync) depth 4
 
+boxed_frame_send : IsSend (boxed.the_row frame.the_row)
+boxed_frame_send = boxed_send frame.the_row frame_send
+
+boxed_frame_sync : IsSync (boxed.the_row frame.the_row)
+boxed_frame_sync = boxed_sync frame.the_row frame_sync
+
 pub made_inside_send : IsSend (made.the_field).row
-made_inside_send = search (sendable, option.the_field_send, frame_inside_send, top_inside_send, json_send, sent_send) depth 20
+made_inside_send = search (sendable, option.the_field_send, boxed_frame_send, boxed_top_send, json_send, sent_send) depth 20
 
 pub made_send : IsSend made.the_row
 made_send = search (sendable, made_inside_send) depth 4
 
 pub made_inside_sync : IsSync (made.the_field).row
-made_inside_sync = search (sendable, option.the_field_sync, frame_inside_sync, top_inside_sync, json_sync, sent_sync) depth 20
+made_inside_sync = search (sendable, option.the_field_sync, boxed_frame_sync, boxed_top_sync, json_sync, sent_sync) depth 20
 
 pub made_sync : IsSync made.the_row
 made_sync = search (sendable, made_inside_sync) depth 4

@@ -26,7 +26,8 @@ pub fn branches_of(alloc: Global, top: &Top) -> Result<Option<Vec<Stand>>, Alloc
             return Err(AllocError);
         }
         let raw = running.input().copy()?;
-        branches.push(Stand::alone(alloc, Top::Fresh { task: branch, raw })?)?;
+        let stand = Stand::alone(alloc, Top::Fresh { task: branch, raw })?;
+        branches.push(stand)?;
     }
     Ok(Some(branches))
 }

@@ -64,9 +64,10 @@ impl Machine {
     {
         let task = TaskRef::workflow(document.copy()?);
         let raw = input.copy()?;
+        let stand = Stand::alone(alloc, Top::Fresh { task, raw })?;
         Ok(Machine {
             setting: Setting::new(alloc, document, id, input, now)?,
-            forest: Forest::new(alloc, Stand::alone(alloc, Top::Fresh { task, raw })?)?,
+            forest: Forest::new(alloc, stand)?,
             last: Strand::root(alloc),
             alarm: None,
         })

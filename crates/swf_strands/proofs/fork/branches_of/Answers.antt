@@ -12,14 +12,14 @@ pub loop-branches-preserved : goal.loop-branches-preserved
 loop-branches-preserved c =
     let running = c.in-Forked.running in
     let before = c.loop-branches.branches.items in
-    let next : Stand = c.alone.result in
+    let next : Stand = c.in_ok-stand.stand in
     let len : c.len.result ≡ length before = omega arith in
     let all : length (before ++ next ∷ []) ≡ length before + 1 = length-append before (next ∷ []) in
     let less = c.if-len-ge-MOST_BESIDE.false in
     let there = ap (λ (t : Task). task_at (branches_of t) c.len.result) (sym c.task.ensures) ∙ sym c.in_ok-branch.ensures ∙ c.in-Some.is in
     subst (λ (ls : List Stand). (length ls ≤ most_beside) × AreFirst running ls) (sym c.in_ok-push.ensures.items) (
       omega (arith, all, less),
-      first-more running c.in-Some.branch before c.len.result next c.loop-branches.invariant.1 len there (c.alone.ensures ∙ ap (fresh-stand c.in-Some.branch) (c.in_ok-raw.ensures ∙ c.input.ensures)),
+      first-more running c.in-Some.branch before c.len.result next c.loop-branches.invariant.1 len there (c.in_ok-stand.ensures ∙ ap (fresh-stand c.in-Some.branch) (c.in_ok-raw.ensures ∙ c.input.ensures)),
     )
 
 pub returns-clause-branches : goal.returns-clause-branches

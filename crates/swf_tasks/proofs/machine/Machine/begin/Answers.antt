@@ -9,5 +9,5 @@ use Rattle.swf_tasks.proofs.machine.Machine.begin.Goals as goal
 pub returns : goal.returns
 returns c =
     let task = c.workflow-task.ensures ∙ ap workflow c.in_ok-copy.ensures in
-    let root = ap (λ t. root_node t.strands) c.in_ok-new-2.ensures ∙ ap (λ (h : Stand). strand_node (h ∷ []) no_nodes) c.alone.ensures ∙ (λ i. Fresh (task i) (c.in_ok-raw.ensures i)) in
+    let root = ap (λ t. root_node t.strands) c.in_ok-new-2.ensures ∙ ap (λ (h : Stand). strand_node (h ∷ []) no_nodes) c.in_ok-stand.ensures ∙ (λ i. Fresh (task i) (c.in_ok-raw.ensures i)) in
     c.in_ok-new.ensures (root_node c.in_ok-new-2.field-0.strands) ∙ (λ i. record (new_instance c.args.id c.args.input c.args.now c.args.document) { node = root i })
