@@ -1,4 +1,4 @@
-use Rattle.std.proofs.Common.{ap, arith, sym}
+use Rattle.std.proofs.Common.{◌∙◌, ap, arith, sym}
 use Rattle.swf_stack.specs.Stands.{top_of}
 use Rattle.swf_strands.proofs.AskLemmas.{child-place, fewer}
 use Rattle.swf_strands.proofs.TreeLemmas.{child-held}
@@ -8,7 +8,7 @@ use Rattle.swf_offers.proofs.event_types.+list_types.Goals as goal
 pub loop-child-init : goal.loop-child-init
 loop-child-init t c = (
   omega arith,
-  typed-first c.args.forest.now c.args.strand c.stand_of.result.now.top c.args.types.now.items c.list_own.new.types.items c.requires (λ b f. sym (ap top_of (c.stand_of.ensures b f))) c.in_ok-list_own.ensures,
+  typed-first c.args.forest.now c.args.strand c.get.result.now c.args.types.now.items c.list_own.new.types.items c.requires (λ b f. c.get.ensures ∙ sym (ap top_of (c.stand_of.ensures b f))) c.in_ok-list_own.ensures,
 )
 
 pub list_types-requires : goal.list_types-requires

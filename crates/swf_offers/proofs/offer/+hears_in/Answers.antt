@@ -1,5 +1,5 @@
 use Rattle.swf_stack.specs.Stands.{top_of}
-use Rattle.std.proofs.Common.{arith, ap, sym}
+use Rattle.std.proofs.Common.{◌∙◌, arith, ap, sym}
 use Rattle.swf_strands.proofs.AskLemmas.{child-place, fewer}
 use Rattle.swf_offers.proofs.OfferLemmas.{heard-here, unheard-here, heard-found, unheard-more, unheard-none}
 use Rattle.swf_strands.proofs.TreeLemmas.{child-held}
@@ -7,12 +7,12 @@ use Rattle.swf_offers.proofs.offer.+hears_in.Goals as goal
 
 pub returns-then-branch : goal.returns-then-branch
 returns-then-branch t c =
-    heard-here c.args.offer.now c.args.forest.now c.args.strand c.stand_of.result.now.top c.in_ok-hears.field-0 c.requires (λ b f. sym (ap top_of (c.stand_of.ensures b f))) c.in_ok-hears.ensures c.if-branch.true
+    heard-here c.args.offer.now c.args.forest.now c.args.strand c.get.result.now c.in_ok-hears.field-0 c.requires (λ b f. c.get.ensures ∙ sym (ap top_of (c.stand_of.ensures b f))) c.in_ok-hears.ensures c.if-branch.true
 
 pub loop-child-init : goal.loop-child-init
 loop-child-init t c = (
   omega arith,
-  unheard-here c.args.offer.now c.args.forest.now c.args.strand c.stand_of.result.now.top c.in_ok-hears.field-0 c.requires (λ b f. sym (ap top_of (c.stand_of.ensures b f))) c.in_ok-hears.ensures c.if-branch.false,
+  unheard-here c.args.offer.now c.args.forest.now c.args.strand c.get.result.now c.in_ok-hears.field-0 c.requires (λ b f. c.get.ensures ∙ sym (ap top_of (c.stand_of.ensures b f))) c.in_ok-hears.ensures c.if-branch.false,
 )
 
 pub hears_in-requires : goal.hears_in-requires

@@ -36,7 +36,7 @@ returns-in-Ok-None c = λ b l way inner f seen change.
     (subst (λ y. IsChange at y way (c.args.depth + 1) inner (node_of change.0.held) c.args.prepared) seen change.1.1)
     (some-of (λ t. t.now) c.ended.result (ended_at (c.args.depth + 1) c.args.prepared.strands) c.in-Some.ended c.ended.ensures c.in-Some.is)
     (settles-to z (seen_in l (frames_of b.frames)) b c.args.number x w.running (competes w.running.task) c.in_ok-outputs.outputs None seen
-    refl (c.in_ok-outputs.ensures b f) (ap (option_map (step_of z)) none) (sym (sym (ap top_of (c.stand_of.ensures b f))) ∙ w.is))
+    refl (c.in_ok-outputs.ensures b f) (ap (option_map (step_of z)) none) (sym (sym (ap top_of (c.stand_of.ensures b f))) ∙ sym c.get.ensures ∙ w.is))
     (λ j. record c.args.prepared { context = (c.in_ok-prepared.ensures ∙ ap (λ (y : Line). y.context) seen) j })
 
 pub returns : goal.returns
@@ -46,7 +46,7 @@ returns c = λ b l way inner f seen change.
     let z = line_of c.args.scene in
     let w = c.in-Forked in
     let made = c.match-given.made in
-    let top : top_of b.frames ≡ tops.Forked w.running = sym (sym (ap top_of (c.stand_of.ensures b f))) ∙ w.is in
+    let top : top_of b.frames ≡ tops.Forked w.running = sym (sym (ap top_of (c.stand_of.ensures b f))) ∙ sym c.get.ensures ∙ w.is in
     let e : Option (Result Stepped Problem) = ending z w.running (competes w.running.task) c.in_ok-outputs.outputs x in
     let gives : option_map (step_of z) e ≡ Some (stepped_of made) = elim c.match-given.branch [
       | in-Ok-Some v ↦ ap (option_map (step_of z)) (subst (λ r. MakesSome e r) (v.in-Ok-Some.is ∙ ap Ok v.in-Ok-Some.field-0-is) c.settled-given.ensures) ∙ ap (λ m. Some (stepped_of m)) (sym v.made-is)

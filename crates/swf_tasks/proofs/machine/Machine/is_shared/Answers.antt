@@ -23,17 +23,17 @@ stand_of-requires c = way-held c.self.inside.forest c.root.result c.in-Some.stra
 pub returns-in-Fresh : goal.returns-in-Fresh
 returns-in-Fresh c =
     on-strand (λ o. c.is_shared.result ≡ top_there is_shared_top o) c.self.inside.setting c.self.inside.forest c.root.result c.in-Some.strand c.as_slice.result.now c.args.strand.now c.args.self.now c.self.view_is c.root.ensures.root c.self.invariant.0 c.as_slice.ensures c.in-Some.ensures.found
-    (λ b f. c.is_shared.ensures ∙ shared-fresh b c.stand_of.result.now.top _ _ (sym (ap top_of (c.stand_of.ensures b f))) c.in-Fresh.is)
+    (λ b f. c.is_shared.ensures ∙ shared-fresh b c.get.result.now _ _ (c.get.ensures ∙ sym (ap top_of (c.stand_of.ensures b f))) c.in-Fresh.is)
     ∙ sym (top_is-at is_shared_top c.args.strand.now c.args.self.now.node)
 
 pub returns-in-Fault : goal.returns-in-Fault
 returns-in-Fault c =
     on-strand (λ o. c.is_error_shared.result ≡ top_there is_shared_top o) c.self.inside.setting c.self.inside.forest c.root.result c.in-Some.strand c.as_slice.result.now c.args.strand.now c.args.self.now c.self.view_is c.root.ensures.root c.self.invariant.0 c.as_slice.ensures c.in-Some.ensures.found
-    (λ b f. shared-fault b c.stand_of.result.now.top c.in-Fault.field-0 c.is_error_shared.result (sym (ap top_of (c.stand_of.ensures b f))) c.in-Fault.is (c.is_error_shared.ensures c.in-Fault.field-0 ∙ ap (λ ls. is_shared [] (plug (frames_of ls) (Fault c.in-Fault.field-0))) (sym (c.stand_of.ensures b f))))
+    (λ b f. shared-fault b c.get.result.now c.in-Fault.field-0 c.is_error_shared.result (c.get.ensures ∙ sym (ap top_of (c.stand_of.ensures b f))) c.in-Fault.is (c.is_error_shared.ensures c.in-Fault.field-0 ∙ ap (λ ls. is_shared [] (plug (frames_of ls) (Fault c.in-Fault.field-0))) (sym (c.stand_of.ensures b f))))
     ∙ sym (top_is-at is_shared_top c.args.strand.now c.args.self.now.node)
 
 pub returns-in_default-top : goal.returns-in_default-top
 returns-in_default-top c =
     on-strand (λ o. false ≡ top_there is_shared_top o) c.self.inside.setting c.self.inside.forest c.root.result c.in-Some.strand c.as_slice.result.now c.args.strand.now c.args.self.now c.self.view_is c.root.ensures.root c.self.invariant.0 c.as_slice.ensures c.in-Some.ensures.found
-    (λ b f. shared-not b c.stand_of.result.now.top (sym (ap top_of (c.stand_of.ensures b f))) c.in_default-top.not-Fresh c.in_default-top.not-Fault)
+    (λ b f. shared-not b c.get.result.now (c.get.ensures ∙ sym (ap top_of (c.stand_of.ensures b f))) c.in_default-top.not-Fresh c.in_default-top.not-Fault)
     ∙ sym (top_is-at is_shared_top c.args.strand.now c.args.self.now.node)
