@@ -32,8 +32,8 @@ returns-in-Fault c =
     (λ b f. shared-fault b c.get.result.now c.in-Fault.field-0 c.is_error_shared.result (c.get.ensures ∙ sym (ap top_of (c.stand_of.ensures b f))) c.in-Fault.is (c.is_error_shared.ensures c.in-Fault.field-0 ∙ ap (λ ls. is_shared [] (plug (frames_of ls) (Fault c.in-Fault.field-0))) (sym (c.stand_of.ensures b f))))
     ∙ sym (top_is-at is_shared_top c.args.strand.now c.args.self.now.node)
 
-pub returns-in_default-top : goal.returns-in_default-top
-returns-in_default-top c =
+pub returns-in_default-get : goal.returns-in_default-get
+returns-in_default-get c =
     on-strand (λ o. false ≡ top_there is_shared_top o) c.self.inside.setting c.self.inside.forest c.root.result c.in-Some.strand c.as_slice.result.now c.args.strand.now c.args.self.now c.self.view_is c.root.ensures.root c.self.invariant.0 c.as_slice.ensures c.in-Some.ensures.found
-    (λ b f. shared-not b c.get.result.now (c.get.ensures ∙ sym (ap top_of (c.stand_of.ensures b f))) c.in_default-top.not-Fresh c.in_default-top.not-Fault)
+    (λ b f. shared-not b c.get.result.now (c.get.ensures ∙ sym (ap top_of (c.stand_of.ensures b f))) c.in_default-get.not-Fresh c.in_default-get.not-Fault)
     ∙ sym (top_is-at is_shared_top c.args.strand.now c.args.self.now.node)

@@ -24,8 +24,8 @@ returns-in-Hearing c =
     (λ b f. (λ i. not ((c.is_heard.ensures ∙ (λ j. is_heard (c.task.ensures j) (c.as_slice-in-Hearing.ensures j))) i)) ∙ listens-hearing b c.get.result.now c.in-Hearing.running _ c.in-Hearing.heard (c.get.ensures ∙ sym (ap top_of (c.stand_of.ensures b f))) c.in-Hearing.is)
     ∙ sym (top_is-at is_listening c.args.strand.now c.args.self.now.node)
 
-pub returns-in_default-top : goal.returns-in_default-top
-returns-in_default-top c =
+pub returns-in_default-get : goal.returns-in_default-get
+returns-in_default-get c =
     on-strand (λ o. false ≡ top_there is_listening o) c.self.inside.setting c.self.inside.forest c.root.result c.in-Some.strand c.as_slice.result.now c.args.strand.now c.args.self.now c.self.view_is c.root.ensures.root c.self.invariant.0 c.as_slice.ensures c.in-Some.ensures.found
-    (λ b f. listens-not b c.get.result.now (c.get.ensures ∙ sym (ap top_of (c.stand_of.ensures b f))) c.in_default-top.not-Hearing)
+    (λ b f. listens-not b c.get.result.now (c.get.ensures ∙ sym (ap top_of (c.stand_of.ensures b f))) c.in_default-get.not-Hearing)
     ∙ sym (top_is-at is_listening c.args.strand.now c.args.self.now.node)
