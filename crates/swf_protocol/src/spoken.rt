@@ -14,6 +14,9 @@ use swf_duration::Moment;
 use swf_text::{Text, pointer_text, word};
 use swf_value::{Json, member, write_json};
 
+/// Room for a reply of usual length, in bytes, so that its line seldom grows.
+const LINE_ROOM: usize = 256;
+
 /// The value of a word.
 fn word_json(alloc: Global, text: &str) -> Result<Json, AllocError>
     requires { IsTrue (is_ascii text.now) }
@@ -181,7 +184,7 @@ pub fn reply_bytes(alloc: Global, reply: &Reply) -> Result<Vec<u8>, AllocError>
     ensures { IfOk result (λ bytes. bytes.items ≡ reply_text reply.now) }
 {
     let value = reply_json(alloc, reply)?;
-    let mut line = Vec::new(alloc);
+    let mut line = Vec::with_capacity(alloc, LINE_ROOM)?;
     write_json(&value, &mut line)?;
     Ok(line)
 }
