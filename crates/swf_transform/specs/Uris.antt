@@ -1,6 +1,6 @@
 -- Where a request goes: a pattern whose names are filled in, and a query behind it (DSL reference, "HTTP Call" and "Endpoint";
 -- RFC 6570, section 3.2.2; RFC 3986, sections 2.1 and 2.3).
-use Rattle.std.specs.Prelude.{◌==◌, ◌||◌, ◌/◌, ◌%◌, ℕ, List, [], ◌∷◌, ◌++◌, Bool, true, false, codes, flat_map, nat_lt, Option, Some, None, Result, Ok, Err, if◌then◌else◌}
+use Rattle.std.specs.Prelude.{◌==◌, ◌||◌, ◌+◌, ◌/◌, ◌%◌, ℕ, List, [], ◌∷◌, ◌++◌, Bool, true, codes, flat_map, nat_lt, Option, Some, None, Result, Ok, Err, if◌then◌else◌}
 use Rattle.std.specs.Char.{is_ascii_alphanumeric}
 use Rattle.std.specs.Fmt.{signed_decimal}
 use Rattle.std.specs.List.{list_any}
@@ -15,6 +15,7 @@ use Rattle.swf_transform.specs.declared.got.Got.TheVariants as gots
 abbrev pub is_unreserved : ℕ → Bool
 is_unreserved b = is_ascii_alphanumeric b || list_any (λ c. c == b) (codes "-._~")
 
+-- a digit to base 16, from ten on an upper-case letter
 abbrev pub upper_digit : ℕ → ℕ
 upper_digit n = if nat_lt n 10 then 48 + n else 55 + n
 
@@ -22,9 +23,11 @@ upper_digit n = if nat_lt n 10 then 48 + n else 55 + n
 abbrev pub escaped_byte : ℕ → List ℕ
 escaped_byte b = if is_unreserved b then b ∷ [] else 37 ∷ upper_digit (b / 16) ∷ upper_digit (b % 16) ∷ []
 
+-- a text with its escapes
 abbrev pub escaped : List ℕ → List ℕ
 escaped t = flat_map escaped_byte (encode_utf8_all t)
 
+-- the error of a value that nothing stands for
 abbrev pub cannot_expand : {A : Type 0} → Got A
 cannot_expand = gots.Raised (text (codes "cannot expand"))
 
@@ -37,6 +40,7 @@ name_text (text t) = gots.Value (escaped t)
 name_text (list ds) = cannot_expand
 name_text (object ms) = cannot_expand
 
+-- a value, or what is raised
 abbrev pub answer_got : Result Value Value → Got Value
 answer_got (Ok v) = gots.Value v
 answer_got (Err m) = gots.Raised m
@@ -45,7 +49,7 @@ answer_got (Err m) = gots.Raised m
 abbrev pub named : List ℕ → Value → Got (List ℕ)
 named n v = and_then name_text (answer_got (index_of v (text n)))
 
--- a pattern on an input, where so much of a name was read whose `{` is behind
+-- a pattern on an input, where so much of a name was read whose `{` is behind; a `{` without its `}` is left out with what follows
 abbrev pub pattern_text : Option (List ℕ) → List ℕ → Value → Got (List ℕ)
 pattern_text o [] v = gots.Value []
 pattern_text None (c ∷ cs) v = if c == 123 then pattern_text (Some []) cs v else and_then (λ t. gots.Value (c ∷ t)) (pattern_text None cs v)
