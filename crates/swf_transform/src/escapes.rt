@@ -10,7 +10,8 @@ use swf_jq_builtins::error;
 use swf_text::{Text, word};
 use swf_value::{Json, JsonNode};
 
-/// The bytes of ASCII that do not stand for themselves: all but letters, digits, `-`, `.`, `_` and `~`.
+/// The bytes of ASCII that do not stand for themselves: all but letters, digits, `-`, `.`, `_` and
+/// `~`.
 const RESERVED: AsciiSet = ascii_set!(
     NON_ALPHANUMERIC
         .remove(b'-')
