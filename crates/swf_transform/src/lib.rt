@@ -1,12 +1,15 @@
-//! Templates: what they give on an input, and within which limits. Filters: which events they take, and what these agree in.
+//! Templates: what they give on an input, and within which limits. Filters: which events they take, and what these agree in. URIs: where
+//! a request goes.
 #![tactic(auto)]
 
 mod correlation;
+mod escapes;
 mod filling;
 mod filter;
 mod got;
 mod offer;
 mod telling;
+mod uris;
 
 pub use correlation::correlate;
 pub use filling::{fill, first, is_within, transform};
@@ -14,3 +17,4 @@ pub use filter::filter_matches;
 pub use got::Got;
 pub use offer::Offer;
 pub use telling::message;
+pub use uris::{add_query, expand_uri};
