@@ -1,0 +1,18 @@
+//! Messages of HTTP/1.1: read from any source of bytes, and written to any sink.
+#![tactic(auto)]
+
+mod fault;
+mod memory_sink;
+mod memory_source;
+mod message;
+mod send;
+mod sink;
+mod source;
+
+pub use fault::{HttpFault, SendFault};
+pub use memory_sink::MemorySink;
+pub use memory_source::MemorySource;
+pub use message::{Request, Response};
+pub use send::{write_request, write_response};
+pub use sink::Sink;
+pub use source::Source;
