@@ -2,3 +2,8 @@ pub mod Sources
 pub mod Sinks
 pub mod Memory
 pub mod Sent
+pub mod Targets
+pub mod Verdicts
+pub mod Heads
+pub mod Framing
+pub mod Messages

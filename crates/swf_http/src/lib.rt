@@ -2,17 +2,27 @@
 #![tactic(auto)]
 
 mod fault;
+mod grow;
+mod head;
+mod judge;
+mod laws;
+mod look;
 mod memory_sink;
 mod memory_source;
 mod message;
+mod parts;
+mod read;
 mod send;
 mod sink;
 mod source;
+mod target;
 
 pub use fault::{HttpFault, SendFault};
+pub use laws::requests_are_one;
 pub use memory_sink::MemorySink;
 pub use memory_source::MemorySource;
 pub use message::{Request, Response};
+pub use read::read_request;
 pub use send::{write_request, write_response};
 pub use sink::Sink;
 pub use source::Source;

@@ -1,0 +1,107 @@
+-- From what was read so far to what all bytes say.
+use Rattle.std.proofs.Common.{◌≡◌, ℕ, ◌+◌, ◌-◌, ◌<◌, ◌≤◌, List, [], ◌++◌, length, take, drop, refl, sym, ap, ◌∙◌, subst, true, false, arith, append_assoc, append-nil, length-append, length-drop, take-append-drop, nat_le, Option, Some, Result, Ok, Err}
+use Rattle.std.proofs.lemmas.Bool.{le-leb, false_from_ne_true, leb-true}
+use Rattle.std.proofs.lemmas.List.{take_all, drop-append-le, take-append-le}
+use Rattle.std.proofs.Math.Seq.{take-append_seam}
+use Rattle.httparse.specs.Grammar.{RequestHead, print_request, ReadsRequest}
+use Rattle.httparse.specs.Spans.{IsRequestAt}
+use Rattle.httparse.proofs.GrammarLemmas.{ReadsRequest-append}
+use Rattle.swf_http.specs.declared.fault.HttpFault.{HttpFault}
+use Rattle.swf_http.specs.declared.fault.HttpFault.TheVariants.{Read, Ended, TooLong, BadMessage, OutOfMemory}
+use Rattle.swf_http.specs.declared.look.Found.{Found}
+use Rattle.swf_http.specs.Heads.{BeginsHead, BeginsNone, SaysHead, IsFound, Settles}
+use Rattle.swf_http.specs.Messages.{body_of}
+use Rattle.swf_http.specs.Sources.{Grows, Splits, IsReadFault}
+use Rattle.swf_http.specs.Verdicts.{Verdict, whole, ended, long, bad, FaultSays}
+
+-- ---- the bytes that come
+
+pub splits_on : (x before after : List ℕ) (left next : Option (List ℕ)) (n : ℕ) → Splits x before left
+    → ((rest : List ℕ) → left ≡ Some rest → Grows n before after rest next) → Splits x after next
+splits_on x before after left next n splits grows =
+    let g = grows splits.rest splits.left_is in
+    record {
+      rest = drop n splits.rest;
+      left_is = g.left_is;
+      whole_is = splits.whole_is ∙ ap (λ (t : List ℕ). before ++ t) (sym (take-append-drop n splits.rest))
+          ∙ sym (append_assoc before (take n splits.rest) (drop n splits.rest))
+          ∙ ap (λ (t : List ℕ). t ++ drop n splits.rest) (sym g.grown);
+    }
+
+-- nothing came, and so these are all
+pub all_read : (x before after : List ℕ) (left next : Option (List ℕ)) (n : ℕ) → Splits x before left
+    → ((rest : List ℕ) → left ≡ Some rest → Grows n before after rest next) → n ≡ 0 → x ≡ after
+all_read x before after left next n splits grows none =
+    let g = grows splits.rest splits.left_is in
+    let after_is : after ≡ before = g.grown ∙ ap (λ (k : ℕ). before ++ take k splits.rest) none ∙ append-nil before in
+    splits.whole_is ∙ ap (λ (t : List ℕ). before ++ t) (g.at_end none) ∙ append-nil before ∙ sym after_is
+
+pub read_fault_says : {A : Type 0} (J : List ℕ → Verdict A → Type 0) (bytes : List ℕ) (e : HttpFault) → IsReadFault {T = ℕ} (Err e) → FaultSays J bytes e
+read_fault_says J bytes Read is = tt
+read_fault_says J bytes Ended is = absurd is
+read_fault_says J bytes TooLong is = absurd is
+read_fault_says J bytes BadMessage is = absurd is
+read_fault_says J bytes OutOfMemory is = tt
+
+-- ---- a head
+
+-- what was read is a first part of all bytes
+front_is : (y now : List ℕ) (left : Option (List ℕ)) → Splits y now left → take (length now) y ≡ now
+front_is y now left s = ap (λ (t : List ℕ). take (length now) t) s.whole_is ∙ take-append_seam now s.rest
+
+pub says_long : (room : ℕ) (y now : List ℕ) (left : Option (List ℕ)) → Splits y now left → length now ≤ room → room ≤ length now → BeginsHead now
+    → SaysHead room y long
+says_long room y now left s short full begins =
+    let same = ap length s.whole_is in
+    let size : length now ≡ room = omega arith in
+    (omega (arith, length-append {A = ℕ}, same, full), subst (λ (n : ℕ). BeginsHead (take n y)) size (rw (front_is y now left s) begins))
+
+pub says_ended : (room : ℕ) (y now : List ℕ) → y ≡ now → length now < room → BeginsHead now → SaysHead room y ended
+says_ended room y now same short begins = rw same (short, begins)
+
+pub settle_fault_says : (room : ℕ) (y now : List ℕ) (left : Option (List ℕ)) (e : HttpFault) → Splits y now left → length now ≤ room
+    → Settles now (Err e) → FaultSays (SaysHead room) y e
+settle_fault_says room y now left Read s short settles = absurd settles
+settle_fault_says room y now left Ended s short settles = absurd settles
+settle_fault_says room y now left TooLong s short settles = absurd settles
+settle_fault_says room y now left BadMessage s short settles = (length now, short, rw (front_is y now left s) settles)
+settle_fault_says room y now left OutOfMemory s short settles = tt
+
+pub settles_err : (a b : List ℕ) (e : HttpFault) → a ≡ b → Settles a (Err e) → Settles b (Err e)
+settles_err a b e bytes settles = subst (λ (t : List ℕ). Settles t (Err e)) bytes settles
+
+pub settles_ok : (a b : List ℕ) (o p : Option Found) → a ≡ b → o ≡ p → Settles a (Ok o) → Settles b (Ok p)
+settles_ok a b o p bytes found settles =
+    subst (λ (t : List ℕ). Settles t (Ok p)) bytes (subst (λ (v : Option Found). Settles a (Ok v)) found settles)
+
+-- a head that was found is that of all bytes
+pub says_whole : (room : ℕ) (y now : List ℕ) (left : Option (List ℕ)) (found : Found) (h : RequestHead) → Splits y now left
+    → IsRequestAt now found.headers.items found.spans h → found.spans.len ≤ length now → length now ≤ room
+    → SaysHead room y (whole h (drop found.spans.len y))
+says_whole room y now left found h s at within short =
+    let reads : ReadsRequest (now ++ s.rest) h (drop found.spans.len now ++ s.rest) =
+    ReadsRequest-append now h (drop found.spans.len now) s.rest at.reads in
+    let after : drop found.spans.len now ++ s.rest ≡ drop found.spans.len y =
+    sym (drop-append-le found.spans.len now s.rest within) ∙ ap (λ (t : List ℕ). drop found.spans.len t) (sym s.whole_is) in
+    (subst (λ (t : List ℕ). ReadsRequest t h (drop found.spans.len y)) (sym s.whole_is) (subst (ReadsRequest (now ++ s.rest) h) after reads),
+        omega (arith, at.len, within, short))
+
+-- ---- a body
+
+pub body_there : (y now body : List ℕ) (left : Option (List ℕ)) (at n : ℕ) → Splits y now left → at + n ≤ length now → body ≡ take n (drop at now)
+    → (a : List ℕ) × (rest : List ℕ) × (whole a rest ≡ body_of n (drop at y)) × (body ≡ a)
+body_there y now body left at n s enough is =
+    let same = ap length s.whole_is in
+    let fits : n ≤ length (drop at y) = omega (arith, length-append {A = ℕ}, length-drop at y, same, enough) in
+    let behind : drop at y ≡ drop at now ++ s.rest =
+    ap (λ (t : List ℕ). drop at t) s.whole_is ∙ drop-append-le at now s.rest (omega arith) in
+    let front : take n (drop at y) ≡ take n (drop at now) =
+    ap (λ (t : List ℕ). take n t) behind ∙ take-append-le n (drop at now) s.rest (omega (arith, length-drop at now)) in
+    let under : nat_le n (length (drop at y)) ≡ true = le-leb n (length (drop at y)) fits in
+    (take n (drop at y), drop n (drop at y), rw under refl, is ∙ sym front)
+
+pub body_short : (y now : List ℕ) (at n : ℕ) → y ≡ now → length now - at < n → ended ≡ body_of n (drop at y)
+body_short y now at n same short =
+    let less : length (drop at now) < n = omega (arith, length-drop at now, short) in
+    let fails : nat_le n (length (drop at now)) ≡ false = false_from_ne_true (nat_le n (length (drop at now))) (λ le. omega (arith, less, leb-true n (length (drop at now)) le)) in
+    rw (same, fails) refl
