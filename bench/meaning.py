@@ -75,7 +75,7 @@ Fault = namedtuple("Fault", "problem")
 
 # `at` is a place in a list of tasks, and `node` what is there.
 Seq = namedtuple("Seq", "at node")
-Each = namedtuple("Each", "items turn at node")
+Each = namedtuple("Each", "items number at node")
 Try = namedtuple("Try", "retries at node")
 Catch = namedtuple("Catch", "problem at node")
 Later = namedtuple("Later", "retries until")
@@ -380,9 +380,9 @@ def list_inside(task, inside):
     return tasks(task.place + ["do"], task.body["do"])
 
 
-def loop_names(task, items, turn):
+def loop_names(task, items, number):
     spelled = task.body["for"]
-    return {spelled.get("each", "item"): items[turn], spelled.get("at", "index"): turn}
+    return {spelled.get("each", "item"): items[number], spelled.get("at", "index"): number}
 
 
 def caught_name(task, problem):
@@ -540,7 +540,7 @@ class Instance:
 
     def names_inside(self, node):
         if isinstance(node.inside, Each):
-            return loop_names(node.task, node.inside.items, node.inside.turn)
+            return loop_names(node.task, node.inside.items, node.inside.number)
         if isinstance(node.inside, Catch):
             return caught_name(node.task, node.inside.problem)
         return {}
@@ -587,7 +587,7 @@ class Instance:
             items = value_of(body["for"]["in"], value, sight)
             if not isinstance(items, list):
                 raise Raised("cannot loop")
-            return self.turned(live, items, 0, value, around)
+            return self.iteration(live, items, 0, value, around)
         if "fork" in body:
             branches = tasks(task.place + ["fork", "branches"], body["fork"]["branches"])
             if len(strands(self.root)) - 1 + len(branches) > MOST_BRANCHES:
@@ -646,15 +646,15 @@ class Instance:
             self.context = transformed(exported, output, {**sight, "output": output})
         return Done(output, flow or body.get("then", "continue") if node.task.place else "continue")
 
-    def turned(self, node, items, turn, value, around):
-        """A turn of a loop, where there is an item for it and `while` is true of what the turn before gave."""
-        if turn == len(items):
+    def iteration(self, node, items, number, value, around):
+        """An iteration of a loop, where there is an item for it and `while` is true of what the one before gave."""
+        if number == len(items):
             return self.completed(node, value, around)
         body = node.task.body
-        sight = {**self.sight_within(node, around), **loop_names(node.task, items, turn)}
+        sight = {**self.sight_within(node, around), **loop_names(node.task, items, number)}
         if "while" in body and not is_true(body["while"], value, sight):
             return self.completed(node, value, around)
-        return node._replace(inside=Each(items, turn, 0, begun(node.task.place + ["do"], body["do"], value)))
+        return node._replace(inside=Each(items, number, 0, begun(node.task.place + ["do"], body["do"], value)))
 
     def gone_on(self, node, around):
         """Behind a task of a list: to the next, to one by its name, or out of the list or the workflow."""
@@ -671,7 +671,7 @@ class Instance:
         if at < len(listed):
             return node._replace(inside=inside._replace(at=at, node=Fresh(listed[at], output)))
         if isinstance(inside, Each):
-            return self.turned(node, inside.items, inside.turn + 1, output, around)
+            return self.iteration(node, inside.items, inside.number + 1, output, around)
         return self.completed(node, output, around)
 
     def caught(self, node, around, now):
@@ -711,7 +711,7 @@ class World:
 
     def __init__(self):
         self.labels, self.places, self.documents, self.latest = ([], {}, {}, {})
-        self.instances, self.turns, self.now = ({}, deque(), 0)
+        self.instances, self.queue, self.now = ({}, deque(), 0)
         self.outbox, self.takers = [], 0
 
     def add(self, label):
@@ -726,7 +726,7 @@ class World:
             document = self.documents[tuple(label["document"].split("/"))]
             self.instances[label["id"]] = Instance(label["id"], document, label["input"], self.now)
             self.places[label["id"]] = len(self.labels)
-            self.turns.append(label["id"])
+            self.queue.append(label["id"])
         elif kind == "moment":
             self.now = label["moment"]
             self.wake()
@@ -734,10 +734,10 @@ class World:
             self.places[label["event"]["source"], label["event"]["id"]] = len(self.labels)
             self.takers = self.offer(label["event"])
         else:
-            self.turns.remove(label["id"])
+            self.queue.remove(label["id"])
             sent = self.instances[label["id"]].step(label["strand"], self.now)
             if self.instances[label["id"]].can_go(self.now):
-                self.turns.append(label["id"])
+                self.queue.append(label["id"])
             if sent is not None:
                 self.outbox.append(sent)
                 self.offer(sent)
@@ -745,8 +745,8 @@ class World:
         return len(self.labels) - 1
 
     def wake(self):
-        """Gives a turn to each instance that can go on and has none."""
-        self.turns.extend(name for name, it in self.instances.items() if name not in self.turns and it.can_go(self.now))
+        """Puts each instance that can go on and does not stand there into the queue."""
+        self.queue.extend(name for name, it in self.instances.items() if name not in self.queue and it.can_go(self.now))
 
     def offer(self, event):
         """Offers an event to all, and counts each `listen` that takes it."""
@@ -851,11 +851,11 @@ def reply(_, line):
 def settle(world, line):
     most = 1000 if line == "settle" else number(words(line, 1)[0], 1, 1000000)
     for steps in range(most):
-        if not world.turns:
+        if not world.queue:
             return {"ok": "quiet", "steps": steps}
-        name = world.turns[0]
+        name = world.queue[0]
         world.add({"label": "step", "id": name, "strand": world.instances[name].next_strand(world.now)})
-    return {"ok": "budget", "steps": most} if world.turns else {"ok": "quiet", "steps": most}
+    return {"ok": "budget", "steps": most} if world.queue else {"ok": "quiet", "steps": most}
 
 
 def status(world, line):

@@ -18,7 +18,7 @@ small : (accepted : Bool) → (status_in accepted ≡ 0) ⊎ (status_in accepted
 small true = inl refl
 small false = inr refl
 
-module _ {S : Type 0} (moment : S → ℕ) (left_since : S → ℕ → Image → List Piece → Type 0) (said : S → Option (List Piece)) (may_leave : S → Image → Type 0) (taken : S → Option (List Input))
+module _ {W S : Type 0} (moment : S → ℕ) (left_since : S → ℕ → Image → List Piece → Type 0) (said : S → Option (List Piece)) (may_leave : S → Image → Type 0) (taken : S → Option (List (Input W)))
     (only_now : (s : S) (image : Image) (pieces : List Piece) → left_since s (moment s) image pieces → may_leave s image × IsSaid (said s) pieces)
     (old one : S) (silent : said one ≡ said old) (stop : NothingNew (may_leave old) (may_leave one))
     (time : ElapsesSilent (moment old) (moment one) (left_since old) (left_since one) (may_leave one) (said old)) where
@@ -29,7 +29,7 @@ module _ {S : Type 0} (moment : S → ℕ) (left_since : S → ℕ → Image →
       (λ image now left. let n = only_now old image now left in (n.0, n.1 pieces is))
       (λ image now may q. (stop image may, q pieces is))
 
-  silent_moments : (inputs more : List Input) (pieces : List Piece) → said old ≡ Some pieces → Leaves moment left_since old one (λ image now. may_leave old image × IsSaying inputs pieces more now)
+  silent_moments : (inputs more : List (Input W)) (pieces : List Piece) → said old ≡ Some pieces → Leaves moment left_since old one (λ image now. may_leave old image × IsSaying inputs pieces more now)
   silent_moments inputs more pieces is =
       weaker moment left_since old one (λ image now. may_leave old image × (now ≡ pieces)) (λ image now. may_leave old image × IsSaying inputs pieces more now)
       (came pieces is) (λ image now h. (h.0, inl h.1))
@@ -42,9 +42,9 @@ module _ {S : Type 0} (moment : S → ℕ) (left_since : S → ℕ → Image →
     short = λ six. silent;
   }
 
-  module _ (input : Input) (took_one : taken one ≡ option_map (λ (all : List Input). all ++ input ∷ []) (taken old)) where
-    all_taken : (inputs : List Input) → taken old ≡ Some inputs → taken one ≡ Some (inputs ++ input ∷ [])
-    all_taken inputs took = took_one ∙ ap (option_map (λ (all : List Input). all ++ input ∷ [])) took
+  module _ (input : Input W) (took_one : taken one ≡ option_map (λ (all : List (Input W)). all ++ input ∷ []) (taken old)) where
+    all_taken : (inputs : List (Input W)) → taken old ≡ Some inputs → taken one ≡ Some (inputs ++ input ∷ [])
+    all_taken inputs took = took_one ∙ ap (option_map (λ (all : List (Input W)). all ++ input ∷ [])) took
 
     -- nothing was said of it
     pub nothing_said : CheckRun moment left_since said may_leave taken old one 6
@@ -56,21 +56,21 @@ module _ {S : Type 0} (moment : S → ℕ) (left_since : S → ℕ → Image →
 
     module _ (new : S) (accepted : Bool) (bytes : List ℕ) (status : ℕ) (same : accepted ≡ (judged input).accepted) (lines : bytes ≡ (judged input).lines)
         (spoken : Spoken moment left_since said may_leave taken one new bytes (if accepted then 0 else 1) status) where
-      one_more : (inputs : List Input) → length (inputs ++ input ∷ []) ≡ length inputs + 1
+      one_more : (inputs : List (Input W)) → length (inputs ++ input ∷ []) ≡ length inputs + 1
       one_more inputs = length-append inputs (input ∷ [])
 
-      said_part : (inputs : List Input) (pieces now : List Piece) → SaidPart 0 bytes (length (inputs ++ input ∷ [])) pieces now → IsSaying inputs pieces (input ∷ []) now
+      said_part : (inputs : List (Input W)) (pieces now : List Piece) → SaidPart 0 bytes (length (inputs ++ input ∷ [])) pieces now → IsSaying inputs pieces (input ∷ []) now
       said_part inputs pieces now part =
           inr (input, refl, subst (λ (n : ℕ). SaidPart 0 (judged input).lines n pieces now) (one_more inputs) (subst (λ (b : List ℕ). SaidPart 0 b (length (inputs ++ input ∷ [])) pieces now) lines part))
 
-      moments_said : (inputs : List Input) → taken old ≡ Some inputs → (pieces : List Piece) → said old ≡ Some pieces → Leaves moment left_since old new (λ image now. may_leave old image × IsSaying inputs pieces (input ∷ []) now)
+      moments_said : (inputs : List (Input W)) → taken old ≡ Some inputs → (pieces : List Piece) → said old ≡ Some pieces → Leaves moment left_since old new (λ image now. may_leave old image × IsSaying inputs pieces (input ∷ []) now)
       moments_said inputs took pieces is =
           goes_on moment left_since old one new (λ image now. may_leave old image × (now ≡ pieces)) (λ image now. may_leave one image × SaidPart 0 bytes (length (inputs ++ input ∷ [])) pieces now) (λ image now. may_leave old image × IsSaying inputs pieces (input ∷ []) now)
           (came pieces is) (spoken.leaves (inputs ++ input ∷ []) (all_taken inputs took) pieces (silent ∙ is))
           (λ image now h. (h.0, inl h.1))
           (λ image now h. (stop image h.0, said_part inputs pieces now h.1))
 
-      checked : (inputs : List Input) → taken old ≡ Some inputs → (pieces : List Piece) → said old ≡ Some pieces → status ≡ (if accepted then 0 else 1) → IsChecked inputs pieces status (taken new) (said new)
+      checked : (inputs : List (Input W)) → taken old ≡ Some inputs → (pieces : List Piece) → said old ≡ Some pieces → status ≡ (if accepted then 0 else 1) → IsChecked inputs pieces status (taken new) (said new)
       checked inputs took pieces is done = record {
         input = input;
         status_is = done ∙ ap (λ (b : Bool). if b then 0 else 1) same;

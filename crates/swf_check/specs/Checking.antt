@@ -10,22 +10,22 @@ use Rattle.swf_host.specs.declared.host.Input.{Input}
 use Rattle.swf_check.specs.Verdict.{judged, status_of}
 
 -- the input was taken, and all that is said of it was said
-pub record IsChecked (first : List Input) (said : List Piece) (status : ℕ) (taken_now : Option (List Input)) (said_now : Option (List Piece)) : Type 0 where
-  pub input : Input
+pub record IsChecked {W : Type 0} (first : List (Input W)) (said : List Piece) (status : ℕ) (taken_now : Option (List (Input W))) (said_now : Option (List Piece)) : Type 0 where
+  pub input : Input W
   pub status_is : status ≡ status_of (judged input)
   pub taken : taken_now ≡ Some (first ++ input ∷ [])
   pub told : said_now ≡ Some (and_piece 0 (judged input).lines (length first + 1) said)
 
 -- nothing was said, or a part of what is said of the one input that was taken
-abbrev pub IsSaying : List Input → List Piece → List Input → List Piece → Type 0
-IsSaying first said more pieces = (pieces ≡ said) ⊎ ((input : Input) × (more ≡ input ∷ []) × SaidPart 0 (judged input).lines (length first + 1) said pieces)
+abbrev pub IsSaying : {W : Type 0} → List (Input W) → List Piece → List (Input W) → List Piece → Type 0
+IsSaying {W = W} first said more pieces = (pieces ≡ said) ⊎ ((input : Input W) × (more ≡ input ∷ []) × SaidPart 0 (judged input).lines (length first + 1) said pieces)
 
 -- at 4 the host's count of faults has risen by one, and else it stays
 pub record IsHostFault (status host host_now : ℕ) : Type 0 where
   pub failed : status ≡ 4 → RoseOnce host host_now
   pub done : status ≢ 4 → host_now ≡ host
 
-module _ {S : Type 0} (moment : S → ℕ) (left_since : S → ℕ → Image → List Piece → Type 0) (said : S → Option (List Piece)) (may_leave : S → Image → Type 0) (taken : S → Option (List Input)) where
+module _ {W S : Type 0} (moment : S → ℕ) (left_since : S → ℕ → Image → List Piece → Type 0) (said : S → Option (List Piece)) (may_leave : S → Image → Type 0) (taken : S → Option (List (Input W))) where
   -- these bytes were said to connection 0 and the status is this, or the host failed while they were said
   pub record Spoken (old new : S) (bytes : List ℕ) (done status : ℕ) : Type 0 where
     pub taken_same : taken new ≡ taken old
@@ -36,7 +36,7 @@ module _ {S : Type 0} (moment : S → ℕ) (left_since : S → ℕ → Image →
   pub record CheckRun (old new : S) (status : ℕ) : Type 0 where
     -- A stop at any moment leaves what a stop at entry may have left; nothing was said, or a part of what is said of the input.
     pub moments : ForSome (taken old) (λ inputs. ForSome (said old) (λ pieces.
-        (more : List Input) × (length more ≤ 1) × (taken new ≡ Some (inputs ++ more)) × Leaves moment left_since old new (λ image now. may_leave old image × IsSaying inputs pieces more now)))
+        (more : List (Input W)) × (length more ≤ 1) × (taken new ≡ Some (inputs ++ more)) × Leaves moment left_since old new (λ image now. may_leave old image × IsSaying inputs pieces more now)))
     -- At 0 and 1 all of it was said.
     pub finish : ForSome (taken old) (λ inputs. ForSome (said old) (λ pieces. (status ≡ 0) ⊎ (status ≡ 1) → IsChecked inputs pieces status (taken new) (said new)))
     -- For want of memory nothing is said.

@@ -10,7 +10,7 @@ use Rattle.swf_document.specs.FaultWord.{fault_word}
 use Rattle.swf_document.specs.declared.fault.Fault.{Fault}
 use Rattle.swf_validate.specs.Accepts.{faults}
 use Rattle.swf_host.specs.declared.host.Input.{Input}
-use Rattle.swf_host.specs.declared.host.Input.TheVariants.{Ask, TooLong, Closed}
+use Rattle.swf_host.specs.declared.host.Input.TheVariants.{Ask, TooLong, Work, Idle, Closed}
 use Rattle.swf_check.specs.declared.verdict.Verdict.{Verdict}
 
 -- whether the document is accepted, and the lines that say so or why not
@@ -48,9 +48,11 @@ abbrev pub judged_bytes : List ℕ → Judged
 judged_bytes bytes = if nat_lt most_bytes (length bytes) then refused (codes "too-long") else judged_value (read_within 64 bytes)
 
 -- the document is what is asked first; where nothing is, it has no bytes
-abbrev pub judged : Input → Judged
+abbrev pub judged : {W : Type 0} → Input W → Judged
 judged (Ask conn bytes) = judged_bytes bytes
 judged (TooLong conn) = refused (codes "too-long")
+judged (Work w) = judged_bytes []
+judged Idle = judged_bytes []
 judged Closed = judged_bytes []
 
 abbrev pub status_of : Judged → ℕ

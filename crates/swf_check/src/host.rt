@@ -1,6 +1,7 @@
 // A host over a reader and a writer, without a store: all that is read is one Ask.
-ghost use Rattle.std.specs.Prelude.{◌≡◌};
+ghost use Rattle.std.specs.Prelude.{◌≡◌, true, false, IfOk};
 ghost use Rattle.swf_store.specs.Faults.{RoseOnce};
+ghost use Rattle.swf_host.specs.Taken.{is_awaited};
 ghost use Rattle.swf_check.specs.WholeHost.{own_faults, missed};
 
 use std::alloc::Global;
@@ -46,7 +47,9 @@ impl<R: BufRead, W: Write> WholeHost<R, W> {
 }
 
 // Reads to the end, unless that is more than a document may have.
-fn read_whole<R: BufRead>(alloc: Global, reader: &mut R) -> io::Result<Input> {
+fn read_whole<W, R: BufRead>(alloc: Global, reader: &mut R) -> io::Result<Input<W>>
+    ensures { IfOk result (λ input. is_awaited false input ≡ true) }
+{
     let mut bytes = Vec::new(alloc);
     for _ in 0..u64::MAX {
         let at_hand = match reader.fill_buf() {
@@ -119,19 +122,26 @@ impl<R: BufRead, W: Write> Store for WholeHost<R, W> {
     }
 }
 
-impl<R: BufRead, W: Write> Host for WholeHost<R, W> {
-    ghost use Rattle.std.specs.Prelude.{None, refl};
+impl<G: Drop, D: Drop, R: BufRead, W: Write> Host<G, D> for WholeHost<R, W> {
+    ghost use Rattle.std.specs.Prelude.{None, Some, [], refl};
     ghost use Rattle.swf_check.specs.WholeHost.{own_faults};
 
     ghost taken = { λ _. None };
+
+    ghost given = { λ _. Some [] };
 
     ghost host_faults = { own_faults };
 
     ghost beside_taken = { λ _ _ _. refl };
 
+    ghost beside_given = { λ _ _ _. refl };
+
     ghost beside_faults = { λ _ _ same. same };
 
-    fn next(&mut self) -> Result<Input, Failed> {
+    fn next(&mut self, only_work: bool) -> Result<Input<D>, Failed> {
+        if only_work {
+            return Ok(Input::Idle);
+        }
         match read_whole(self.alloc, &mut self.reader) {
             Ok(input) => Ok(input),
             Err(_) => {
@@ -149,5 +159,9 @@ impl<R: BufRead, W: Write> Host for WholeHost<R, W> {
                 Err(Failed)
             }
         }
+    }
+
+    fn give(&mut self, job: G) -> Result<(), G> {
+        Err(job)
     }
 }

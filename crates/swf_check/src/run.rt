@@ -20,7 +20,7 @@ const HOST_FAULT: u8 = 4;
 const NO_MEMORY: u8 = 6;
 
 // Says a verdict to connection 0, and answers the status.
-fn tell<H: Host>(host: &mut H, verdict: Verdict) -> u8
+fn tell<G: Drop, W: Drop, H: Host<G, W>>(host: &mut H, verdict: Verdict) -> u8
     ensures tells { Spoken H.moment H.left_since H.said H.may_leave H.taken host.old host.new verdict.lines.items (if verdict.accepted then 0 else 1) result }
     ensures fault { IsHostFault result (H.host_faults host.old) (H.host_faults host.new) }
     ensures store_faults { H.store_faults host.new ≡ H.store_faults host.old }
@@ -35,7 +35,7 @@ fn tell<H: Host>(host: &mut H, verdict: Verdict) -> u8
 
 /// Takes one input, which is the whole document, says what is to be said of it, and answers the status: 0 where it is accepted and
 /// 1 where not, 4 where the host failed, and 6 for want of memory. It makes no call of the store.
-pub fn run_check<H: Host>(alloc: Global, host: &mut H) -> u8
+pub fn run_check<G: Drop, W: Drop, H: Host<G, W>>(alloc: Global, host: &mut H) -> u8
     ensures runs { CheckRun H.moment H.left_since H.said H.may_leave H.taken host.old host.new result }
     ensures which { (result ≡ 0) ⊎ (result ≡ 1) ⊎ (result ≡ 4) ⊎ (result ≡ 6) }
     ensures fault { IsHostFault result (H.host_faults host.old) (H.host_faults host.new) }
@@ -43,7 +43,7 @@ pub fn run_check<H: Host>(alloc: Global, host: &mut H) -> u8
     ensures calls { H.calls host.new ≡ H.calls host.old }
     ensures seen { H.seen host.new ≡ H.seen host.old }
 {
-    match host.next() {
+    match host.next(false) {
         Ok(input) => match judge(alloc, &input) {
             Ok(verdict) => tell(host, verdict),
             Err(_) => NO_MEMORY,

@@ -100,12 +100,12 @@ fn bytes_verdict(alloc: Global, bytes: &[u8]) -> Result<Verdict, AllocError>
 }
 
 /// What is said of an input.
-pub fn judge(alloc: Global, input: &Input) -> Result<Verdict, AllocError>
+pub fn judge<W>(alloc: Global, input: &Input<W>) -> Result<Verdict, AllocError>
     ensures { IsJudged (judged input.now) result }
 {
     match input {
         Input::Ask(_, bytes) => bytes_verdict(alloc, bytes.as_slice()),
         Input::TooLong(_) => refused(alloc, "too-long"),
-        Input::Closed => bytes_verdict(alloc, &[]),
+        Input::Work(_) | Input::Idle | Input::Closed => bytes_verdict(alloc, &[]),
     }
 }

@@ -49,6 +49,7 @@ use Rattle.swf_protocol.specs.declared.command.CommandFault.{CommandFault}
 use Rattle.swf_protocol.specs.declared.command.CommandFault.TheVariants as faults
 use Rattle.swf_protocol.specs.declared.reply.Reply.{Reply}
 use Rattle.swf_protocol.specs.declared.reply.Reply.TheVariants.{Memory}
+use Rattle.swf_cli.specs.Faults.{MayAddFault}
 use Rattle.swf_cli.specs.Follows.{AddsNext, MayAdd}
 use Rattle.swf_cli.specs.Steps.{CommandDone, LineDone, Passes, Stand, IsFilled, IsBreak, or_memory, queried}
 use Rattle.swf_cli.specs.Settling.{steps_in}
@@ -246,6 +247,19 @@ module _ {S : Type 0} (moment : S → ℕ) (left_since : S → ℕ → Image →
   settle_breaks limit old new before after (Damaged at) h = absurd h
   settle_breaks limit old new before after (Full size) h = tt
   settle_breaks limit old new before after OutOfMemory h = tt
+
+  -- nor is it damage
+  pub submit_faults : (o : Outcome) (old new : S) (before after : Core) (fault : EngineFault) → Submits moment left_since said may_leave seen old new before after (label_of before.world o) (Err fault) → MayAddFault (or_memory fault)
+  submit_faults o old new before after Store h = tt
+  submit_faults o old new before after (Damaged at) h = h
+  submit_faults o old new before after (Full size) h = tt
+  submit_faults o old new before after OutOfMemory h = tt
+
+  pub settle_faults : (limit : ℕ) (old new : S) (before after : Core) (fault : EngineFault) → Settles moment left_since said may_leave seen old new before after limit (Err fault) → MayAddFault (or_memory fault)
+  settle_faults limit old new before after Store h = tt
+  settle_faults limit old new before after (Damaged at) h = h
+  settle_faults limit old new before after (Full size) h = tt
+  settle_faults limit old new before after OutOfMemory h = tt
 
   -- what a settling answers, where the world is that of the history with its steps
   settled_in : (history steps : List Label) (limit : ℕ) (w : World) (settled : HasSettled) → world_at (history ++ steps) ≡ w → AreSteps steps limit → length steps ≡ settled.steps

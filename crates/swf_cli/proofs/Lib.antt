@@ -1,6 +1,7 @@
 pub mod WordLemmas
 pub mod SettlingLemmas
 pub mod AnswerLemmas
+pub mod FaultLemmas
 pub mod TurnLemmas
 pub mod TurnListLemmas
 pub mod SessionLemmas

@@ -29,12 +29,12 @@ use Rattle.swf_cli.proofs.HeardLemmas.{tells_closed}
 use Rattle.swf_cli.proofs.SessionLemmas.{at_rest}
 
 -- before the first turn
-pub at_start : (words : Words) (before : List Label) (first : List Input) (told : List Piece) (image : Image) (pieces : List Piece) → IsHistory image before → pieces ≡ told → IsMoment session words before first told first [] image pieces
-at_start words before first told image pieces stands same =
-    subst (λ (l : List Input). IsMoment session words before first told l [] image pieces) (append-nil first)
+pub at_start : {W : Type 0} (words : Words) (before : List Label) (first : List (Input W)) (told : List Piece) (image : Image) (pieces : List Piece) → IsHistory image before → pieces ≡ told → IsMoment session words before first told first [] image pieces
+at_start {W = W} words before first told image pieces stands same =
+    subst (λ (l : List (Input W)). IsMoment session words before first told l [] image pieces) (append-nil first)
     (at_rest words before first told [] tt tt refl image pieces (subst (λ (l : List Label). IsHistory image l) (sym (append-nil before)) stands) (same ∙ sym (append-nil told)))
 
-module _ {S : Type 0} (moment : S → ℕ) (left_since : S → ℕ → Image → List Piece → Type 0) (said : S → Option (List Piece)) (may_leave : S → Image → Type 0) (seen : S → Option Image) (taken : S → Option (List Input))
+module _ {W S : Type 0} (moment : S → ℕ) (left_since : S → ℕ → Image → List Piece → Type 0) (said : S → Option (List Piece)) (may_leave : S → Image → Type 0) (seen : S → Option Image) (taken : S → Option (List (Input W)))
     (only_now : (s : S) (image : Image) (pieces : List Piece) → left_since s (moment s) image pieces → may_leave s image × IsSaid (said s) pieces) where
   -- engine and store stand for the history that the image stood for
   pub opened_stand : (opened : S) (image : Image) (engine : Core) (before : List Label) → IsHistory image before → IsOpened moment left_since said may_leave seen image opened engine → Stand moment left_since said may_leave seen opened engine before
@@ -76,7 +76,7 @@ module _ {S : Type 0} (moment : S → ℕ) (left_since : S → ℕ → Image →
   closed_same OutOfMemory opened new status never tells = tells
 
   -- damage, where the status says so
-  pub closed_damaged : (fault : EngineFault) (opened new : S) (image : Image) (first : List Input) (told : List Piece) (status h h_now t t_now : ℕ) → taken opened ≡ Some first → said opened ≡ Some told
+  pub closed_damaged : (fault : EngineFault) (opened new : S) (image : Image) (first : List (Input W)) (told : List Piece) (status h h_now t t_now : ℕ) → taken opened ≡ Some first → said opened ≡ Some told
       → ((at : ℕ) → fault ≡ Damaged at → IsDamaged image at) → Tells moment left_since said may_leave seen taken fault opened new status → ClosesWith fault status h h_now t t_now → status ≡ 5
       → (at : ℕ) × IsDamaged image at × TellsDamage at first told (taken new) (said new)
   closed_damaged Store opened new image first told status h h_now t t_now took is damaged tells closes five = absurd (omega (arith, closes.0))
@@ -177,7 +177,7 @@ module _ {S : Type 0} (moment : S → ℕ) (left_since : S → ℕ → Image →
         → ((image : Image) → seen old ≡ Some image → IsOpened moment left_since said may_leave seen image opened engine)
         → ((image : Image) → seen old ≡ Some image → (history : List Label) → IsHistory image history → OpensHistory moment left_since said may_leave seen old opened history)
         → RunsOn session words moment left_since said may_leave seen taken opened new engine [] status → (IsSound moment left_since said may_leave seen opened engine → status ≢ 5)
-        → ((first : List Input) → taken opened ≡ Some first → (pieces : List Piece) → said opened ≡ Some pieces → TurnsTell session said taken new first pieces status)
+        → ((first : List (Input W)) → taken opened ≡ Some first → (pieces : List Piece) → said opened ≡ Some pieces → TurnsTell session said taken seen new first pieces status)
         → SessionRun moment left_since said may_leave seen taken words old new status
     session_opened old opened new engine status same silent opens any_moment ran sound heard = record {
       moments = λ image is first took told said_is before stands.
@@ -191,14 +191,14 @@ module _ {S : Type 0} (moment : S → ℕ) (left_since : S → ℕ → Image →
       heard = λ first took told is. inl (heard first (same ∙ took) told (silent ∙ is));
     }
       where
-        start : (image : Image) → seen old ≡ Some image → (first : List Input) → taken old ≡ Some first → (told : List Piece) → said old ≡ Some told → (before : List Label) → IsHistory image before
+        start : (image : Image) → seen old ≡ Some image → (first : List (Input W)) → taken old ≡ Some first → (told : List Piece) → said old ≡ Some told → (before : List Label) → IsHistory image before
             → (start : S) × LeavesOnly moment left_since said old start (may_leave old) × Leaves moment left_since start opened (IsMoment session words before first told first [])
         start image is first took told said_is before stands =
             let stood = opened_stand opened image engine before stands (opens image is) in
             opened_start (IsMoment session words before first told first []) before told (at_start words before first told) old opened said_is silent
             (λ left may. left_history stood.0 (may_leave opened) engine before stood.2 left may) (any_moment image is before stands)
 
-        run : (image : Image) → (is : seen old ≡ Some image) → (first : List Input) → (took : taken old ≡ Some first) → (told : List Piece) → (said_is : said old ≡ Some told) → (before : List Label) → (stands : IsHistory image before)
+        run : (image : Image) → (is : seen old ≡ Some image) → (first : List (Input W)) → (took : taken old ≡ Some first) → (told : List Piece) → (said_is : said old ≡ Some told) → (before : List Label) → (stands : IsHistory image before)
             → Ran session words moment left_since said may_leave seen taken (start image is first took told said_is before stands).0 new before first [] told status
         run image is first took told said_is before stands =
             let s = start image is first took told said_is before stands in

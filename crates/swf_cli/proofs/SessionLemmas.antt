@@ -24,13 +24,13 @@ use Rattle.swf_cli.proofs.TurnListLemmas.{flat_map-snoc, allowed-snoc, open-snoc
 use Rattle.swf_cli.specs.declared.words.Words.{Words}
 
 module _ (words : Words) where
-  module _ (before : List Label) (first : List Input) (told : List Piece) where
+  module _ {W : Type 0} (before : List Label) (first : List (Input W)) (told : List Piece) where
     -- a moment behind these turns
-    moment_at : (answered unsaid : List Turn) (opened : List Input) (part : List Label) (all : List Input) (image : Image) (pieces : List Piece)
+    moment_at : (answered unsaid : List (Turn W)) (opened : List (Input W)) (part : List Label) (all : List (Input W)) (image : Image) (pieces : List Piece)
         → AreTurns session words None before (answered ++ unsaid) → IsGoing session words before (answered ++ unsaid) opened [] part → answers_of (answered ++ unsaid) ≡ []
         → IsHistory image (before ++ (labels_of (answered ++ unsaid) ++ part)) → all ≡ first ++ (inputs_of (answered ++ unsaid) ++ opened) → IsLastUnsaid unsaid opened
         → (pieces ≡ told ++ pieces_of session (length first) answered)
-        ⊎ ((last : Piece) × (pieces ≡ told ++ (pieces_of session (length first) answered ++ last ∷ [])) × IsLastPiece session (replies_of session unsaid) opened last)
+        ⊎ ((last : Piece) × (pieces ≡ told ++ (pieces_of session (length first) answered ++ last ∷ [])) × IsLastPiece (session {W = W}) (replies_of session unsaid) opened last)
         → IsMoment session words before first told all [] image pieces
     moment_at answered unsaid opened part all image pieces allowed going quiet stands all_is one are = record {
       history = before ++ (labels_of (answered ++ unsaid) ++ part);
@@ -38,7 +38,7 @@ module _ (words : Words) where
       once = once_of_legal (before ++ (labels_of (answered ++ unsaid) ++ part)) stands.legal;
       taken = inputs_of (answered ++ unsaid) ++ opened;
       later = [];
-      taken_are = all_is ∙ ap (λ (l : List Input). first ++ l) (sym (append-nil (inputs_of (answered ++ unsaid) ++ opened)));
+      taken_are = all_is ∙ ap (λ (l : List (Input W)). first ++ l) (sym (append-nil (inputs_of (answered ++ unsaid) ++ opened)));
       asked = [];
       unasked = [];
       asked_are = refl;
@@ -63,14 +63,14 @@ module _ (words : Words) where
     }
 
     -- a moment of a session is one where more inputs were taken
-    later_moment : (all more : List Input) (image : Image) (pieces : List Piece) → IsMoment session words before first told all [] image pieces → IsMoment session words before first told (all ++ more) [] image pieces
+    later_moment : (all more : List (Input W)) (image : Image) (pieces : List Piece) → IsMoment session words before first told all [] image pieces → IsMoment session words before first told (all ++ more) [] image pieces
     later_moment all more image pieces m = record {
       history = m.history;
       stands = m.stands;
       once = m.once;
       taken = m.taken;
       later = m.later ++ more;
-      taken_are = ap (λ (l : List Input). l ++ more) m.taken_are ∙ append_assoc first (m.taken ++ m.later) more ∙ ap (λ (l : List Input). first ++ l) (append_assoc m.taken m.later more);
+      taken_are = ap (λ (l : List (Input W)). l ++ more) m.taken_are ∙ append_assoc first (m.taken ++ m.later) more ∙ ap (λ (l : List (Input W)). first ++ l) (append_assoc m.taken m.later more);
       asked = m.asked;
       unasked = m.unasked;
       asked_are = m.asked_are;
@@ -82,36 +82,36 @@ module _ (words : Words) where
       pieces_are = m.pieces_are;
     }
 
-    module _ (ts : List Turn) (allowed : AreTurns session words None before ts) (opens : AreOpen session ts) (quiet : answers_of ts ≡ []) where
+    module _ (ts : List (Turn W)) (allowed : AreTurns session words None before ts) (opens : AreOpen session ts) (quiet : answers_of ts ≡ []) where
       -- between two turns
       pub at_rest : (image : Image) (pieces : List Piece) → IsHistory image (before ++ labels_of ts) → pieces ≡ told ++ pieces_of session (length first) ts → IsMoment session words before first told (first ++ inputs_of ts) [] image pieces
       at_rest image pieces stands are =
           let e : ts ++ [] ≡ ts = append-nil ts in
           moment_at ts [] [] [] (first ++ inputs_of ts) image pieces
           (subst (AreTurns session words None before) (sym e) allowed) (refl, refl) (ap answers_of e ∙ quiet)
-          (subst (λ (us : List Turn). IsHistory image (before ++ (labels_of us ++ []))) (sym e) (subst (λ (l : List Label). IsHistory image (before ++ l)) (sym (append-nil (labels_of ts))) stands))
-          (ap (λ (l : List Input). first ++ l) (sym (append-nil (inputs_of (ts ++ [])) ∙ ap inputs_of e)))
+          (subst (λ (us : List (Turn W)). IsHistory image (before ++ (labels_of us ++ []))) (sym e) (subst (λ (l : List Label). IsHistory image (before ++ l)) (sym (append-nil (labels_of ts))) stands))
+          (ap (λ (l : List (Input W)). first ++ l) (sym (append-nil (inputs_of (ts ++ [])) ∙ ap inputs_of e)))
           tt
           (inl are)
 
       -- an input was taken, and a part of its labels is there
-      at_open : (input : Input) (more : List Input) (part : List Label) (image : Image) (pieces : List Piece) → AreMore session more → MayBegin session words None [] (before ++ labels_of ts) input part
+      at_open : (input : Input W) (more : List (Input W)) (part : List Label) (image : Image) (pieces : List Piece) → AreMore session more → MayBegin session words None [] (before ++ labels_of ts) input part
           → IsHistory image ((before ++ labels_of ts) ++ part)
-          → (pieces ≡ told ++ pieces_of session (length first) ts) ⊎ ((last : Piece) × (pieces ≡ told ++ (pieces_of session (length first) ts ++ last ∷ [])) × IsLastPiece session [] (input ∷ more) last)
+          → (pieces ≡ told ++ pieces_of session (length first) ts) ⊎ ((last : Piece) × (pieces ≡ told ++ (pieces_of session (length first) ts ++ last ∷ [])) × IsLastPiece (session {W = W}) [] (input ∷ more) last)
           → IsMoment session words before first told ((first ++ inputs_of ts) ++ input ∷ more) [] image pieces
       at_open input more part image pieces belong may stands are =
           let e : ts ++ [] ≡ ts = append-nil ts in
           moment_at ts [] (input ∷ more) part ((first ++ inputs_of ts) ++ input ∷ more) image pieces
           (subst (AreTurns session words None before) (sym e) allowed)
-          (subst (λ (us : List Turn). AreOpen session us × AreMore session more × MayBegin session words (last_told session None (inputs_of us)) [] (before ++ labels_of us) input part) (sym e)
+          (subst (λ (us : List (Turn W)). AreOpen session us × AreMore session more × MayBegin session words (last_told session None (inputs_of us)) [] (before ++ labels_of us) input part) (sym e)
           (opens, belong, subst (λ (l : Option ℕ). MayBegin session words l [] (before ++ labels_of ts) input part) (sym (session_last None (inputs_of ts))) may))
           (ap answers_of e ∙ quiet)
-          (subst (λ (us : List Turn). IsHistory image (before ++ (labels_of us ++ part))) (sym e) (subst (λ (l : List Label). IsHistory image l) (append_assoc before (labels_of ts) part) stands))
-          (append_assoc first (inputs_of ts) (input ∷ more) ∙ ap (λ (us : List Turn). first ++ (inputs_of us ++ input ∷ more)) (sym e))
+          (subst (λ (us : List (Turn W)). IsHistory image (before ++ (labels_of us ++ part))) (sym e) (subst (λ (l : List Label). IsHistory image l) (append_assoc before (labels_of ts) part) stands))
+          (append_assoc first (inputs_of ts) (input ∷ more) ∙ ap (λ (us : List (Turn W)). first ++ (inputs_of us ++ input ∷ more)) (sym e))
           tt
           are
 
-      module _ (t : Turn) (silent : t.answers ≡ []) (belong : AreMore session t.more) (answered : IsAnswered session words None t.answers (before ++ labels_of ts) t.first t.labels t.reply) where
+      module _ (t : Turn W) (silent : t.answers ≡ []) (belong : AreMore session t.more) (answered : IsAnswered session words None t.answers (before ++ labels_of ts) t.first t.labels t.reply) where
         labels_join : before ++ labels_of (ts ++ t ∷ []) ≡ (before ++ labels_of ts) ++ t.labels
         labels_join = ap (λ (l : List Label). before ++ l) (flat_map-snoc (λ u. u.labels) ts t) ∙ sym (append_assoc before (labels_of ts) t.labels)
 
@@ -124,13 +124,13 @@ module _ (words : Words) where
 
         -- the turn's labels are there, and its reply was not said, or only a part of it
         at_unsaid : (image : Image) (pieces : List Piece) → IsHistory image ((before ++ labels_of ts) ++ t.labels)
-            → (pieces ≡ told ++ pieces_of session (length first) ts) ⊎ ((last : Piece) × (pieces ≡ told ++ (pieces_of session (length first) ts ++ last ∷ [])) × IsLastPiece session (replies_of session (t ∷ [])) [] last)
+            → (pieces ≡ told ++ pieces_of session (length first) ts) ⊎ ((last : Piece) × (pieces ≡ told ++ (pieces_of session (length first) ts ++ last ∷ [])) × IsLastPiece (session {W = W}) (replies_of session (t ∷ [])) [] last)
             → IsMoment session words before first told ((first ++ inputs_of ts) ++ inputs_in t) [] image pieces
         at_unsaid image pieces stands are =
             moment_at ts (t ∷ []) [] [] ((first ++ inputs_of ts) ++ inputs_in t) image pieces
             turns_join (refl, refl) quiet_join
             (subst (λ (l : List Label). IsHistory image (before ++ l)) (sym (append-nil (labels_of (ts ++ t ∷ [])))) (subst (λ (l : List Label). IsHistory image l) (sym labels_join) stands))
-            (inputs_join first ts t ∙ ap (λ (l : List Input). first ++ l) (sym (append-nil (inputs_of (ts ++ t ∷ [])))))
+            (inputs_join first ts t ∙ ap (λ (l : List (Input W)). first ++ l) (sym (append-nil (inputs_of (ts ++ t ∷ [])))))
             refl
             are
 
@@ -142,9 +142,9 @@ module _ (words : Words) where
             let f : us ++ [] ≡ us = append-nil us in
             moment_at us [] [] [] ((first ++ inputs_of ts) ++ inputs_in t) image pieces
             (subst (AreTurns session words None before) (sym f) turns_join) (refl, refl) (ap answers_of f ∙ quiet_join)
-            (subst (λ (vs : List Turn). IsHistory image (before ++ (labels_of vs ++ []))) (sym f)
+            (subst (λ (vs : List (Turn W)). IsHistory image (before ++ (labels_of vs ++ []))) (sym f)
             (subst (λ (l : List Label). IsHistory image (before ++ l)) (sym (append-nil (labels_of us))) (subst (λ (l : List Label). IsHistory image l) (sym labels_join) stands)))
-            (inputs_join first ts t ∙ ap (λ (l : List Input). first ++ l) (sym (append-nil (inputs_of (us ++ [])) ∙ ap inputs_of f)))
+            (inputs_join first ts t ∙ ap (λ (l : List (Input W)). first ++ l) (sym (append-nil (inputs_of (us ++ [])) ∙ ap inputs_of f)))
             tt
             (inl are)
 
@@ -163,7 +163,7 @@ module _ (words : Words) where
             (inr (
               piece,
               are ∙ append_assoc told (pieces_of session (length first) ts) (piece ∷ []),
-              subst (λ (hs : List Heard). IsLastPiece session (hs ++ []) [] piece) (sym e) (refl, record { rest = x ∷ xs; joined = joined; some = λ none. cc }),
+              subst (λ (hs : List Heard). IsLastPiece (session {W = W}) (hs ++ []) [] piece) (sym e) (refl, record { rest = x ∷ xs; joined = joined; some = λ none. cc }),
             ))
 
         -- what a stop in a turn leaves is a moment
@@ -175,7 +175,7 @@ module _ (words : Words) where
             ⊎_elim (λ same. at_unsaid image pieces h.2 (inl same)) (λ more. said_some h.0 h.3.part h.3.rest image pieces h.1 h.3.begins h.2 more) h.3.told
 
       -- the same of a turn that the store or a full journal broke
-      broken_moment : (input : Input) (more : List Input) (group : List Label) (line : List Heard) → AreMore session more
+      broken_moment : (input : Input W) (more : List (Input W)) (group : List Label) (line : List Heard) → AreMore session more
           → ((part : List Label) → Begins part group → MayBegin session words None [] (before ++ labels_of ts) input part)
           → ((one : Heard) → line ≡ one ∷ [] → (size : ℕ) × (one.bytes ≡ full_bytes size) × (one.conn ≡ conn_of input)) → (image : Image) (pieces : List Piece)
           → TurnLeft (before ++ labels_of ts) (length (first ++ inputs_of ts) + length (input ∷ more)) (told ++ pieces_of session (length first) ts) group line image pieces
@@ -188,10 +188,10 @@ module _ (words : Words) where
           ⊎_elim (λ same. at_open input more group image pieces belong all h.2 (inl same))
           (λ said. at_open input more group image pieces belong all h.2 (inr (piece, said ∙ append_assoc told (pieces_of session (length first) ts) (piece ∷ []), (full.2, full.0, h.3.rest, sym full.1 ∙ h.3.begins)))) h.3.told
 
-  module _ {S : Type 0} (moment : S → ℕ) (left_since : S → ℕ → Image → List Piece → Type 0) (said : S → Option (List Piece)) (may_leave : S → Image → Type 0) (seen : S → Option Image) (taken : S → Option (List Input)) where
+  module _ {W S : Type 0} (moment : S → ℕ) (left_since : S → ℕ → Image → List Piece → Type 0) (said : S → Option (List Piece)) (may_leave : S → Image → Type 0) (seen : S → Option Image) (taken : S → Option (List (Input W))) where
     -- the session so far, in so many turns, since some state
-    pub record SoFar (start now : S) (engine : Core) (before : List Label) (first : List Input) (told : List Piece) (count : ℕ) : Type 0 where
-      pub turns : List Turn
+    pub record SoFar (start now : S) (engine : Core) (before : List Label) (first : List (Input W)) (told : List Piece) (count : ℕ) : Type 0 where
+      pub turns : List (Turn W)
       pub allowed : AreTurns session words None before turns
       pub opens : AreOpen session turns
       pub quiet : answers_of turns ≡ []
@@ -201,7 +201,7 @@ module _ (words : Words) where
       pub leaves : Leaves moment left_since start now (IsMoment session words before first told (first ++ inputs_of turns) [])
       pub many : length turns ≡ count
 
-    pub begins : (start old : S) (engine : Core) (before : List Label) (first : List Input) (told : List Piece) → taken old ≡ Some first → said old ≡ Some told
+    pub begins : (start old : S) (engine : Core) (before : List Label) (first : List (Input W)) (told : List Piece) → taken old ≡ Some first → said old ≡ Some told
         → Stand moment left_since said may_leave seen old engine before → Leaves moment left_since start old (IsMoment session words before first told first []) → SoFar start old engine before first told 0
     begins start old engine before first told took is stands leaves = record {
       turns = [];
@@ -211,20 +211,20 @@ module _ (words : Words) where
       stands = subst (Stand moment left_since said may_leave seen old engine) (sym (append-nil before)) stands;
       took = took ∙ ap Some (sym (append-nil first));
       said_all = is ∙ ap Some (sym (append-nil told));
-      leaves = subst (λ (l : List Input). Leaves moment left_since start old (IsMoment session words before first told l [])) (sym (append-nil first)) leaves;
+      leaves = subst (λ (l : List (Input W)). Leaves moment left_since start old (IsMoment session words before first told l [])) (sym (append-nil first)) leaves;
       many = refl;
     }
 
-    module _ (start now new : S) (engine after : Core) (before : List Label) (first : List Input) (told : List Piece) (count : ℕ) (s : SoFar start now engine before first told count) where
+    module _ (start now new : S) (engine after : Core) (before : List Label) (first : List (Input W)) (told : List Piece) (count : ℕ) (s : SoFar start now engine before first told count) where
       -- the moments of one turn more
-      moments : (P : Image → List Piece → Type 0) (more : List Input) → Leaves moment left_since now new P
+      moments : (P : Image → List Piece → Type 0) (more : List (Input W)) → Leaves moment left_since now new P
           → ((image : Image) (pieces : List Piece) → P image pieces → IsMoment session words before first told ((first ++ inputs_of s.turns) ++ more) [] image pieces)
           → Leaves moment left_since start new (IsMoment session words before first told ((first ++ inputs_of s.turns) ++ more) [])
       moments P more run p =
           goes_on moment left_since start now new (IsMoment session words before first told (first ++ inputs_of s.turns) []) P (IsMoment session words before first told ((first ++ inputs_of s.turns) ++ more) []) s.leaves run
           (λ image pieces m. later_moment before first told (first ++ inputs_of s.turns) more image pieces m) p
 
-      turn_moments : (t : Turn) → t.answers ≡ [] → IsAnswered session words None t.answers (before ++ labels_of s.turns) t.first t.labels t.reply
+      turn_moments : (t : Turn W) → t.answers ≡ [] → IsAnswered session words None t.answers (before ++ labels_of s.turns) t.first t.labels t.reply
           → Turned session words None [] moment left_since said may_leave seen taken now new (before ++ labels_of s.turns) (first ++ inputs_of s.turns) (told ++ pieces_of session (length first) s.turns) t.first t.more t.labels (owed session t)
           → Leaves moment left_since start new (IsMoment session words before first told ((first ++ inputs_of s.turns) ++ inputs_in t) [])
       turn_moments t silent a turned =
@@ -245,7 +245,7 @@ module _ (words : Words) where
         whole_said = w.said_all ∙ ap Some (pieces_join session first told s.turns w.turn)
 
         whole_leaves : Leaves moment left_since start new (IsMoment session words before first told (first ++ inputs_of (s.turns ++ w.turn ∷ [])) [])
-        whole_leaves = subst (λ (l : List Input). Leaves moment left_since start new (IsMoment session words before first told l [])) (inputs_join first s.turns w.turn) (turn_moments w.turn w.asked w.answered w.turned)
+        whole_leaves = subst (λ (l : List (Input W)). Leaves moment left_since start new (IsMoment session words before first told l [])) (inputs_join first s.turns w.turn) (turn_moments w.turn w.asked w.answered w.turned)
 
       -- a turn that goes on
       pub turn_goes_on : Whole session words None [] moment left_since said may_leave seen taken now new after (before ++ labels_of s.turns) (first ++ inputs_of s.turns) (told ++ pieces_of session (length first) s.turns) false
@@ -289,12 +289,12 @@ module _ (words : Words) where
       which_stopped : Nothing moment left_since said may_leave seen taken now new (before ++ labels_of s.turns) (first ++ inputs_of s.turns) (told ++ pieces_of session (length first) s.turns)
           ⊎ Unsaid session words None [] moment left_since said may_leave seen taken now new (before ++ labels_of s.turns) (first ++ inputs_of s.turns) (told ++ pieces_of session (length first) s.turns)
           ⊎ Broken session words None [] moment left_since said may_leave seen taken now new (before ++ labels_of s.turns) (first ++ inputs_of s.turns) (told ++ pieces_of session (length first) s.turns)
-          → (more : List Input) × IsOneTurn session more × (taken new ≡ Some ((first ++ inputs_of s.turns) ++ more)) × Leaves moment left_since start new (IsMoment session words before first told ((first ++ inputs_of s.turns) ++ more) [])
+          → (more : List (Input W)) × IsOneTurn session more × (taken new ≡ Some ((first ++ inputs_of s.turns) ++ more)) × Leaves moment left_since start new (IsMoment session words before first told ((first ++ inputs_of s.turns) ++ more) [])
       which_stopped (inl n) = (
         [],
         tt,
         n.took ∙ ap Some (sym (append-nil (first ++ inputs_of s.turns))),
-        subst (λ (l : List Input). Leaves moment left_since start new (IsMoment session words before first told l [])) (sym (append-nil (first ++ inputs_of s.turns))) (
+        subst (λ (l : List (Input W)). Leaves moment left_since start new (IsMoment session words before first told l [])) (sym (append-nil (first ++ inputs_of s.turns))) (
             goes_on moment left_since start now new (IsMoment session words before first told (first ++ inputs_of s.turns) []) (λ image pieces. IsHistory image (before ++ labels_of s.turns) × (pieces ≡ told ++ pieces_of session (length first) s.turns))
             (IsMoment session words before first told (first ++ inputs_of s.turns) []) s.leaves n.leaves (λ image pieces m. m)
             (λ image pieces h. at_rest before first told s.turns s.allowed s.opens s.quiet image pieces h.0 h.1)),
@@ -351,7 +351,7 @@ module _ (words : Words) where
           }
 
     -- the most turns were made
-    pub all_made : (start now : S) (engine : Core) (before : List Label) (first : List Input) (told : List Piece) (count : ℕ) → SoFar start now engine before first told count → count ≡ most_turns
+    pub all_made : (start now : S) (engine : Core) (before : List Label) (first : List (Input W)) (told : List Piece) (count : ℕ) → SoFar start now engine before first told count → count ≡ most_turns
         → Ran session words moment left_since said may_leave seen taken start now before first [] told 0
     all_made start now engine before first told count s e = record {
       all = first ++ inputs_of s.turns;

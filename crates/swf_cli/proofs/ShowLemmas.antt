@@ -40,6 +40,7 @@ use Rattle.swf_cli.specs.Shown.{lines_in, lines_of, line_pieces, IsShowing, Show
 use Rattle.swf_cli.specs.Statuses.{IsBlamed}
 use Rattle.swf_cli.specs.Steps.{Stand, Says, queried}
 use Rattle.swf_cli.specs.Turns.{query_reply}
+use Rattle.swf_cli.proofs.HeardLemmas.{closed_heard}
 use Rattle.swf_cli.proofs.OpeningLemmas.{opened_stand, opened_start, failed_runs, closed_same, closed_other, opened_damage, closed_damage}
 
 -- what stands behind some lines
@@ -70,7 +71,7 @@ next_of labels w done more n id are many is =
     ∙ ap (λ (o : Option (List ℕ)). option_map (λ (id : List ℕ). query_reply (answer labels w (Status id))) o) (sym is))
 
 -- some lines are said, and nothing more
-pub showing_whole : (before : List Label) (first : List Input) (told : List Piece) (done more : List Reply) (image : Image) (pieces : List Piece) → lines_of before ≡ done ++ more → IsHistory image before
+pub showing_whole : {W : Type 0} (before : List Label) (first : List (Input W)) (told : List Piece) (done more : List Reply) (image : Image) (pieces : List Piece) → lines_of before ≡ done ++ more → IsHistory image before
     → pieces ≡ told ++ line_pieces (length first) done → IsShowing before first told image pieces
 showing_whole before first told done more image pieces are stands is = record {
   stands = stands;
@@ -82,7 +83,7 @@ showing_whole before first told done more image pieces are stands is = record {
 }
 
 -- before the first line
-pub showing_first : (before : List Label) (first : List Input) (told : List Piece) (image : Image) (pieces : List Piece) → IsHistory image before → pieces ≡ told → IsShowing before first told image pieces
+pub showing_first : {W : Type 0} (before : List Label) (first : List (Input W)) (told : List Piece) (image : Image) (pieces : List Piece) → IsHistory image before → pieces ≡ told → IsShowing before first told image pieces
 showing_first before first told image pieces stands is = showing_whole before first told [] (lines_of before) image pieces refl stands (is ∙ sym (append-nil told))
 
 -- one line more
@@ -92,7 +93,7 @@ pieces_more n told done r =
     ∙ ap (λ (l : List Piece). told ++ l) (sym (map-append (λ (x : Reply). record { conn = 0; bytes = spoken x; inputs = n }) done (r ∷ [])))
 
 -- while a line is said
-pub showing_part : (before : List Label) (first : List Input) (told : List Piece) (done more : List Reply) (r : Reply) (image : Image) (pieces : List Piece) → lines_of before ≡ done ++ r ∷ more → IsHistory image before
+pub showing_part : {W : Type 0} (before : List Label) (first : List (Input W)) (told : List Piece) (done more : List Reply) (r : Reply) (image : Image) (pieces : List Piece) → lines_of before ≡ done ++ r ∷ more → IsHistory image before
     → SaidPart 0 (spoken r) (length first) (told ++ line_pieces (length first) done) pieces → IsShowing before first told image pieces
 showing_part before first told done more r image pieces are stands s = by s.rest s.begins s.told
   where
@@ -125,9 +126,9 @@ pub shown_blamed : (status h0 h h_now t0 t t_now : ℕ) → h ≡ h0 → t ≡ t
 shown_blamed status h0 h h_now t0 t t_now e f b =
     subst (λ (n : ℕ). IsBlamed status n h_now t0 t_now) e (subst (λ (n : ℕ). IsBlamed status h h_now n t_now) f b)
 
-module _ {S : Type 0} (moment : S → ℕ) (left_since : S → ℕ → Image → List Piece → Type 0) (said : S → Option (List Piece)) (may_leave : S → Image → Type 0) (seen : S → Option Image) (taken : S → Option (List Input)) where
+module _ {W S : Type 0} (moment : S → ℕ) (left_since : S → ℕ → Image → List Piece → Type 0) (said : S → Option (List Piece)) (may_leave : S → Image → Type 0) (seen : S → Option Image) (taken : S → Option (List (Input W))) where
   -- so many lines were said, since some state
-  pub record ShownSoFar (start now : S) (before : List Label) (first : List Input) (told : List Piece) (count : ℕ) : Type 0 where
+  pub record ShownSoFar (start now : S) (before : List Label) (first : List (Input W)) (told : List Piece) (count : ℕ) : Type 0 where
     pub done : List Reply
     pub more : List Reply
     pub lines_are : lines_of before ≡ done ++ more
@@ -136,7 +137,7 @@ module _ {S : Type 0} (moment : S → ℕ) (left_since : S → ℕ → Image →
     pub said_all : said now ≡ Some (told ++ line_pieces (length first) done)
     pub leaves : Leaves moment left_since start now (IsShowing before first told)
 
-  pub shown_none : (start old : S) (before : List Label) (first : List Input) (told : List Piece) → taken old ≡ Some first → said old ≡ Some told → Leaves moment left_since start old (IsShowing before first told)
+  pub shown_none : (start old : S) (before : List Label) (first : List (Input W)) (told : List Piece) → taken old ≡ Some first → said old ≡ Some told → Leaves moment left_since start old (IsShowing before first told)
       → ShownSoFar start old before first told 0
   shown_none start old before first told took is leaves = record {
     done = [];
@@ -167,7 +168,7 @@ module _ {S : Type 0} (moment : S → ℕ) (left_since : S → ℕ → Image →
   lines_as : (engine : Core) (host : S) (before : List Label) → Stand moment left_since said may_leave seen host engine before → lines_of before ≡ lines_in before engine.world
   lines_as engine host before stand = ap (lines_in before) (world_of_run before engine.world stand.2.run)
 
-  module _ (start old now new : S) (engine : Core) (before : List Label) (first : List Input) (told : List Piece) (count : ℕ) (id : List ℕ) (r : After)
+  module _ (start old now new : S) (engine : Core) (before : List Label) (first : List (Input W)) (told : List Piece) (count : ℕ) (id : List ℕ) (r : After)
       (stand : Stand moment left_since said may_leave seen old engine before) (stop : NothingNew (may_leave old) (may_leave now)) (s : ShownSoFar start now before first told count)
       (is : Some id ≡ option_map (λ (i : Instance). i.id) (slice_get engine.world.instances count))
       (says : Says moment left_since said may_leave seen taken now new 0 (spoken (query_reply (answer before engine.world (Status id)))) GoesOn r) where
@@ -212,7 +213,7 @@ module _ {S : Type 0} (moment : S → ℕ) (left_since : S → ℕ → Image →
     }
 
   -- want of memory between two lines
-  pub shown_lacks : (start now : S) (before : List Label) (first : List Input) (told : List Piece) (count : ℕ) → ShownSoFar start now before first told count → Showed moment left_since said may_leave seen taken start now before first told 6
+  pub shown_lacks : (start now : S) (before : List Label) (first : List (Input W)) (told : List Piece) (count : ℕ) → ShownSoFar start now before first told count → Showed moment left_since said may_leave seen taken start now before first told 6
   shown_lacks start now before first told count s = record {
     took = s.took;
     leaves = s.leaves;
@@ -221,7 +222,7 @@ module _ {S : Type 0} (moment : S → ℕ) (left_since : S → ℕ → Image →
   }
 
   -- all lines were said
-  pub shown_all : (start old now : S) (engine : Core) (before : List Label) (first : List Input) (told : List Piece) (count : ℕ) → Stand moment left_since said may_leave seen old engine before → NothingNew (may_leave old) (may_leave now)
+  pub shown_all : (start old now : S) (engine : Core) (before : List Label) (first : List (Input W)) (told : List Piece) (count : ℕ) → Stand moment left_since said may_leave seen old engine before → NothingNew (may_leave old) (may_leave now)
       → ShownSoFar start now before first told count → None ≡ option_map (λ (i : Instance). i.id) (slice_get engine.world.instances count) → Showed moment left_since said may_leave seen taken start now before first told 0
   shown_all start old now engine before first told count stand stop s is =
       let none : s.more ≡ [] = next_of before engine.world s.done s.more count None (sym (lines_as engine old before stand) ∙ s.lines_are) s.many is in
@@ -251,16 +252,17 @@ module _ {S : Type 0} (moment : S → ℕ) (left_since : S → ℕ → Image →
       finish = λ image is first took told said_is before stands zero. (run image is first took told said_is before stands).finish zero;
       short = λ image is first took told said_is before stands which. ⊎_elim (λ three. absurd (no_fault three)) (λ six. (run image is first took told said_is before stands).short six) which;
       damage = opened_damage moment left_since said may_leave seen taken only_now old opened new engine status opens (λ stand. sound);
+      heard = λ first took told is five. absurd (sound five);
     }
       where
-        start : (image : Image) → seen old ≡ Some image → (first : List Input) → taken old ≡ Some first → (told : List Piece) → said old ≡ Some told → (before : List Label) → IsHistory image before
+        start : (image : Image) → seen old ≡ Some image → (first : List (Input W)) → taken old ≡ Some first → (told : List Piece) → said old ≡ Some told → (before : List Label) → IsHistory image before
             → (start : S) × LeavesOnly moment left_since said old start (may_leave old) × Leaves moment left_since start opened (IsShowing before first told)
         start image is first took told said_is before stands =
             let stood = opened_stand moment left_since said may_leave seen taken only_now opened image engine before stands (opens image is) in
             opened_start moment left_since said may_leave seen taken only_now (IsShowing before first told) before told (showing_first before first told) old opened said_is silent
             (λ left may. left_history stood.0 (may_leave opened) engine before stood.2 left may) (any_moment image is before stands)
 
-        run : (image : Image) → (is : seen old ≡ Some image) → (first : List Input) → (took : taken old ≡ Some first) → (told : List Piece) → (said_is : said old ≡ Some told) → (before : List Label) → (stands : IsHistory image before)
+        run : (image : Image) → (is : seen old ≡ Some image) → (first : List (Input W)) → (took : taken old ≡ Some first) → (told : List Piece) → (said_is : said old ≡ Some told) → (before : List Label) → (stands : IsHistory image before)
             → Showed moment left_since said may_leave seen taken (start image is first took told said_is before stands).0 new before first told status
         run image is first took told said_is before stands =
             let s = start image is first took told said_is before stands in
@@ -287,6 +289,7 @@ module _ {S : Type 0} (moment : S → ℕ) (left_since : S → ℕ → Image →
         told = ap said (unchanged image is before stands) ∙ silent ∙ said_is ∙ ap Some (sym (append-nil told));
       };
       damage = closed_damage moment left_since said may_leave seen taken only_now fault old opened new status h h_now t t_now same silent kept damaged untouched tells closes;
+      heard = λ first took told is. closed_heard moment left_since said may_leave seen taken fault opened new first told status h h_now t t_now (same ∙ took) (silent ∙ is) tells closes;
     }
       where
         unchanged : (image : Image) → seen old ≡ Some image → (before : List Label) → IsHistory image before → new ≡ opened

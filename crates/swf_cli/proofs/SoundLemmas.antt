@@ -53,7 +53,7 @@ module _ (words : Words) {S : Type 0} (moment : S → ℕ) (left_since : S → �
   sound_asked_as read one two engine after result is e s ask = subst (λ (r : Result Answered EngineFault). AfterAsk two after r) e (sound_asked read one two engine after result s ask)
 
   -- what was said leaves the store as it was
-  pub sound_said : (taken : S → Option (List Input)) (old new : S) (engine : Core) (conn : ℕ) (line : List ℕ) (done r : After) → (done ≡ Stops 5 → ⊥) → Says moment left_since said may_leave seen taken old new conn line done r
+  pub sound_said : {W : Type 0} (taken : S → Option (List (Input W))) (old new : S) (engine : Core) (conn : ℕ) (line : List ℕ) (done r : After) → (done ≡ Stops 5 → ⊥) → Says moment left_since said may_leave seen taken old new conn line done r
       → IsSound moment left_since said may_leave seen old engine → StaysSound moment left_since said may_leave seen new engine r
   sound_said taken old new engine conn line done GoesOn never says s = sound_stays old new engine says.seen_same says.stop s
   sound_said taken old new engine conn line done Ends never says s = tt

@@ -147,30 +147,33 @@ module _ (words : Words) where
     stand_none : (one : S) (image : Image) (engine : Core) (history : List Label) → seen one ≡ Some image → StandFor image (may_leave one) engine history → Stand moment left_since said may_leave seen one engine (history ++ [])
     stand_none one image engine history is stands = (image, is, subst (λ (l : List Label). StandFor image (may_leave one) engine l) (sym (append-nil history)) stands)
 
-    module _ (taken : S → Option (List Input)) where
+    module _ {W : Type 0} (taken : S → Option (List (Input W))) where
+      abbrev alone : Input W → List (Input W)
+      alone i = i ∷ []
+
       -- an input was taken
-      pub record Comes (old one : S) (input : Input) : Type 0 where
-        pub took : taken one ≡ option_map (λ (all : List Input). all ++ input ∷ []) (taken old)
+      pub record Comes (old one : S) (input : Input W) : Type 0 where
+        pub took : taken one ≡ option_map (λ (all : List (Input W)). all ++ input ∷ []) (taken old)
         pub same : seen one ≡ seen old
         pub silent : said one ≡ said old
         pub stop : NothingNew (may_leave old) (may_leave one)
         pub time : ElapsesSilent (moment old) (moment one) (left_since old) (left_since one) (may_leave one) (said old)
 
       -- how many inputs were taken with one more
-      one_more : (inputs : List Input) (input : Input) → length (inputs ++ input ∷ []) ≡ length inputs + length (input ∷ [])
+      one_more : (inputs : List (Input W)) (input : Input W) → length (inputs ++ input ∷ []) ≡ length inputs + length (input ∷ [])
       one_more inputs input = length-append inputs (input ∷ [])
 
-      all_taken : (old one : S) (input : Input) (inputs : List Input) → Comes old one input → taken old ≡ Some inputs → taken one ≡ Some (inputs ++ input ∷ [])
-      all_taken old one input inputs c is = c.took ∙ ap (option_map (λ (all : List Input). all ++ input ∷ [])) is
+      all_taken : (old one : S) (input : Input W) (inputs : List (Input W)) → Comes old one input → taken old ≡ Some inputs → taken one ≡ Some (inputs ++ input ∷ [])
+      all_taken old one input inputs c is = c.took ∙ ap (option_map (λ (all : List (Input W)). all ++ input ∷ [])) is
 
       -- what is said behind an input that was taken
-      say_leaves : (two new : S) (conn : ℕ) (line : List ℕ) (done r : After) (inputs : List Input) (input : Input) (pieces : List Piece) → Says moment left_since said may_leave seen taken two new conn line done r
+      say_leaves : (two new : S) (conn : ℕ) (line : List ℕ) (done r : After) (inputs : List (Input W)) (input : Input W) (pieces : List Piece) → Says moment left_since said may_leave seen taken two new conn line done r
           → taken two ≡ Some (inputs ++ input ∷ []) → said two ≡ Some pieces
           → Leaves moment left_since two new (λ left now. may_leave two left × SaidPart conn line (length inputs + length (input ∷ [])) pieces now)
       say_leaves two new conn line done r inputs input pieces s took is =
           subst (λ (n : ℕ). Leaves moment left_since two new (λ left now. may_leave two left × SaidPart conn line n pieces now)) (one_more inputs input) (s.leaves (inputs ++ input ∷ []) took pieces is)
 
-      say_whole : (two new : S) (conn : ℕ) (line : List ℕ) (done r : After) (inputs : List Input) (input : Input) (pieces : List Piece) → Says moment left_since said may_leave seen taken two new conn line done r
+      say_whole : (two new : S) (conn : ℕ) (line : List ℕ) (done r : After) (inputs : List (Input W)) (input : Input W) (pieces : List Piece) → Says moment left_since said may_leave seen taken two new conn line done r
           → taken two ≡ Some (inputs ++ input ∷ []) → said two ≡ Some pieces → r ≡ done → said new ≡ Some (and_piece conn line (length inputs + length (input ∷ [])) pieces)
       say_whole two new conn line done r inputs input pieces s took is e =
           s.whole (inputs ++ input ∷ []) took pieces is e ∙ ap (λ (n : ℕ). Some (and_piece conn line n pieces)) (one_more inputs input)
@@ -180,11 +183,11 @@ module _ (words : Words) where
       stand_said two new conn line done r after history s stand = (stand.0, s.seen_same ∙ stand.1, still_stands stand.0 (may_leave two) (may_leave new) after history stand.2 s.stop)
 
       -- a turn that said something, or a part of it
-      turned_said : (old two new : S) (after : Core) (history : List Label) (inputs : List Input) (pieces : List Piece) (input : Input) (group : List Label) (one : Heard) (done r : After)
-          → ((part : List Label) → Begins part group → MayBegin session words None [] history input part) → taken two ≡ Some (inputs ++ input ∷ []) → said two ≡ Some pieces
+      turned_said : (old two new : S) (after : Core) (history : List Label) (inputs : List (Input W)) (pieces : List Piece) (input : Input W) (group : List Label) (one : Heard) (done r : After)
+          → ((part : List Label) → Begins part group → MayBegin (session {W = W}) words None [] history input part) → taken two ≡ Some (inputs ++ input ∷ []) → said two ≡ Some pieces
           → Leaves moment left_since old two (TurnLeft history (length inputs + length (input ∷ [])) pieces group (one ∷ [])) → Stand moment left_since said may_leave seen two after (history ++ group)
           → Says moment left_since said may_leave seen taken two new one.conn one.bytes done r
-          → Turned session words None [] moment left_since said may_leave seen taken old new history inputs pieces input [] group (one ∷ [])
+          → Turned (session {W = W}) words None [] moment left_since said may_leave seen taken old new history inputs pieces input [] group (one ∷ [])
       turned_said old two new after history inputs pieces input group one done r may took is first stand s = record {
         may = may;
         belong = tt;
@@ -193,12 +196,12 @@ module _ (words : Words) where
       }
 
       -- a turn whose reply is said
-      pub said_done : (old two new : S) (after : Core) (history : List Label) (inputs : List Input) (pieces : List Piece) (input : Input) (labels : List Label) (reply : Reply) (over : Bool) (r : After)
-          → ((part : List Label) → Begins part labels → MayBegin session words None [] history input part) → taken two ≡ Some (inputs ++ input ∷ []) → said two ≡ Some pieces
-          → Leaves moment left_since old two (TurnLeft history (length inputs + length (input ∷ [])) pieces labels (heard session (conn_of input) (Some reply))) → Stand moment left_since said may_leave seen two after (history ++ labels)
-          → IsAnswered session words None [] history input labels (Some reply) → session.ends input ≡ over
+      pub said_done : (old two new : S) (after : Core) (history : List Label) (inputs : List (Input W)) (pieces : List Piece) (input : Input W) (labels : List Label) (reply : Reply) (over : Bool) (r : After)
+          → ((part : List Label) → Begins part labels → MayBegin (session {W = W}) words None [] history input part) → taken two ≡ Some (inputs ++ input ∷ []) → said two ≡ Some pieces
+          → Leaves moment left_since old two (TurnLeft history (length inputs + length (input ∷ [])) pieces labels (heard (session {W = W}) (conn_of input) (Some reply))) → Stand moment left_since said may_leave seen two after (history ++ labels)
+          → IsAnswered (session {W = W}) words None [] history input labels (Some reply) → (session {W = W}).ends input ≡ over
           → Says moment left_since said may_leave seen taken two new (conn_of input) (spoken reply) (follows_end over) r
-          → TurnDone session words None [] moment left_since said may_leave seen taken old new after history inputs pieces r
+          → TurnDone (session {W = W}) words None [] moment left_since said may_leave seen taken old new after history inputs pieces r
       said_done old two new after history inputs pieces input labels reply over GoesOn may took is first stand a e s =
           let on : GoesOn ≡ follows_end over = ⊎_elim (λ d. d) (λ f. ⊎_elim (λ g. absurd (cc)) (λ g. absurd (cc)) f) s.which in record {
             turn = record { first = input; more = []; answers = []; labels = labels; reply = Some reply };
@@ -233,12 +236,12 @@ module _ (words : Words) where
           )
 
       -- a turn that tells that the journal is full
-      pub full_done : (old two new : S) (after : Core) (history : List Label) (inputs : List Input) (pieces : List Piece) (conn : ℕ) (line : List ℕ) (labels : List Label) (size : ℕ) (r : After)
-          → ((part : List Label) → Begins part labels → MayBegin session words None [] history (Asks conn line) part) → taken two ≡ Some (inputs ++ Asks conn line ∷ []) → said two ≡ Some pieces
-          → Leaves moment left_since old two (TurnLeft history (length inputs + length (Asks conn line ∷ [])) pieces labels ((record { conn = conn; bytes = full_bytes size }) ∷ [])) → Stand moment left_since said may_leave seen two after (history ++ labels)
-          → IsFilled (AsksNext words None [] history (session.reads line) labels) after size
+      pub full_done : (old two new : S) (after : Core) (history : List Label) (inputs : List (Input W)) (pieces : List Piece) (conn : ℕ) (line : List ℕ) (labels : List Label) (size : ℕ) (r : After)
+          → ((part : List Label) → Begins part labels → MayBegin (session {W = W}) words None [] history (Asks conn line) part) → taken two ≡ Some (inputs ++ Asks conn line ∷ []) → said two ≡ Some pieces
+          → Leaves moment left_since old two (TurnLeft history (length inputs + length (alone (Asks conn line))) pieces labels ((record { conn = conn; bytes = full_bytes size }) ∷ [])) → Stand moment left_since said may_leave seen two after (history ++ labels)
+          → IsFilled (AsksNext words None [] history ((session {W = W}).reads line) labels) after size
           → Says moment left_since said may_leave seen taken two new conn (full_bytes size) (Stops 7) r
-          → TurnDone session words None [] moment left_since said may_leave seen taken old new after history inputs pieces r
+          → TurnDone (session {W = W}) words None [] moment left_since said may_leave seen taken old new after history inputs pieces r
       full_done old two new after history inputs pieces conn line labels size GoesOn may took is first stand filled s = absurd (⊎_elim (λ d. cc) (λ f. ⊎_elim (λ g. cc) (λ g. cc) f) s.which)
       full_done old two new after history inputs pieces conn line labels size Ends may took is first stand filled s = absurd (⊎_elim (λ d. cc) (λ f. ⊎_elim (λ g. cc) (λ g. cc) f) s.which)
       full_done old two new after history inputs pieces conn line labels size (Stops k) may took is first stand filled s =
@@ -267,49 +270,49 @@ module _ (words : Words) where
             (λ not_four not_seven. ⊎_elim (λ seven. absurd (not_seven seven)) (λ f. ⊎_elim (λ six. s.quiet (ap Stops six) ∙ is) (λ four. absurd (not_four four)) f) status),
           )
 
-      module _ (old one : S) (engine : Core) (image : Image) (history : List Label) (inputs : List Input) (pieces : List Piece)
+      module _ (old one : S) (engine : Core) (image : Image) (history : List Label) (inputs : List (Input W)) (pieces : List Piece)
           (seen_is : seen old ≡ Some image) (taken_is : taken old ≡ Some inputs) (said_is : said old ≡ Some pieces) (stands : StandFor image (may_leave old) engine history) where
-        come_leaves : (input : Input) → Comes old one input → Leaves moment left_since old one (λ left now. IsHistory left history × (now ≡ pieces))
+        come_leaves : (input : Input W) → Comes old one input → Leaves moment left_since old one (λ left now. IsHistory left history × (now ≡ pieces))
         come_leaves input came = next_leaves old one image engine history pieces stands said_is came.stop came.time
 
-        come_stand : (input : Input) → Comes old one input → Stand moment left_since said may_leave seen one engine (history ++ [])
+        come_stand : (input : Input W) → Comes old one input → Stand moment left_since said may_leave seen one engine (history ++ [])
         come_stand input came = stand_none one image engine history (came.same ∙ seen_is) (still_stands image (may_leave old) (may_leave one) engine history stands came.stop)
 
         -- the answer to an Ask
         answered_as : (two : S) (after : Core) (conn : ℕ) (line : List ℕ) (result : Result Answered EngineFault) (is : Result Answered EngineFault) → Comes old one (Asks conn line)
-            → AskDone words None [] moment left_since said may_leave seen (session.reads line) one two engine after (reply_of result) → result ≡ is
-            → CommandDone moment left_since said may_leave seen (MayAsk words None [] history (session.reads line)) (AsksNext words None [] history (session.reads line)) (AskTurn words None [] history (session.reads line)) history one two after (reply_of is)
+            → AskDone words None [] moment left_since said may_leave seen ((session {W = W}).reads line) one two engine after (reply_of result) → result ≡ is
+            → CommandDone moment left_since said may_leave seen (MayAsk words None [] history ((session {W = W}).reads line)) (AsksNext words None [] history ((session {W = W}).reads line)) (AskTurn words None [] history ((session {W = W}).reads line)) history one two after (reply_of is)
         answered_as two after conn line result is came ask e =
-            subst (λ (x : Result Answered EngineFault). CommandDone moment left_since said may_leave seen (MayAsk words None [] history (session.reads line)) (AsksNext words None [] history (session.reads line)) (AskTurn words None [] history (session.reads line)) history one two after (reply_of x)) e
+            subst (λ (x : Result Answered EngineFault). CommandDone moment left_since said may_leave seen (MayAsk words None [] history ((session {W = W}).reads line)) (AsksNext words None [] history ((session {W = W}).reads line)) (AskTurn words None [] history ((session {W = W}).reads line)) history one two after (reply_of x)) e
             (ask image (came.same ∙ seen_is) history (still_stands image (may_leave old) (may_leave one) engine history stands came.stop))
 
         pub asked_reply : (two new : S) (after : Core) (conn : ℕ) (line : List ℕ) (result : Result Answered EngineFault) (answered : Answered) (r : After) → Comes old one (Asks conn line)
-            → AskDone words None [] moment left_since said may_leave seen (session.reads line) one two engine after (reply_of result) → result ≡ Ok answered → answered.ends ≡ session.ends (Asks conn line)
+            → AskDone words None [] moment left_since said may_leave seen ((session {W = W}).reads line) one two engine after (reply_of result) → result ≡ Ok answered → answered.ends ≡ (session {W = W}).ends (Asks conn line)
             → taken two ≡ taken one → said two ≡ said one → Says moment left_since said may_leave seen taken two new conn (spoken answered.reply) (follows_end answered.ends) r
-            → TurnDone session words None [] moment left_since said may_leave seen taken old new after history inputs pieces r
+            → TurnDone (session {W = W}) words None [] moment left_since said may_leave seen taken old new after history inputs pieces r
         asked_reply two new after conn line result answered r came ask e over took silent says =
             let done = answered_as two after conn line result (Ok answered) came ask e in
             said_done old two new after history inputs pieces (Asks conn line) done.0 answered.reply answered.ends r
-            (λ part b. ask_may history (session.reads line) done.0 answered.reply part done.1 b)
+            (λ part b. ask_may history ((session {W = W}).reads line) done.0 answered.reply part done.1 b)
             (took ∙ all_taken old one (Asks conn line) inputs came taken_is) (silent ∙ came.silent ∙ said_is)
-            (begun old one two history done.0 (length inputs + length (Asks conn line ∷ [])) pieces (heard session conn (Some answered.reply)) (come_leaves (Asks conn line) came) (came.silent ∙ said_is) done.2)
+            (begun old one two history done.0 (length inputs + length (alone (Asks conn line))) pieces (heard (session {W = W}) conn (Some answered.reply)) (come_leaves (Asks conn line) came) (came.silent ∙ said_is) done.2)
             done.3 done.1 (sym over) says
 
         pub asked_full : (two new : S) (after : Core) (conn : ℕ) (line : List ℕ) (result : Result Answered EngineFault) (size : ℕ) (r : After) → Comes old one (Asks conn line)
-            → AskDone words None [] moment left_since said may_leave seen (session.reads line) one two engine after (reply_of result) → result ≡ Err (Full size)
+            → AskDone words None [] moment left_since said may_leave seen ((session {W = W}).reads line) one two engine after (reply_of result) → result ≡ Err (Full size)
             → taken two ≡ taken one → said two ≡ said one → Says moment left_since said may_leave seen taken two new conn (full_bytes size) (Stops 7) r
-            → TurnDone session words None [] moment left_since said may_leave seen taken old new after history inputs pieces r
+            → TurnDone (session {W = W}) words None [] moment left_since said may_leave seen taken old new after history inputs pieces r
         asked_full two new after conn line result size r came ask e took silent says =
             let done = answered_as two after conn line result (Err (Full size)) came ask e in
             full_done old two new after history inputs pieces conn line done.0 size r
             done.1
             (took ∙ all_taken old one (Asks conn line) inputs came taken_is) (silent ∙ came.silent ∙ said_is)
-            (begun old one two history done.0 (length inputs + length (Asks conn line ∷ [])) pieces ((record { conn = conn; bytes = full_bytes size }) ∷ []) (come_leaves (Asks conn line) came) (came.silent ∙ said_is) done.2)
+            (begun old one two history done.0 (length inputs + length (alone (Asks conn line))) pieces ((record { conn = conn; bytes = full_bytes size }) ∷ []) (come_leaves (Asks conn line) came) (came.silent ∙ said_is) done.2)
             done.3 done.4 says
 
         pub asked_broken : (two : S) (after : Core) (conn : ℕ) (line : List ℕ) (result : Result Answered EngineFault) → Comes old one (Asks conn line)
-            → AskDone words None [] moment left_since said may_leave seen (session.reads line) one two engine after (reply_of result) → result ≡ Err Store → taken two ≡ taken one → said two ≡ said one
-            → TurnDone session words None [] moment left_since said may_leave seen taken old two after history inputs pieces (Stops 3)
+            → AskDone words None [] moment left_since said may_leave seen ((session {W = W}).reads line) one two engine after (reply_of result) → result ≡ Err Store → taken two ≡ taken one → said two ≡ said one
+            → TurnDone (session {W = W}) words None [] moment left_since said may_leave seen taken old two after history inputs pieces (Stops 3)
         asked_broken two after conn line result came ask e took silent =
             let done = answered_as two after conn line result (Err Store) came ask e in (
               inr (inr (record {
@@ -321,7 +324,7 @@ module _ (words : Words) where
                   may = done.1;
                   belong = tt;
                   took = took ∙ all_taken old one (Asks conn line) inputs came taken_is;
-                  leaves = begun old one two history done.0 (length inputs + length (Asks conn line ∷ [])) pieces [] (come_leaves (Asks conn line) came) (came.silent ∙ said_is) done.2;
+                  leaves = begun old one two history done.0 (length inputs + length (alone (Asks conn line))) pieces [] (come_leaves (Asks conn line) came) (came.silent ∙ said_is) done.2;
                 };
                 is_full = λ h f. absurd (cc);
               })),
@@ -331,15 +334,15 @@ module _ (words : Words) where
             )
 
         pub too_long_done : (new : S) (conn : ℕ) (r : After) → Comes old one (TooLongInput conn) → Says moment left_since said may_leave seen taken one new conn (spoken TooLong) (follows_end false) r
-            → TurnDone session words None [] moment left_since said may_leave seen taken old new engine history inputs pieces r
+            → TurnDone (session {W = W}) words None [] moment left_since said may_leave seen taken old new engine history inputs pieces r
         too_long_done new conn r came says =
             said_done old one new engine history inputs pieces (TooLongInput conn) [] TooLong false r
             (λ part b. begins_none part b)
             (all_taken old one (TooLongInput conn) inputs came taken_is) (came.silent ∙ said_is)
-            (begun_none old one history (length inputs + length (TooLongInput conn ∷ [])) pieces (heard session conn (Some TooLong)) (come_leaves (TooLongInput conn) came))
+            (begun_none old one history (length inputs + length (alone (TooLongInput conn))) pieces (heard (session {W = W}) conn (Some TooLong)) (come_leaves (TooLongInput conn) came))
             (come_stand (TooLongInput conn) came) (refl, refl) refl says
 
-        pub closed_done : Comes old one Closed → TurnDone session words None [] moment left_since said may_leave seen taken old one engine history inputs pieces Ends
+        pub closed_done : Comes old one Closed → TurnDone (session {W = W}) words None [] moment left_since said may_leave seen taken old one engine history inputs pieces Ends
         closed_done came = record {
           turn = record { first = Closed; more = []; answers = []; labels = []; reply = None };
           asked = refl;
@@ -347,7 +350,7 @@ module _ (words : Words) where
             may = λ part b. begins_none part b;
             belong = tt;
             took = all_taken old one Closed inputs came taken_is;
-            leaves = begun_none old one history (length inputs + length (Closed ∷ [])) pieces [] (come_leaves Closed came);
+            leaves = begun_none old one history (length inputs + length (alone (Closed))) pieces [] (come_leaves Closed came);
           };
           answered = (refl, refl);
           ends = refl;
@@ -357,7 +360,7 @@ module _ (words : Words) where
 
         -- nothing was taken
         pub none_done : NothingNew (may_leave old) (may_leave one) → ElapsesSilent (moment old) (moment one) (left_since old) (left_since one) (may_leave one) (said old) → taken one ≡ taken old
-            → TurnDone session words None [] moment left_since said may_leave seen taken old one engine history inputs pieces (Stops 4)
+            → TurnDone (session {W = W}) words None [] moment left_since said may_leave seen taken old one engine history inputs pieces (Stops 4)
         none_done stop time took = (
           inl (record { took = took ∙ taken_is; leaves = next_leaves old one image engine history pieces stands said_is stop time }),
           (λ zero. absurd (omega arith)),

@@ -1,7 +1,7 @@
 -- What a mode makes of inputs and replies.
 use Rattle.std.specs.Prelude.{ℕ, List, length, nat_lt, Bool, true, false, Option, Some, None, Result, if◌then◌else◌}
 use Rattle.swf_host.specs.declared.host.Input.{Input}
-use Rattle.swf_host.specs.declared.host.Input.TheVariants.{Ask as Asks, TooLong, Closed}
+use Rattle.swf_host.specs.declared.host.Input.TheVariants.{Ask as Asks, TooLong, Work, Idle, Closed}
 use Rattle.swf_protocol.specs.Line.{command_of, is_quit}
 use Rattle.swf_protocol.specs.Spoken.{spoken, damaged_bytes, full_bytes}
 use Rattle.swf_protocol.specs.declared.command.Command.{Command}
@@ -9,7 +9,7 @@ use Rattle.swf_protocol.specs.declared.command.CommandFault.{CommandFault}
 use Rattle.swf_protocol.specs.declared.reply.Reply.{Reply}
 
 -- what the relations on turns need of a mode
-pub record Dialect : Type 0 where
+pub record Dialect (W : Type 0) : Type 0 where
   -- what the bytes of an Ask spell, unless they are too long to be read
   pub reads : List ℕ → Option (Result Command CommandFault)
   -- the bytes that say a reply, that the journal is full at a size, and that it is damaged at a place
@@ -17,11 +17,11 @@ pub record Dialect : Type 0 where
   pub says_full : ℕ → List ℕ
   pub says_damaged : ℕ → List ℕ
   -- no input is taken after this one
-  pub ends : Input → Bool
+  pub ends : Input W → Bool
   -- the input belongs to the turn before it
-  pub belongs : Input → Bool
+  pub belongs : Input W → Bool
   -- the moment that the input tells
-  pub tells : Input → Option ℕ
+  pub tells : Input W → Option ℕ
 
 -- the most bytes of a line
 abbrev pub most_line : ℕ
@@ -34,13 +34,15 @@ abbrev pub line_read : List ℕ → Option (Result Command CommandFault)
 line_read line = if is_long line then None else Some (command_of line)
 
 -- `quit` ends a session, and so does the end of its input
-abbrev pub ends_session : Input → Bool
+abbrev pub ends_session : {W : Type 0} → Input W → Bool
 ends_session (Asks conn line) = if is_long line then false else is_quit (command_of line)
 ends_session (TooLong conn) = false
+ends_session (Work w) = false
+ends_session Idle = false
 ends_session Closed = true
 
 -- A session reads lines and says lines. Each input is a turn of its own, and none tells a moment.
-abbrev pub session : Dialect
+abbrev pub session : {W : Type 0} → Dialect W
 session = record {
   reads = line_read;
   says = spoken;

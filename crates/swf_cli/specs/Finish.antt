@@ -22,7 +22,7 @@ use Rattle.swf_cli.specs.declared.turn.After.TheVariants.{Stops}
 use Rattle.swf_cli.specs.declared.words.Words.{Words}
 
 -- the last turn ends the input
-abbrev pub IsOver : Dialect → List Turn → Type 0
+abbrev pub IsOver : {W : Type 0} → Dialect W → List (Turn W) → Type 0
 IsOver mode [] = ⊥
 IsOver mode (t ∷ []) = mode.ends t.first ≡ true
 IsOver mode (t ∷ u ∷ ts) = IsOver mode (u ∷ ts)
@@ -33,8 +33,8 @@ most_turns = 2 ^ 64 - 1
 
 -- Read to its end: the inputs that were taken are turns, each with its labels in the history that every image stands for, and
 -- each with its reply said whole.
-pub record Finished (mode : Dialect) (words : Words) (before : List Label) (first : List Input) (answers : List Label) (said : List Piece) (taken_now : Option (List Input)) (said_now : Option (List Piece)) (may_leave : Image → Type 0) : Type 0 where
-  pub turns : List Turn
+pub record Finished {W : Type 0} (mode : Dialect W) (words : Words) (before : List Label) (first : List (Input W)) (answers : List Label) (said : List Piece) (taken_now : Option (List (Input W))) (said_now : Option (List Piece)) (may_leave : Image → Type 0) : Type 0 where
+  pub turns : List (Turn W)
   pub allowed : AreTurns mode words None before turns
   pub over : IsOver mode turns ⊎ (length turns ≡ most_turns)
   pub taken : taken_now ≡ Some (first ++ inputs_of turns)
@@ -47,10 +47,10 @@ pub record Finished (mode : Dialect) (words : Words) (before : List Label) (firs
 
 -- Where the store failed or memory was missing, whole replies were said and no part of another, and at most the inputs of one turn more
 -- were taken.
-pub record IsShort (mode : Dialect) (words : Words) (before : List Label) (first : List Input) (answers : List Label) (said : List Piece) (taken_now : Option (List Input)) (said_now : Option (List Piece)) : Type 0 where
-  pub turns : List Turn
+pub record IsShort {W : Type 0} (mode : Dialect W) (words : Words) (before : List Label) (first : List (Input W)) (answers : List Label) (said : List Piece) (taken_now : Option (List (Input W))) (said_now : Option (List Piece)) : Type 0 where
+  pub turns : List (Turn W)
   pub allowed : AreTurns mode words None before turns
-  pub more : List Input
+  pub more : List (Input W)
   pub most : IsOneTurn mode more
   pub taken : taken_now ≡ Some ((first ++ inputs_of turns) ++ more)
   -- what the board answered behind the turns
@@ -62,7 +62,7 @@ pub record IsShort (mode : Dialect) (words : Words) (before : List Label) (first
   pub prompt : ArePrompt mode (length first) turns whole
 
 -- the line that tells of damage was said to connection 0, and no input was taken
-pub record TellsDamage (at : ℕ) (first : List Input) (said : List Piece) (taken_now : Option (List Input)) (said_now : Option (List Piece)) : Type 0 where
+pub record TellsDamage {W : Type 0} (at : ℕ) (first : List (Input W)) (said : List Piece) (taken_now : Option (List (Input W))) (said_now : Option (List Piece)) : Type 0 where
   pub taken : taken_now ≡ Some first
   pub told : said_now ≡ Some (and_piece 0 (damaged_bytes at) (length first) said)
 
@@ -73,7 +73,7 @@ ClosesWith (Damaged at) status host host_now store store_now = ((status ≡ 5) �
 ClosesWith (Full size) status host host_now store store_now = ⊥
 ClosesWith OutOfMemory status host host_now store store_now = (status ≡ 6) × (host_now ≡ host) × (store_now ≡ store)
 
-module _ {S : Type 0} (moment : S → ℕ) (left_since : S → ℕ → Image → List Piece → Type 0) (said : S → Option (List Piece)) (may_leave : S → Image → Type 0) (seen : S → Option Image) (taken : S → Option (List Input)) where
+module _ {W S : Type 0} (moment : S → ℕ) (left_since : S → ℕ → Image → List Piece → Type 0) (said : S → Option (List Piece)) (may_leave : S → Image → Type 0) (seen : S → Option Image) (taken : S → Option (List (Input W))) where
   -- only damage is told, to connection 0
   abbrev pub Tells : EngineFault → S → S → ℕ → Type 0
   Tells Store old new status = new ≡ old
@@ -81,12 +81,12 @@ module _ {S : Type 0} (moment : S → ℕ) (left_since : S → ℕ → Image →
   Tells (Full size) old new status = ⊥
   Tells OutOfMemory old new status = new ≡ old
 
-module _ (mode : Dialect) (words : Words) {S : Type 0} (moment : S → ℕ) (left_since : S → ℕ → Image → List Piece → Type 0) (said : S → Option (List Piece)) (may_leave : S → Image → Type 0) (seen : S → Option Image) (taken : S → Option (List Input)) where
+module _ {W : Type 0} (mode : Dialect W) (words : Words) {S : Type 0} (moment : S → ℕ) (left_since : S → ℕ → Image → List Piece → Type 0) (said : S → Option (List Piece)) (may_leave : S → Image → Type 0) (seen : S → Option Image) (taken : S → Option (List (Input W))) where
   -- Where the journal is full: turns were taken and answered, and one command more was asked, whose next label is legal and has no
   -- room. That was said whole, last, to who asked.
-  pub record TellsFull (new : S) (before : List Label) (first : List Input) (answers : List Label) (pieces : List Piece) : Type 0 where
+  pub record TellsFull (new : S) (before : List Label) (first : List (Input W)) (answers : List Label) (pieces : List Piece) : Type 0 where
     pub engine : Core
-    pub turns : List Turn
+    pub turns : List (Turn W)
     pub allowed : AreTurns mode words None before turns
     -- what the board answered behind the turns
     pub heard : List Label
@@ -97,8 +97,8 @@ module _ (mode : Dialect) (words : Words) {S : Type 0} (moment : S → ℕ) (lef
     pub told : IsTold mode words (last_told mode None (inputs_of turns)) heard moment left_since said may_leave seen taken new engine (before ++ labels_of turns) (first ++ inputs_of turns) (pieces ++ whole)
 
   -- What turns make of a store that stands for a history since some state. `all` are the inputs in the end.
-  pub record Ran (start new : S) (before : List Label) (first : List Input) (answers : List Label) (pieces : List Piece) (status : ℕ) : Type 0 where
-    pub all : List Input
+  pub record Ran (start new : S) (before : List Label) (first : List (Input W)) (answers : List Label) (pieces : List Piece) (status : ℕ) : Type 0 where
+    pub all : List (Input W)
     pub took : taken new ≡ Some all
     pub leaves : Leaves moment left_since start new (IsMoment mode words before first pieces all answers)
     pub finish : status ≡ 0 → Finished mode words before first answers pieces (taken new) (said new) (may_leave new)
@@ -107,6 +107,6 @@ module _ (mode : Dialect) (words : Words) {S : Type 0} (moment : S → ℕ) (lef
 
   -- the same for whatever the store stands for
   abbrev pub RunsOn : S → S → Core → List Label → ℕ → Type 0
-  RunsOn old new engine answers status = (start : S) (before : List Label) (first : List Input) (pieces : List Piece) → taken old ≡ Some first → said old ≡ Some pieces
+  RunsOn old new engine answers status = (start : S) (before : List Label) (first : List (Input W)) (pieces : List Piece) → taken old ≡ Some first → said old ≡ Some pieces
       → Stand moment left_since said may_leave seen old engine before → Leaves moment left_since start old (IsMoment mode words before first pieces first [])
       → Ran start new before first answers pieces status

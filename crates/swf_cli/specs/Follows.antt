@@ -3,7 +3,7 @@ use Rattle.std.specs.Prelude.{◌≡◌, ◌⊎◌, List, [], ◌∷◌, ◌++�
 use Rattle.swf_meaning.specs.declared.label.Label.{Label}
 use Rattle.swf_runs.specs.Runs.{world_at}
 use Rattle.swf_host.specs.declared.host.Input.{Input}
-use Rattle.swf_host.specs.declared.host.Input.TheVariants.{Ask as Asks}
+use Rattle.swf_host.specs.declared.host.Input.TheVariants.{Ask as Asks, TooLong, Work, Idle, Closed}
 use Rattle.swf_world.specs.Latest.{label_of}
 use Rattle.swf_world.specs.Refusals.{refusal}
 use Rattle.swf_protocol.specs.declared.command.Command.{Command}
@@ -41,35 +41,38 @@ module _ (words : Words) (last : Option ℕ) (answers : List Label) where
   AsksNext before (Some command) part label = AddsNext before command part label
 
 -- in a mode, by the words of the program
-module _ (mode : Dialect) where
+module _ {W : Type 0} (mode : Dialect W) where
   -- no turn ends the input
-  abbrev pub AreOpen : List Turn → Type 0
+  abbrev pub AreOpen : List (Turn W) → Type 0
   AreOpen [] = Unit {0}
   AreOpen (t ∷ ts) = (mode.ends t.first ≡ false) × AreOpen ts
 
   -- these are no more than the inputs of one turn
-  abbrev pub IsOneTurn : List Input → Type 0
+  abbrev pub IsOneTurn : List (Input W) → Type 0
   IsOneTurn [] = Unit {0}
   IsOneTurn (i ∷ more) = AreMore mode more
 
   module _ (words : Words) where
     -- an input has added these labels so far
-    abbrev pub MayBegin : Option ℕ → List Label → List Label → Input → List Label → Type 0
+    abbrev pub MayBegin : Option ℕ → List Label → List Label → Input W → List Label → Type 0
     MayBegin last answers before (Asks conn bytes) part = MayAsk words last answers before (mode.reads bytes) part
-    MayBegin last answers before i part = part ≡ []
+    MayBegin last answers before (TooLong conn) part = part ≡ []
+    MayBegin last answers before (Work w) part = ⊥
+    MayBegin last answers before Idle part = ⊥
+    MayBegin last answers before Closed part = part ≡ []
 
     -- nothing has begun behind these turns, or one more turn: by its inputs so far and what the board answered it has added these labels
-    abbrev pub IsGoing : List Label → List Turn → List Input → List Label → List Label → Type 0
+    abbrev pub IsGoing : List Label → List (Turn W) → List (Input W) → List Label → List Label → Type 0
     IsGoing before ts [] answers part = (answers ≡ []) × (part ≡ [])
     IsGoing before ts (i ∷ more) answers part = AreOpen ts × AreMore mode more × MayBegin (last_told mode None (inputs_of ts)) answers (before ++ labels_of ts) i part
 
     -- The inputs fall into turns, each with the labels that it adds, behind the history before them. The replies are those of the
     -- first of the turns. Of a turn that has begun a part of the labels may be there.
-    pub record Follows (before : List Label) (inputs : List Input) (answers : List Label) (replies : List Heard) (history : List Label) : Type 0 where
-      pub answered : List Turn
+    pub record Follows (before : List Label) (inputs : List (Input W)) (answers : List Label) (replies : List Heard) (history : List Label) : Type 0 where
+      pub answered : List (Turn W)
       -- turns whose labels are whole, and whose replies are not
-      pub unsaid : List Turn
-      pub «open» : List Input
+      pub unsaid : List (Turn W)
+      pub «open» : List (Input W)
       pub part : List Label
       -- what the board answered in the turn that has begun
       pub heard : List Label

@@ -10,6 +10,7 @@ pub mod Follows
 pub mod Moments
 pub mod Steps
 pub mod Finish
+pub mod Faults
 pub mod Heard
 pub mod Shown
 pub mod Running

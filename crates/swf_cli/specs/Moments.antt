@@ -25,13 +25,13 @@ pub record IsCut (bytes line : List ℕ) : Type 0 where
 
 -- the last piece, behind replies that were not said whole and inputs that are not answered: a part of the next reply, or what tells of a
 -- full journal, whole or in part, to who asked
-abbrev pub IsLastPiece : Dialect → List Heard → List Input → Piece → Type 0
+abbrev pub IsLastPiece : {W : Type 0} → Dialect W → List Heard → List (Input W) → Piece → Type 0
 IsLastPiece mode [] [] p = ⊥
 IsLastPiece mode [] (i ∷ more) p = (p.conn ≡ conn_of i) × (size : ℕ) × (rest : List ℕ) × (mode.says_full size ≡ p.bytes ++ rest)
 IsLastPiece mode (h ∷ hs) is p = (p.conn ≡ h.conn) × IsCut p.bytes h.bytes
 
 -- no turn but the last was not replied to
-abbrev pub IsLastUnsaid : List Turn → List Input → Type 0
+abbrev pub IsLastUnsaid : {W : Type 0} → List (Turn W) → List (Input W) → Type 0
 IsLastUnsaid [] is = Unit {0}
 IsLastUnsaid (t ∷ []) is = is ≡ []
 IsLastUnsaid (t ∷ u ∷ ts) is = ⊥
@@ -39,12 +39,12 @@ IsLastUnsaid (t ∷ u ∷ ts) is = ⊥
 -- The image stands for a history that begins with the one before, and the inputs that were taken so far, what the board answered so
 -- far and the whole replies among the pieces follow it. `all` are the inputs that were taken in the end, and `answers` all that the board
 -- answered.
-pub record IsMoment (mode : Dialect) (words : Words) (before : List Label) (first : List Input) (said : List Piece) (all : List Input) (answers : List Label) (image : Image) (pieces : List Piece) : Type 0 where
+pub record IsMoment {W : Type 0} (mode : Dialect W) (words : Words) (before : List Label) (first : List (Input W)) (said : List Piece) (all : List (Input W)) (answers : List Label) (image : Image) (pieces : List Piece) : Type 0 where
   pub history : List Label
   pub stands : IsHistory image history
   pub once : Once history
-  pub taken : List Input
-  pub later : List Input
+  pub taken : List (Input W)
+  pub later : List (Input W)
   pub taken_are : all ≡ first ++ (taken ++ later)
   pub asked : List Label
   pub unasked : List Label

@@ -21,9 +21,9 @@ use Rattle.swf_cli.specs.Heard.{TurnsTell}
 use Rattle.swf_cli.specs.Moments.{IsMoment, Runs}
 use Rattle.swf_cli.specs.Shown.{IsShowing, IsShown, IsPartShown}
 
-module _ {S : Type 0} (moment : S → ℕ) (left_since : S → ℕ → Image → List Piece → Type 0) (said : S → Option (List Piece)) (may_leave : S → Image → Type 0) (seen : S → Option Image) (taken : S → Option (List Input)) where
+module _ {W S : Type 0} (moment : S → ℕ) (left_since : S → ℕ → Image → List Piece → Type 0) (said : S → Option (List Piece)) (may_leave : S → Image → Type 0) (seen : S → Option Image) (taken : S → Option (List (Input W))) where
   -- where the host tells what it gave and took, and its store stands for a history
-  abbrev pub Told : S → (Image → List Input → List Piece → List Label → Type 0) → Type 0
+  abbrev pub Told : S → (Image → List (Input W) → List Piece → List Label → Type 0) → Type 0
   Told old P = ForSome (seen old) (λ image. ForSome (taken old) (λ inputs. ForSome (said old) (λ pieces. (before : List Label) → IsHistory image before → P image inputs pieces before)))
 
   -- The store stays as it was, and nothing is said but the line that tells of damage: whole at 5, in part at 4, and else none of it.
@@ -45,7 +45,7 @@ module _ {S : Type 0} (moment : S → ℕ) (left_since : S → ℕ → Image →
   pub record SessionRun (words : Words) (old new : S) (status : ℕ) : Type 0 where
     -- A stop at any moment leaves a journal whose history begins with that of the journal at entry and has a place for every
     -- reply that was said.
-    pub moments : Told old (λ image inputs pieces before. (all : List Input) × (taken new ≡ Some all) × Runs moment left_since said may_leave (IsMoment session words before inputs pieces all []) old new)
+    pub moments : Told old (λ image inputs pieces before. (all : List (Input W)) × (taken new ≡ Some all) × Runs moment left_since said may_leave (IsMoment session words before inputs pieces all []) old new)
     -- At 0 the input was read to its end, each reply was said whole, and every image stands for the one history.
     pub finish : Told old (λ image inputs pieces before. status ≡ 0 → Finished session words before inputs [] pieces (taken new) (said new) (may_leave new))
     -- At 7 the journal is full, which was said whole, and the store stands for a history that has no room for its next label.
@@ -53,10 +53,10 @@ module _ {S : Type 0} (moment : S → ℕ) (left_since : S → ℕ → Image →
     -- At 3 and 6 whole replies were said, and no part of another.
     pub short : Told old (λ image inputs pieces before. (status ≡ 3) ⊎ (status ≡ 6) → IsShort session words before inputs [] pieces (taken new) (said new))
     pub damage : TellsOfDamage old new status
-    -- Whatever the store tells, at 0 each input was replied to, and at 5 damage was told: to who asked last, or to connection 0 where
-    -- no engine was opened, which comes at 5 alone.
+    -- Whatever the store tells, at 0 each input was replied to, and at 7 who asked last was told that labels have no room. At 5 damage was
+    -- told: to who asked last, which was for a history, or to connection 0 where no engine was opened, which comes at 5 alone.
     pub heard : ForSome (taken old) (λ first. ForSome (said old) (λ pieces.
-        TurnsTell session said taken new first pieces status ⊎ ((status ≡ 5) × ((at : ℕ) × TellsDamage at first pieces (taken new) (said new)))))
+        TurnsTell session said taken seen new first pieces status ⊎ ((status ≡ 5) × ((at : ℕ) × TellsDamage at first pieces (taken new) (said new)))))
 
   pub record ShowRun (old new : S) (status : ℕ) : Type 0 where
     -- A stop at any moment leaves a journal of the same history, and a beginning of its lines was said.
@@ -66,6 +66,8 @@ module _ {S : Type 0} (moment : S → ℕ) (left_since : S → ℕ → Image →
     -- At 3 and 6 whole lines were said, and no part of another.
     pub short : Told old (λ image inputs pieces before. (status ≡ 3) ⊎ (status ≡ 6) → IsPartShown before inputs pieces (taken new) (said new))
     pub damage : TellsOfDamage old new status
+    -- Whatever the store tells, at 5 damage was told, to connection 0, and no input was taken.
+    pub heard : ForSome (taken old) (λ first. ForSome (said old) (λ pieces. status ≡ 5 → (at : ℕ) × TellsDamage at first pieces (taken new) (said new)))
 
   abbrev pub RunsIn : Mode → Words → S → S → ℕ → Type 0
   RunsIn Check words old new status = CheckRun moment left_since said may_leave taken old new status

@@ -35,7 +35,7 @@ IsNextLine [] p = ⊥
 IsNextLine (r ∷ rs) p = (p.conn ≡ 0) × IsCut p.bytes (spoken r)
 
 -- The image stands for the history before, whose first lines were said, and perhaps a part of the next.
-pub record IsShowing (before : List Label) (first : List Input) (said : List Piece) (image : Image) (pieces : List Piece) : Type 0 where
+pub record IsShowing {W : Type 0} (before : List Label) (first : List (Input W)) (said : List Piece) (image : Image) (pieces : List Piece) : Type 0 where
   pub stands : IsHistory image before
   pub once : Once before
   pub whole : List Reply
@@ -44,22 +44,22 @@ pub record IsShowing (before : List Label) (first : List Input) (said : List Pie
   pub pieces_are : (pieces ≡ said ++ line_pieces (length first) whole) ⊎ ((last : Piece) × (pieces ≡ said ++ (line_pieces (length first) whole ++ last ∷ [])) × IsNextLine rest last)
 
 -- all lines were said, no input was taken, and every image stands for the history
-pub record IsShown (before : List Label) (first : List Input) (said : List Piece) (taken_now : Option (List Input)) (said_now : Option (List Piece)) (may_leave : Image → Type 0) : Type 0 where
+pub record IsShown {W : Type 0} (before : List Label) (first : List (Input W)) (said : List Piece) (taken_now : Option (List (Input W))) (said_now : Option (List Piece)) (may_leave : Image → Type 0) : Type 0 where
   pub taken : taken_now ≡ Some first
   pub told : said_now ≡ Some (said ++ line_pieces (length first) (lines_of before))
   pub stands : (image : Image) → may_leave image → IsHistory image before
 
 -- the first lines were said, and no part of another
-pub record IsPartShown (before : List Label) (first : List Input) (said : List Piece) (taken_now : Option (List Input)) (said_now : Option (List Piece)) : Type 0 where
+pub record IsPartShown {W : Type 0} (before : List Label) (first : List (Input W)) (said : List Piece) (taken_now : Option (List (Input W))) (said_now : Option (List Piece)) : Type 0 where
   pub whole : List Reply
   pub rest : List Reply
   pub lines_are : lines_of before ≡ whole ++ rest
   pub taken : taken_now ≡ Some first
   pub told : said_now ≡ Some (said ++ line_pieces (length first) whole)
 
-module _ {S : Type 0} (moment : S → ℕ) (left_since : S → ℕ → Image → List Piece → Type 0) (said : S → Option (List Piece)) (may_leave : S → Image → Type 0) (seen : S → Option Image) (taken : S → Option (List Input)) where
+module _ {W S : Type 0} (moment : S → ℕ) (left_since : S → ℕ → Image → List Piece → Type 0) (said : S → Option (List Piece)) (may_leave : S → Image → Type 0) (seen : S → Option Image) (taken : S → Option (List (Input W))) where
   -- what saying the lines makes of a store that stands for a history since some state
-  pub record Showed (start new : S) (before : List Label) (first : List Input) (pieces : List Piece) (status : ℕ) : Type 0 where
+  pub record Showed (start new : S) (before : List Label) (first : List (Input W)) (pieces : List Piece) (status : ℕ) : Type 0 where
     pub took : taken new ≡ Some first
     pub leaves : Leaves moment left_since start new (IsShowing before first pieces)
     pub finish : status ≡ 0 → IsShown before first pieces (taken new) (said new) (may_leave new)
@@ -67,5 +67,5 @@ module _ {S : Type 0} (moment : S → ℕ) (left_since : S → ℕ → Image →
 
   -- the same for whatever the store stands for
   abbrev pub ShowsOn : S → S → Core → ℕ → Type 0
-  ShowsOn old new engine status = (start : S) (before : List Label) (first : List Input) (pieces : List Piece) → taken old ≡ Some first → said old ≡ Some pieces
+  ShowsOn old new engine status = (start : S) (before : List Label) (first : List (Input W)) (pieces : List Piece) → taken old ≡ Some first → said old ≡ Some pieces
       → Stand moment left_since said may_leave seen old engine before → Leaves moment left_since start old (IsShowing before first pieces) → Showed start new before first pieces status

@@ -120,7 +120,7 @@ module _ {S : Type 0} (moment : S → ℕ) (left_since : S → ℕ → Image →
       (labels : List Label) × ((part : List Label) → Begins part labels → May part) × Passes old new history labels × Stand new after (history ++ labels) × IsFilled (Next labels) after size
   CommandDone May Next Does history old new after (Err OutOfMemory) = ⊥
 
-  module _ (taken : S → Option (List Input)) where
+  module _ {W : Type 0} (taken : S → Option (List (Input W))) where
     -- bytes were said to a connection, or they are not made for want of memory, or the host failed
     pub record Says (old new : S) (conn : ℕ) (line : List ℕ) (done : After) (result : After) : Type 0 where
       pub whole : ForSome (taken old) (λ inputs. ForSome (said old) (λ pieces. result ≡ done → said new ≡ Some (and_piece conn line (length inputs) pieces)))
@@ -133,7 +133,7 @@ module _ {S : Type 0} (moment : S → ℕ) (left_since : S → ℕ → Image →
       pub taken_same : taken new ≡ taken old
 
     -- no input was taken
-    pub record Nothing (old new : S) (history : List Label) (inputs : List Input) (pieces : List Piece) : Type 0 where
+    pub record Nothing (old new : S) (history : List Label) (inputs : List (Input W)) (pieces : List Piece) : Type 0 where
       pub took : taken new ≡ Some inputs
       pub leaves : Leaves moment left_since old new (λ image now. IsHistory image history × (now ≡ pieces))
 
@@ -150,18 +150,18 @@ module _ (words : Words) (last : Option ℕ) (answers : List Label) {S : Type 0}
       → CommandDone moment left_since said may_leave seen (MayAsk words last answers history read) (AsksNext words last answers history read) (AskTurn words last answers history read) history old new after result)
 
 -- the same in a mode
-module _ (mode : Dialect) (words : Words) (last : Option ℕ) (answers : List Label) {S : Type 0} (moment : S → ℕ) (left_since : S → ℕ → Image → List Piece → Type 0) (said : S → Option (List Piece)) (may_leave : S → Image → Type 0) (seen : S → Option Image) (taken : S → Option (List Input)) where
+module _ {W : Type 0} (mode : Dialect W) (words : Words) (last : Option ℕ) (answers : List Label) {S : Type 0} (moment : S → ℕ) (left_since : S → ℕ → Image → List Piece → Type 0) (said : S → Option (List Piece)) (may_leave : S → Image → Type 0) (seen : S → Option Image) (taken : S → Option (List (Input W))) where
   -- A turn has taken this input and those that belong to it. While it added the group nothing was said, and then a part of these
   -- bytes, if there are some.
-  pub record Turned (old new : S) (history : List Label) (inputs : List Input) (pieces : List Piece) (input : Input) (more : List Input) (group : List Label) (line : List Heard) : Type 0 where
+  pub record Turned (old new : S) (history : List Label) (inputs : List (Input W)) (pieces : List Piece) (input : Input W) (more : List (Input W)) (group : List Label) (line : List Heard) : Type 0 where
     pub may : (part : List Label) → Begins part group → MayBegin mode words last answers history input part
     pub belong : AreMore mode more
     pub took : taken new ≡ Some (inputs ++ input ∷ more)
     pub leaves : Leaves moment left_since old new (TurnLeft history (length inputs + length (input ∷ more)) pieces group line)
 
   -- the turn is whole: its labels were added and its reply was said
-  pub record Whole (old new : S) (after : Core) (history : List Label) (inputs : List Input) (pieces : List Piece) (over : Bool) : Type 0 where
-    pub turn : Turn
+  pub record Whole (old new : S) (after : Core) (history : List Label) (inputs : List (Input W)) (pieces : List Piece) (over : Bool) : Type 0 where
+    pub turn : Turn W
     pub asked : turn.answers ≡ answers
     pub turned : Turned old new history inputs pieces turn.first turn.more turn.labels (owed mode turn)
     pub answered : IsAnswered mode words last turn.answers history turn.first turn.labels turn.reply
@@ -170,16 +170,16 @@ module _ (mode : Dialect) (words : Words) (last : Option ℕ) (answers : List La
     pub said_all : said new ≡ Some (pieces ++ piece_of (length inputs + length (inputs_in turn)) (owed mode turn))
 
   -- its labels were added, and its reply was not said whole
-  pub record Unsaid (old new : S) (history : List Label) (inputs : List Input) (pieces : List Piece) : Type 0 where
-    pub turn : Turn
+  pub record Unsaid (old new : S) (history : List Label) (inputs : List (Input W)) (pieces : List Piece) : Type 0 where
+    pub turn : Turn W
     pub asked : turn.answers ≡ answers
     pub turned : Turned old new history inputs pieces turn.first turn.more turn.labels (owed mode turn)
     pub answered : IsAnswered mode words last turn.answers history turn.first turn.labels turn.reply
 
   -- the store failed, or the journal is full, of which a line was said
-  pub record Broken (old new : S) (history : List Label) (inputs : List Input) (pieces : List Piece) : Type 0 where
-    pub input : Input
-    pub more : List Input
+  pub record Broken (old new : S) (history : List Label) (inputs : List (Input W)) (pieces : List Piece) : Type 0 where
+    pub input : Input W
+    pub more : List (Input W)
     pub group : List Label
     pub line : List Heard
     pub turned : Turned old new history inputs pieces input more group line
@@ -187,10 +187,10 @@ module _ (mode : Dialect) (words : Words) (last : Option ℕ) (answers : List La
 
   -- What is left where the journal is full, behind this history: a line was asked which has added some labels, engine and store
   -- stand for them, and its next label does not fit. That was said to who asked.
-  pub record IsTold (new : S) (after : Core) (history : List Label) (inputs : List Input) (pieces : List Piece) : Type 0 where
+  pub record IsTold (new : S) (after : Core) (history : List Label) (inputs : List (Input W)) (pieces : List Piece) : Type 0 where
     pub conn : ℕ
     pub line : List ℕ
-    pub more : List Input
+    pub more : List (Input W)
     pub group : List Label
     pub size : ℕ
     pub belong : AreMore mode more
@@ -199,7 +199,7 @@ module _ (mode : Dialect) (words : Words) (last : Option ℕ) (answers : List La
     pub filled : IsFilled (AsksNext words last answers history (mode.reads line) group) after size
     pub told : said new ≡ Some (and_piece conn (mode.says_full size) (length inputs + length (Asks conn line ∷ more)) pieces)
 
-  abbrev pub TurnDone : S → S → Core → List Label → List Input → List Piece → After → Type 0
+  abbrev pub TurnDone : S → S → Core → List Label → List (Input W) → List Piece → After → Type 0
   TurnDone old new after history inputs pieces GoesOn = Whole old new after history inputs pieces false
   TurnDone old new after history inputs pieces Ends = Whole old new after history inputs pieces true
   TurnDone old new after history inputs pieces (Stops s) =

@@ -7,7 +7,7 @@ use Rattle.swf_store.specs.declared.image.Image.{Image}
 use Rattle.swf_store.specs.declared.said.Piece.{Piece}
 use Rattle.swf_meaning.specs.declared.label.Answer.{Answer}
 use Rattle.swf_host.specs.declared.host.Input.{Input}
-use Rattle.swf_host.specs.declared.host.Input.TheVariants.{Ask as Asks, TooLong, Closed}
+use Rattle.swf_host.specs.declared.host.Input.TheVariants.{Ask as Asks, TooLong, Work, Idle, Closed}
 use Rattle.swf_world.specs.Latest.{label_of}
 use Rattle.swf_world.specs.declared.query.QueryFault.{QueryFault}
 use Rattle.swf_engine.specs.Answers.{SettleCalls}
@@ -48,16 +48,18 @@ module _ (words : Words) {S : Type 0} (moment : S → ℕ) (left_since : S → �
     pub made : ReadCalls (line_read line) taken answered before after
     pub say : calls new ≡ calls answered
 
-  abbrev pub InputCalls : Input → S → S → Core → Core → Type 0
+  abbrev pub InputCalls : {W : Type 0} → Input W → S → S → Core → Core → Type 0
   InputCalls (Asks conn line) old new before after = LineCalls line old new before after
   InputCalls (TooLong conn) old new before after = calls new ≡ calls old
+  InputCalls (Work w) old new before after = calls new ≡ calls old
+  InputCalls Idle old new before after = calls new ≡ calls old
   InputCalls Closed old new before after = calls new ≡ calls old
 
-  module _ (taken : S → Option (List Input)) where
+  module _ {W : Type 0} (taken : S → Option (List (Input W))) where
     -- an input was taken, and these are its calls; or none was taken, and no call was made
     abbrev pub TurnCalls : S → S → Core → Core → Type 0
     TurnCalls old new before after =
-        ((input : Input) × (ForSome (taken old) (λ inputs. taken new ≡ Some (inputs ++ input ∷ []))) × InputCalls input old new before after) ⊎ (calls new ≡ calls old)
+        ((input : Input W) × (ForSome (taken old) (λ inputs. taken new ≡ Some (inputs ++ input ∷ []))) × InputCalls input old new before after) ⊎ (calls new ≡ calls old)
 
     -- those of so many turns, one behind the other
     abbrev pub TurnsCalls : ℕ → S → S → Core → Core → Type 0

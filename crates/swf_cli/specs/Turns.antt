@@ -8,7 +8,7 @@ use Rattle.swf_runs.specs.After.{taken_by}
 use Rattle.swf_runs.specs.Runs.{world_at, is_quiet}
 use Rattle.swf_meaning.specs.World.{World}
 use Rattle.swf_host.specs.declared.host.Input.{Input}
-use Rattle.swf_host.specs.declared.host.Input.TheVariants.{Ask as Asks, TooLong as TooLongInput, Closed}
+use Rattle.swf_host.specs.declared.host.Input.TheVariants.{Ask as Asks, TooLong as TooLongInput, Work, Idle, Closed}
 use Rattle.swf_world.specs.Answers.{answer}
 use Rattle.swf_world.specs.Latest.{label_of}
 use Rattle.swf_world.specs.Refusals.{refusal}
@@ -29,9 +29,9 @@ use Rattle.swf_cli.specs.Dialect.{Dialect}
 use Rattle.swf_cli.specs.Settling.{AreSettling, steps_in}
 
 -- a first input and those that belong to it, what a board answered in the turn, the labels that it adds, and the reply that it owes
-pub record Turn : Type 0 where
-  pub first : Input
-  pub more : List Input
+pub record Turn (W : Type 0) : Type 0 where
+  pub first : Input W
+  pub more : List (Input W)
   pub answers : List Label
   pub labels : List Label
   pub reply : Option Reply
@@ -86,23 +86,23 @@ pub record Settled (before : List Label) (limit : ℕ) (answers labels : List La
 abbrev pub LongTurn : List Label → Reply → Type 0
 LongTurn labels reply = (labels ≡ []) × (reply ≡ TooLong)
 
-abbrev pub IsLast : Bool → List Turn → Type 0
+abbrev pub IsLast : {W : Type 0} → Bool → List (Turn W) → Type 0
 IsLast true ts = ts ≡ []
 IsLast false ts = Unit {0}
 
 -- the labels of all turns in order
-abbrev pub labels_of : List Turn → List Label
+abbrev pub labels_of : {W : Type 0} → List (Turn W) → List Label
 labels_of ts = flat_map (λ t. t.labels) ts
 
 -- their inputs
-abbrev pub inputs_in : Turn → List Input
+abbrev pub inputs_in : {W : Type 0} → Turn W → List (Input W)
 inputs_in t = t.first ∷ t.more
 
-abbrev pub inputs_of : List Turn → List Input
+abbrev pub inputs_of : {W : Type 0} → List (Turn W) → List (Input W)
 inputs_of ts = flat_map inputs_in ts
 
 -- what the board answered in them
-abbrev pub answers_of : List Turn → List Label
+abbrev pub answers_of : {W : Type 0} → List (Turn W) → List Label
 answers_of ts = flat_map (λ t. t.answers) ts
 
 -- by the words of the program, the last moment that was told, and what the board answered in the turn
@@ -131,9 +131,9 @@ module _ (words : Words) (last : Option ℕ) (answers : List Label) where
   AskTurn before (Some command) labels reply = CommandTurn before command labels reply
 
 -- in a mode
-module _ (mode : Dialect) where
+module _ {W : Type 0} (mode : Dialect W) where
   -- these inputs belong to the turn before
-  abbrev pub AreMore : List Input → Type 0
+  abbrev pub AreMore : List (Input W) → Type 0
   AreMore is = AllByRecursion (λ i. mode.belongs i ≡ true) is
 
   abbrev pub told_by : Option ℕ → Option ℕ → Option ℕ
@@ -141,22 +141,24 @@ module _ (mode : Dialect) where
   told_by last (Some t) = Some t
 
   -- the last moment told behind these inputs, where this was the last before them
-  abbrev pub last_told : Option ℕ → List Input → Option ℕ
+  abbrev pub last_told : Option ℕ → List (Input W) → Option ℕ
   last_told last [] = last
   last_told last (i ∷ is) = last_told (told_by last (mode.tells i)) is
 
   module _ (words : Words) where
     -- where those labels came before, the last moment told is this and the board answers so, an input may add these labels and be
-    -- replied to so
-    abbrev pub IsAnswered : Option ℕ → List Label → List Label → Input → List Label → Option Reply → Type 0
+    -- replied to so. Neither work nor its absence begins a turn.
+    abbrev pub IsAnswered : Option ℕ → List Label → List Label → Input W → List Label → Option Reply → Type 0
     IsAnswered last answers before (Asks conn bytes) labels (Some reply) = AskTurn words last answers before (mode.reads bytes) labels reply
     IsAnswered last answers before (Asks conn bytes) labels None = ⊥
     IsAnswered last answers before (TooLongInput conn) labels (Some reply) = LongTurn labels reply
     IsAnswered last answers before (TooLongInput conn) labels None = ⊥
+    IsAnswered last answers before (Work w) labels reply = ⊥
+    IsAnswered last answers before Idle labels reply = ⊥
     IsAnswered last answers before Closed labels reply = (labels ≡ []) × (reply ≡ None)
 
     -- each turn is one that the labels and the moment before it allow, and none comes after one that ends
-    abbrev pub AreTurns : Option ℕ → List Label → List Turn → Type 0
+    abbrev pub AreTurns : Option ℕ → List Label → List (Turn W) → Type 0
     AreTurns last before [] = Unit {0}
     AreTurns last before (t ∷ ts) =
         IsAnswered last t.answers before t.first t.labels t.reply × AreMore t.more × IsLast (mode.ends t.first) ts

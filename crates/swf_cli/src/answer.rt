@@ -4,6 +4,7 @@ ghost use Rattle.swf_engine.specs.Causes.{EngineCause, WhereUsable};
 ghost use Rattle.swf_engine.specs.Core.{IsEngineOf};
 ghost use Rattle.swf_protocol.specs.Line.{command_of, is_quit};
 ghost use Rattle.swf_protocol.specs.Sayable.{IsSayable, IsModest};
+ghost use Rattle.swf_cli.specs.Faults.{CommandFaults, MayAddFault};
 ghost use Rattle.swf_cli.specs.Steps.{LineDone, reply_of, or_memory, queried, IsBreak};
 ghost use Rattle.swf_cli.specs.Sorts.{sort_of, accepted_as};
 ghost use Rattle.swf_cli.specs.Turns.{refused, settle_reply, fault_reply};
@@ -99,6 +100,7 @@ fn submit<S: Store>(
     ensures done { (words : Meaning) → LineDone words None [] S.moment S.left_since S.said S.may_leave S.seen (Ok (Command.Do outcome)) store.old store.new engine.old engine.new result }
     ensures calls { (words : Meaning) → CommandCalls words S.moment S.left_since S.said S.may_leave S.seen S.calls (Ok (Command.Do outcome)) store.old store.new engine.old engine.new }
     ensures which { IsBreak result }
+    ensures faults { MayAddFault result }
     ensures sayable { IfOk result IsSayable }
     ensures said { S.said store.new ≡ S.said store.old }
     ensures beside { S.beside store.new ≡ S.beside store.old }
@@ -138,6 +140,7 @@ fn settle<S: Store>(
     ensures done { LineDone words.now None [] S.moment S.left_since S.said S.may_leave S.seen (Ok (Command.Settle limit)) store.old store.new engine.old engine.new result }
     ensures calls { CommandCalls words.now S.moment S.left_since S.said S.may_leave S.seen S.calls (Ok (Command.Settle limit)) store.old store.new engine.old engine.new }
     ensures which { IsBreak result }
+    ensures faults { MayAddFault result }
     ensures sayable { IfOk result IsSayable }
     ensures said { S.said store.new ≡ S.said store.old }
     ensures beside { S.beside store.new ≡ S.beside store.old }
@@ -172,6 +175,7 @@ fn ask<S: Store>(store: &mut S, engine: &mut Engine, query: &Query) -> Result<Re
     ensures done { (words : Meaning) → LineDone words None [] S.moment S.left_since S.said S.may_leave S.seen (Ok (Command.Ask query.now)) store.old store.new engine.old engine.new result }
     ensures calls { (words : Meaning) → CommandCalls words S.moment S.left_since S.said S.may_leave S.seen S.calls (Ok (Command.Ask query.now)) store.old store.new engine.old engine.new }
     ensures which { IsBreak result }
+    ensures faults { CommandFaults (S.seen store.new) (Ok (Command.Ask query.now)) result }
     ensures sayable { IfOk result IsSayable }
     ensures said { S.said store.new ≡ S.said store.old }
     ensures beside { S.beside store.new ≡ S.beside store.old }
@@ -198,6 +202,8 @@ fn obey<S: Store>(
     ensures done { LineDone words.now None [] S.moment S.left_since S.said S.may_leave S.seen (Ok command) store.old store.new engine.old engine.new result }
     ensures calls { CommandCalls words.now S.moment S.left_since S.said S.may_leave S.seen S.calls (Ok command) store.old store.new engine.old engine.new }
     ensures which { IsBreak result }
+    // A history alone finds damage, where the store can not tell it.
+    ensures faults { CommandFaults (S.seen store.new) (Ok command) result }
     ensures sayable { IfOk result IsSayable }
     ensures said { S.said store.new ≡ S.said store.old }
     ensures beside { S.beside store.new ≡ S.beside store.old }
@@ -245,6 +251,7 @@ pub fn answer_line<S: Store>(
     ensures calls { CommandCalls words.now S.moment S.left_since S.said S.may_leave S.seen S.calls (command_of line.now) store.old store.new engine.old engine.new }
     ensures ends { IfOk result (λ answered. answered.ends ≡ is_quit (command_of line.now)) }
     ensures which { IsBreak result }
+    ensures faults { CommandFaults (S.seen store.new) (command_of line.now) (reply_of result) }
     ensures sayable { IfOk result (λ answered. IsSayable answered.reply) }
     ensures said { S.said store.new ≡ S.said store.old }
     ensures beside { S.beside store.new ≡ S.beside store.old }

@@ -5,10 +5,10 @@ ghost use Rattle.swf_cli.specs.Finish.{Tells, ClosesWith};
 use crate::turn::{NO_MEMORY, STORE_FAULT, say_damage};
 use std::alloc::Global;
 use swf_engine::EngineFault;
-use swf_host::Host;
+use swf_host::{Host, NoWork};
 
 /// The status where no engine could be opened.
-pub fn not_opened<H: Host>(alloc: Global, host: &mut H, fault: EngineFault) -> u8
+pub fn not_opened<H: Host<NoWork, NoWork>>(alloc: Global, host: &mut H, fault: EngineFault) -> u8
     requires { (size : ℕ) → fault ≡ EngineFault.Full size → ⊥ }
     ensures tells { Tells H.moment H.left_since H.said H.may_leave H.seen H.taken fault host.old host.new result }
     ensures taken { H.taken host.new ≡ H.taken host.old }

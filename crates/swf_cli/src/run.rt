@@ -14,14 +14,14 @@ use crate::turn::NO_MEMORY;
 use crate::words::Mode;
 use std::alloc::Global;
 use swf_check::run_check;
-use swf_host::Host;
+use swf_host::{Host, NoWork};
 
 /// The words mean nothing.
 const NO_MEANING: u8 = 2;
 
 // Checks a document. It has no store to blame.
 #[tactic(auto, using(crate::proofs::CheckLemmas::check_blamed))]
-fn check<H: Host>(alloc: Global, host: &mut H) -> u8
+fn check<H: Host<NoWork, NoWork>>(alloc: Global, host: &mut H) -> u8
     ensures runs { CheckRun H.moment H.left_since H.said H.may_leave H.taken host.old host.new result }
     ensures which { IsStatus Mode.Check result }
     ensures no_call { (H.calls host.new ≡ H.calls host.old) × (H.seen host.new ≡ H.seen host.old) }
@@ -31,7 +31,7 @@ fn check<H: Host>(alloc: Global, host: &mut H) -> u8
 }
 
 /// Runs the program: its words and the host with its store are handed in, and its status is answered.
-pub fn swf_run<H: Host>(alloc: Global, words: &[String], host: &mut H) -> u8
+pub fn swf_run<H: Host<NoWork, NoWork>>(alloc: Global, words: &[String], host: &mut H) -> u8
     // 2 comes exactly by the words, and then nothing was done.
     ensures words { (result ≡ 2) ↔ (words_of (texts words.now) ≡ None) }
     ensures untouched { words_of (texts words.now) ≡ None → host.new ≡ host.old }

@@ -15,14 +15,19 @@ use crate::turn::{After, take_turn};
 use crate::words::{Mode, Words};
 use std::alloc::Global;
 use swf_engine::Engine;
-use swf_host::Host;
+use swf_host::{Host, NoWork};
 
 // Takes turns until the input ends.
-fn take_turns<H: Host>(alloc: Global, words: &Words, host: &mut H, engine: &mut Engine) -> u8
+fn take_turns<H: Host<NoWork, NoWork>>(
+    alloc: Global,
+    words: &Words,
+    host: &mut H,
+    engine: &mut Engine,
+) -> u8
     requires place { IsEngineOf (H.seen host.old) engine.old }
     requires words { words.now.steps ≤ 1000000 }
     ensures ran { RunsOn session words.now H.moment H.left_since H.said H.may_leave H.seen H.taken host.old host.new engine.old [] result }
-    ensures tells { ForSome (H.taken host.old) (λ first. ForSome (H.said host.old) (λ pieces. TurnsTell session H.said H.taken host.new first pieces result)) }
+    ensures tells { ForSome (H.taken host.old) (λ first. ForSome (H.said host.old) (λ pieces. TurnsTell session H.said H.taken H.seen host.new first pieces result)) }
     ensures calls { (turns : ℕ) × TurnsCalls words.now H.moment H.left_since H.said H.may_leave H.seen H.calls H.taken turns host.old host.new engine.old engine.new }
     ensures sound { IsSound H.moment H.left_since H.said H.may_leave H.seen host.old engine.old → result ≢ 5 }
     ensures blamed { IsBlamed result (H.host_faults host.old) (H.host_faults host.new) (H.store_faults host.old) (H.store_faults host.new) }
@@ -39,7 +44,7 @@ fn take_turns<H: Host>(alloc: Global, words: &Words, host: &mut H, engine: &mut 
 }
 
 /// Reads commands and answers them until the input ends, and answers the status.
-pub fn run_session<H: Host>(alloc: Global, words: &Words, host: &mut H) -> u8
+pub fn run_session<H: Host<NoWork, NoWork>>(alloc: Global, words: &Words, host: &mut H) -> u8
     requires { words.now.steps ≤ 1000000 }
     ensures runs { SessionRun H.moment H.left_since H.said H.may_leave H.seen H.taken words.now host.old host.new result }
     ensures calls { SessionCalls words.now H.moment H.left_since H.said H.may_leave H.seen H.calls H.taken host.old host.new }

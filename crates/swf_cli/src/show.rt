@@ -17,7 +17,7 @@ use crate::turn::{After, NO_MEMORY, say};
 use crate::words::Mode;
 use std::alloc::{AllocError, Global};
 use swf_engine::Engine;
-use swf_host::Host;
+use swf_host::{Host, NoWork};
 use swf_meaning::Query;
 use swf_protocol::Reply;
 use swf_text::Text;
@@ -33,7 +33,7 @@ fn id_of(engine: &Engine, number: u64) -> Result<Option<Text>, AllocError>
 }
 
 // Says a reply to connection 0, unless it is that no memory was found.
-fn say_status<H: Host>(alloc: Global, host: &mut H, reply: Reply) -> After
+fn say_status<H: Host<NoWork, NoWork>>(alloc: Global, host: &mut H, reply: Reply) -> After
     requires { IsSayable reply }
     ensures says { (line : List ℕ) → (reply ≡ Reply.Memory) ⊎ (line ≡ spoken reply) → Says H.moment H.left_since H.said H.may_leave H.seen H.taken host.old host.new 0 line After.GoesOn result }
     ensures blamed { IsBlamed (status_of result) (H.host_faults host.old) (H.host_faults host.new) (H.store_faults host.old) (H.store_faults host.new) }
@@ -45,7 +45,12 @@ fn say_status<H: Host>(alloc: Global, host: &mut H, reply: Reply) -> After
 }
 
 // Says the status of the instance of this id.
-fn show_one<H: Host>(alloc: Global, host: &mut H, engine: &mut Engine, id: Text) -> After
+fn show_one<H: Host<NoWork, NoWork>>(
+    alloc: Global,
+    host: &mut H,
+    engine: &mut Engine,
+    id: Text,
+) -> After
     requires place { IsEngineOf (H.seen host.old) engine.old }
     ensures engine { engine.new ≡ engine.old }
     ensures says { (labels : List Label) → Says H.moment H.left_since H.said H.may_leave H.seen H.taken host.old host.new 0 (spoken (query_reply (answer labels engine.old.world (Query.Status id)))) After.GoesOn result }
@@ -58,7 +63,7 @@ fn show_one<H: Host>(alloc: Global, host: &mut H, engine: &mut Engine, id: Text)
 }
 
 // Says the status of each instance.
-fn show_all<H: Host>(alloc: Global, host: &mut H, engine: &mut Engine) -> u8
+fn show_all<H: Host<NoWork, NoWork>>(alloc: Global, host: &mut H, engine: &mut Engine) -> u8
     requires place { IsEngineOf (H.seen host.old) engine.old }
     ensures shows { ShowsOn H.moment H.left_since H.said H.may_leave H.seen H.taken host.old host.new engine.old result }
     ensures blamed { IsBlamed result (H.host_faults host.old) (H.host_faults host.new) (H.store_faults host.old) (H.store_faults host.new) }
@@ -81,7 +86,7 @@ fn show_all<H: Host>(alloc: Global, host: &mut H, engine: &mut Engine) -> u8
 
 /// Opens the engine of the store and says the status of each instance to connection 0, and answers the status of the program. It
 /// takes no input.
-pub fn run_show<H: Host>(alloc: Global, host: &mut H) -> u8
+pub fn run_show<H: Host<NoWork, NoWork>>(alloc: Global, host: &mut H) -> u8
     ensures runs { ShowRun H.moment H.left_since H.said H.may_leave H.seen H.taken host.old host.new result }
     ensures blamed { IsBlamed result (H.host_faults host.old) (H.host_faults host.new) (H.store_faults host.old) (H.store_faults host.new) }
     ensures which { IsStatus Mode.Show result }

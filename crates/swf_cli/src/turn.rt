@@ -7,6 +7,7 @@ ghost use Rattle.swf_engine.specs.Core.{IsEngineOf, StandFor};
 ghost use Rattle.swf_protocol.specs.Line.{command_of, is_quit};
 ghost use Rattle.swf_protocol.specs.Sayable.{IsSayable};
 ghost use Rattle.swf_protocol.specs.Spoken.{spoken, damaged_bytes, full_bytes};
+ghost use Rattle.swf_cli.specs.Faults.{ReadFaults};
 ghost use Rattle.swf_cli.specs.Heard.{TurnTells};
 ghost use Rattle.swf_cli.specs.Statuses.{IsBlamed};
 ghost use Rattle.swf_cli.specs.Steps.{AskDone, IsBreak, IsSound, IsStop, Says, StaysSound, TurnDone, reply_of, follows_end, status_of};
@@ -17,7 +18,7 @@ use crate::answer::{Answered, answer_line};
 use crate::words::Words;
 use std::alloc::{AllocError, Global};
 use swf_engine::{Engine, EngineFault};
-use swf_host::{Host, Input, MOST_LINE};
+use swf_host::{Host, Input, MOST_LINE, NoWork};
 use swf_protocol::{Reply, damaged_line, full_line, reply_bytes};
 
 /// The store failed.
@@ -46,7 +47,7 @@ pub enum After {
 }
 
 // Answers an Ask.
-fn answer_ask<H: Host>(
+fn answer_ask<H: Host<NoWork, NoWork>>(
     alloc: Global,
     words: &Words,
     host: &mut H,
@@ -60,6 +61,7 @@ fn answer_ask<H: Host>(
     ensures calls { ReadCalls words.now H.moment H.left_since H.said H.may_leave H.seen H.calls (line_read line.now) host.old host.new engine.old engine.new }
     ensures ends { IfOk result (λ answered. answered.ends ≡ (if is_long line.now then false else is_quit (command_of line.now))) }
     ensures which { IsBreak result }
+    ensures faults { ReadFaults (H.seen host.new) (line_read line.now) (reply_of result) }
     ensures sayable { IfOk result (λ answered. IsSayable answered.reply) }
     ensures said { H.said host.new ≡ H.said host.old }
     ensures taken { H.taken host.new ≡ H.taken host.old }
@@ -87,7 +89,7 @@ fn line_of(alloc: Global, reply: Reply) -> Result<Vec<u8>, AllocError>
 }
 
 // Says the line of a reply, behind which the input may end.
-fn say_line<H: Host>(host: &mut H, conn: u64, line: &[u8], ends: bool) -> After
+fn say_line<H: Host<NoWork, NoWork>>(host: &mut H, conn: u64, line: &[u8], ends: bool) -> After
     ensures says { Says H.moment H.left_since H.said H.may_leave H.seen H.taken host.old host.new conn line.now (follows_end ends) result }
     ensures calls { H.calls host.new ≡ H.calls host.old }
     ensures stops { IsStop result }
@@ -100,7 +102,12 @@ fn say_line<H: Host>(host: &mut H, conn: u64, line: &[u8], ends: bool) -> After
 }
 
 /// Says a reply to the connection that asked.
-pub fn say<H: Host>(alloc: Global, host: &mut H, conn: u64, answered: Answered) -> After
+pub fn say<H: Host<NoWork, NoWork>>(
+    alloc: Global,
+    host: &mut H,
+    conn: u64,
+    answered: Answered,
+) -> After
     requires { IsSayable answered.reply }
     ensures says { Says H.moment H.left_since H.said H.may_leave H.seen H.taken host.old host.new conn (spoken answered.reply) (follows_end answered.ends) result }
     ensures calls { H.calls host.new ≡ H.calls host.old }
@@ -115,7 +122,7 @@ pub fn say<H: Host>(alloc: Global, host: &mut H, conn: u64, answered: Answered) 
 }
 
 // Says to the connection that asked that the journal is full.
-fn say_full<H: Host>(alloc: Global, host: &mut H, conn: u64, size: u64) -> After
+fn say_full<H: Host<NoWork, NoWork>>(alloc: Global, host: &mut H, conn: u64, size: u64) -> After
     ensures says { Says H.moment H.left_since H.said H.may_leave H.seen H.taken host.old host.new conn (full_bytes size) (After.Stops 7) result }
     ensures calls { H.calls host.new ≡ H.calls host.old }
     ensures stops { IsStop result }
@@ -128,7 +135,7 @@ fn say_full<H: Host>(alloc: Global, host: &mut H, conn: u64, size: u64) -> After
 }
 
 // Says a line behind which the program stops, since the journal is full.
-fn say_last<H: Host>(host: &mut H, conn: u64, line: &[u8]) -> After
+fn say_last<H: Host<NoWork, NoWork>>(host: &mut H, conn: u64, line: &[u8]) -> After
     ensures says { Says H.moment H.left_since H.said H.may_leave H.seen H.taken host.old host.new conn line.now (After.Stops 7) result }
     ensures calls { H.calls host.new ≡ H.calls host.old }
     ensures stops { IsStop result }
@@ -141,7 +148,7 @@ fn say_last<H: Host>(host: &mut H, conn: u64, line: &[u8]) -> After
 }
 
 // Says a line behind which the program stops, since the journal is damaged, and answers the status.
-fn say_damaged<H: Host>(host: &mut H, conn: u64, line: &[u8]) -> u8
+fn say_damaged<H: Host<NoWork, NoWork>>(host: &mut H, conn: u64, line: &[u8]) -> u8
     ensures says { Says H.moment H.left_since H.said H.may_leave H.seen H.taken host.old host.new conn line.now (After.Stops 5) (After.Stops result) }
     ensures calls { H.calls host.new ≡ H.calls host.old }
     ensures taken { H.taken host.new ≡ H.taken host.old }
@@ -155,7 +162,7 @@ fn say_damaged<H: Host>(host: &mut H, conn: u64, line: &[u8]) -> u8
 }
 
 /// Says to a connection where the journal is damaged, and answers the status.
-pub fn say_damage<H: Host>(alloc: Global, host: &mut H, conn: u64, at: u64) -> u8
+pub fn say_damage<H: Host<NoWork, NoWork>>(alloc: Global, host: &mut H, conn: u64, at: u64) -> u8
     ensures says { Says H.moment H.left_since H.said H.may_leave H.seen H.taken host.old host.new conn (damaged_bytes at) (After.Stops 5) (After.Stops result) }
     ensures calls { H.calls host.new ≡ H.calls host.old }
     ensures taken { H.taken host.new ≡ H.taken host.old }
@@ -169,15 +176,21 @@ pub fn say_damage<H: Host>(alloc: Global, host: &mut H, conn: u64, at: u64) -> u
 }
 
 /// Takes the next input, and says its reply.
-pub fn take_turn<H: Host>(alloc: Global, words: &Words, host: &mut H, engine: &mut Engine) -> After
+pub fn take_turn<H: Host<NoWork, NoWork>>(
+    alloc: Global,
+    words: &Words,
+    host: &mut H,
+    engine: &mut Engine,
+) -> After
     requires place { IsEngineOf (H.seen host.old) engine.old }
     requires words { words.now.steps ≤ 1000000 }
     ensures place { result ≡ After.GoesOn → IsEngineOf (H.seen host.new) engine.new }
     ensures turn { ForSome (H.seen host.old) (λ image. ForSome (H.taken host.old) (λ inputs. ForSome (H.said host.old) (λ pieces.
         (history : List Label) → StandFor image (H.may_leave host.old) engine.old history
         → TurnDone session words.now None [] H.moment H.left_since H.said H.may_leave H.seen H.taken host.old host.new engine.new history inputs pieces result))) }
-    // Whatever the store tells, each turn says its reply, and damage is told to who asked and ends with 5.
-    ensures tells { ForSome (H.taken host.old) (λ inputs. ForSome (H.said host.old) (λ pieces. TurnTells session H.said H.taken host.new inputs pieces result)) }
+    // Whatever the store tells, each turn says its reply. Damage is told to who asked for a history and ends with 5, and a full journal to
+    // who asked for labels, with 7.
+    ensures tells { ForSome (H.taken host.old) (λ inputs. ForSome (H.said host.old) (λ pieces. TurnTells session H.said H.taken H.seen host.new inputs pieces result)) }
     // Its calls of the store are those of the one call of the engine that the input asks for.
     ensures calls { TurnCalls words.now H.moment H.left_since H.said H.may_leave H.seen H.calls H.taken host.old host.new engine.old engine.new }
     // Where engine and store stand for a history no damage is found, and they stand for one after it.
@@ -185,7 +198,7 @@ pub fn take_turn<H: Host>(alloc: Global, words: &Words, host: &mut H, engine: &m
     ensures which { IsStop result }
     ensures blamed { IsBlamed (status_of result) (H.host_faults host.old) (H.host_faults host.new) (H.store_faults host.old) (H.store_faults host.new) }
 {
-    match host.next() {
+    match host.next(false) {
         Ok(Input::Ask(conn, line)) => {
             match answer_ask(alloc, words, host, engine, line.as_slice()) {
                 Ok(answered) => say(alloc, host, conn, answered),
@@ -204,6 +217,8 @@ pub fn take_turn<H: Host>(alloc: Global, words: &Words, host: &mut H, engine: &m
             };
             say(alloc, host, conn, answered)
         }
+        Ok(Input::Work(none)) => match none {},
+        Ok(Input::Idle) => unreachable!(),
         Ok(Input::Closed) => After::Ends,
         Err(_) => After::Stops(HOST_FAULT),
     }

@@ -1,2 +1,3 @@
 pub mod Problems
 pub mod Sent
+pub mod Weights

@@ -34,6 +34,13 @@ impl<T> Boxed<T> {
     {
         &self.inner
     }
+
+    /// The value. It takes no memory.
+    pub fn into_inner(self) -> T
+        ensures { result ≡ self }
+    {
+        Box::into_inner(self.inner)
+    }
 }
 
 /// The value in a box, where there is one.

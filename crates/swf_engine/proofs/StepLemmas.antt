@@ -12,7 +12,7 @@ use Rattle.swf_meaning.specs.declared.label.Label.{Label}
 use Rattle.swf_runs.specs.Runs.{is_quiet}
 use Rattle.swf_meaning.specs.World.{World}
 use Rattle.swf_world.specs.Early.{IsEarlyRefusal}
-use Rattle.swf_world.specs.Enabled.{CanGo}
+use Rattle.swf_world.specs.Prepares.{CanGo}
 use Rattle.swf_world.specs.Refusals.{refusal}
 use Rattle.swf_world.specs.declared.refusal.Refusal.{Refusal}
 use Rattle.swf_world.specs.declared.refusal.Refusal.TheVariants.{Refused as NotRead, Duplicate, UnknownDocument, UnknownInstance, Stale, Full as TooMany, Past, NotEnabled}

@@ -1,6 +1,6 @@
 // A forest: the stacks of an instance.
 ghost use Rattle.std.specs.Prelude.{◌≡◌, ◌↔◌, ◌≤◌, ℕ, ◌∷◌, [], None, Some, Err, IfOk, IfErr, OnOk, OnErr, IsSome, is_some, option_copied};
-ghost use Rattle.swf_frames.specs.Tree.{planted, numbers, top, frames as frames_of, pushed, popped, replaced, child, parent, leaves, fresh, split, closed, count};
+ghost use Rattle.swf_frames.specs.Tree.{planted, numbers, top, frames as frames_of, pushed, popped, replaced, with_top, child, parent, leaves, fresh, split, closed, count};
 ghost use Rattle.swf_frames.specs.Paths.{AreDistinct};
 ghost use Rattle.swf_frames.specs.Faults.{frame_in, frames_in};
 ghost use Rattle.std.specs.Option.{option_copied_mut};
@@ -111,6 +111,19 @@ impl<F: Drop> Forest<F> {
             None
         } else {
             Some(self.stacks[place].top_mut())
+        }
+    }
+
+    /// Puts a frame in place of the top one of a strand and answers that, or hands it back where there is none.
+    pub fn set_top(&mut self, strand: StrandId, frame: F) -> Result<F, F>
+        ensures former { IfOk result (λ former. top self.old strand ≡ Some former) }
+        ensures set { OnOk result (self.new ≡ with_top self.old strand frame) }
+        ensures err { OnErr result (self.new ≡ self.old) }
+        ensures handed_back { IfErr result (λ given. (given ≡ frame) × (top self.old strand ≡ None)) }
+    {
+        match self.top_mut(strand) {
+            Some(top) => Ok(mem::replace(top, frame)),
+            None => Err(frame),
         }
     }
 

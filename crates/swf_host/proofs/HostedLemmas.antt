@@ -105,7 +105,7 @@ call_elapses call old after said (Err e) takes by =
     ⊎_elim (λ f. subst (λ m. Goes old said call by m) (sym f.0) (goes_listed old said call by)) (λ lack. subst (λ m. Goes old said call by m) (sym lack) (goes_lack old said call by)) takes.failed
 
 -- a piece is said, which is the first of some bytes
-module _ (conn : ℕ) (bytes part rest : List ℕ) (begins : bytes ≡ part ++ rest) (memory : Memory) (p : Play) where
+module _ (conn : ℕ) (bytes part rest : List ℕ) (begins : bytes ≡ part ++ rest) {G W : Type 0} (memory : Memory) (p : Play G W) where
   abbrev calls : ℕ
   calls = length memory.calls
 
@@ -132,7 +132,7 @@ module _ (conn : ℕ) (bytes part rest : List ℕ) (begins : bytes ≡ part ++ r
         part = part;
         rest = rest;
         begins = begins;
-        told = inr (now_are ∙ ap (λ (l : List Input). and_piece conn part (length l) (pieces_of said)) taken ∙ ap (λ (l : List Piece). and_piece conn part (length inputs) l) told);
+        told = inr (now_are ∙ ap (λ (l : List (Input W)). and_piece conn part (length l) (pieces_of said)) taken ∙ ap (λ (l : List Piece). and_piece conn part (length inputs) l) told);
       }
 
   -- behind the new piece all calls had been made
@@ -188,64 +188,65 @@ module _ (conn : ℕ) (bytes part rest : List ℕ) (begins : bytes ≡ part ++ r
     };
   }
 
-pub say_elapses : {T E : Type 0} (conn : ℕ) (bytes : List ℕ) (memory : Memory) (p q : Play) (result : Result T E) → AfterSaid conn bytes (length memory.calls) p result q
-    → Elapses (length memory.calls + length p.said) (length memory.calls + length q.said) (StopsSince memory p.said) (StopsSince memory q.said) (IsLeft (state_of memory)) (MayHaveSaid conn bytes (Some p.taken) (Some (pieces_of p.said)))
-say_elapses conn bytes memory p q (Ok x) after =
-    subst (λ l. Elapses (length memory.calls + length p.said) (length memory.calls + length l) (StopsSince memory p.said) (StopsSince memory l) (IsLeft (state_of memory)) (MayHaveSaid conn bytes (Some p.taken) (Some (pieces_of p.said))))
-    (sym (ap (λ (r : Play). r.said) after.1)) (spoke_elapses conn bytes bytes [] (sym (append-nil bytes)) memory p)
-say_elapses conn bytes memory p q (Err e) (inl cut) =
-    subst (λ l. Elapses (length memory.calls + length p.said) (length memory.calls + length l) (StopsSince memory p.said) (StopsSince memory l) (IsLeft (state_of memory)) (MayHaveSaid conn bytes (Some p.taken) (Some (pieces_of p.said))))
-    (sym (ap (λ (r : Play). r.said) cut.1)) (spoke_elapses conn bytes (half bytes) (drop (length bytes / 2) bytes) (sym (take-append-drop (length bytes / 2) bytes)) memory p)
-say_elapses conn bytes memory p q (Err e) (inr lack) = stands memory p.said q.said _ (ap (λ (r : Play). r.said) lack)
+module _ {G W : Type 0} where
+  pub say_elapses : {T E : Type 0} (conn : ℕ) (bytes : List ℕ) (memory : Memory) (p q : Play G W) (result : Result T E) → AfterSaid conn bytes (length memory.calls) p result q
+      → Elapses (length memory.calls + length p.said) (length memory.calls + length q.said) (StopsSince memory p.said) (StopsSince memory q.said) (IsLeft (state_of memory)) (MayHaveSaid conn bytes (Some p.taken) (Some (pieces_of p.said)))
+  say_elapses conn bytes memory p q (Ok x) after =
+      subst (λ l. Elapses (length memory.calls + length p.said) (length memory.calls + length l) (StopsSince memory p.said) (StopsSince memory l) (IsLeft (state_of memory)) (MayHaveSaid conn bytes (Some p.taken) (Some (pieces_of p.said))))
+      (sym (ap (λ (r : Play G W). r.said) after.1)) (spoke_elapses conn bytes bytes [] (sym (append-nil bytes)) memory p)
+  say_elapses conn bytes memory p q (Err e) (inl cut) =
+      subst (λ l. Elapses (length memory.calls + length p.said) (length memory.calls + length l) (StopsSince memory p.said) (StopsSince memory l) (IsLeft (state_of memory)) (MayHaveSaid conn bytes (Some p.taken) (Some (pieces_of p.said))))
+      (sym (ap (λ (r : Play G W). r.said) cut.1)) (spoke_elapses conn bytes (half bytes) (drop (length bytes / 2) bytes) (sym (take-append-drop (length bytes / 2) bytes)) memory p)
+  say_elapses conn bytes memory p q (Err e) (inr lack) = stands memory p.said q.said _ (ap (λ (r : Play G W). r.said) lack)
 
--- what was said is told
-pub say_told : {T E : Type 0} (conn : ℕ) (bytes : List ℕ) (number : ℕ) (p q : Play) (result : Result T E) → AfterSaid conn bytes number p result q → AfterSay conn bytes (length p.taken) result (pieces_of p.said) (Some (pieces_of q.said))
-say_told conn bytes number p q (Ok x) after = ap (λ (r : Play). Some (pieces_of r.said)) after.1 ∙ ap Some (map-append piece_of p.said ((record { conn = conn; bytes = bytes; inputs = length p.taken; calls = number }) ∷ []))
-say_told conn bytes number p q (Err e) (inl cut) = (
-  pieces_of q.said,
-  refl,
-  record {
-    part = half bytes;
-    rest = drop (length bytes / 2) bytes;
-    begins = sym (take-append-drop (length bytes / 2) bytes);
-    told = inr (ap (λ (r : Play). pieces_of r.said) cut.1 ∙ map-append piece_of p.said ((record { conn = conn; bytes = half bytes; inputs = length p.taken; calls = number }) ∷ []));
-  },
-)
-say_told conn bytes number p q (Err e) (inr lack) = (
-  pieces_of q.said,
-  refl,
-  record { part = bytes; rest = []; begins = sym (append-nil bytes); told = inl (ap (λ (r : Play). pieces_of r.said) lack) },
-)
+  -- what was said is told
+  pub say_told : {T E : Type 0} (conn : ℕ) (bytes : List ℕ) (number : ℕ) (p q : Play G W) (result : Result T E) → AfterSaid conn bytes number p result q → AfterSay conn bytes (length p.taken) result (pieces_of p.said) (Some (pieces_of q.said))
+  say_told conn bytes number p q (Ok x) after = ap (λ (r : Play G W). Some (pieces_of r.said)) after.1 ∙ ap Some (map-append piece_of p.said ((record { conn = conn; bytes = bytes; inputs = length p.taken; calls = number }) ∷ []))
+  say_told conn bytes number p q (Err e) (inl cut) = (
+    pieces_of q.said,
+    refl,
+    record {
+      part = half bytes;
+      rest = drop (length bytes / 2) bytes;
+      begins = sym (take-append-drop (length bytes / 2) bytes);
+      told = inr (ap (λ (r : Play G W). pieces_of r.said) cut.1 ∙ map-append piece_of p.said ((record { conn = conn; bytes = half bytes; inputs = length p.taken; calls = number }) ∷ []));
+    },
+  )
+  say_told conn bytes number p q (Err e) (inr lack) = (
+    pieces_of q.said,
+    refl,
+    record { part = bytes; rest = []; begins = sym (append-nil bytes); told = inl (ap (λ (r : Play G W). pieces_of r.said) lack) },
+  )
 
--- a call of the store of a host
-pub host_takes : {T E : Type 0} (call : Call) (inside host : Hosted) (after : Memory) (result : Result T E) → inside ≡ host → Takes call inside.store after result → Takes call host.store after result
-host_takes call inside host after result is takes = subst (λ (h : Hosted). Takes call h.store after result) is takes
+  -- a call of the store of a host
+  pub host_takes : {T E : Type 0} (call : Call) (inside host : Hosted G W) (after : Memory) (result : Result T E) → inside ≡ host → Takes call inside.store after result → Takes call host.store after result
+  host_takes call inside host after result is takes = subst (λ (h : Hosted G W). Takes call h.store after result) is takes
 
-pub host_elapses : {T E : Type 0} (call : Call) (inside host : Hosted) (after : Memory) (result : Result T E) → inside ≡ host → Takes call inside.store after result → SaidBy (length inside.store.calls) inside.play.said
-    → Elapses (length host.store.calls + length host.play.said) (length after.calls + length inside.play.said) (StopsSince host.store host.play.said) (StopsSince after inside.play.said) (IsLeft (state_of after)) (IsSaid (Some (pieces_of host.play.said)))
-host_elapses call inside host after result is takes by =
-    subst (λ (h : Hosted). Elapses (length h.store.calls + length h.play.said) (length after.calls + length inside.play.said) (StopsSince h.store h.play.said) (StopsSince after inside.play.said) (IsLeft (state_of after)) (IsSaid (Some (pieces_of h.play.said))))
-    is (call_elapses call inside.store after inside.play.said result takes by)
+  pub host_elapses : {T E : Type 0} (call : Call) (inside host : Hosted G W) (after : Memory) (result : Result T E) → inside ≡ host → Takes call inside.store after result → SaidBy (length inside.store.calls) inside.play.said
+      → Elapses (length host.store.calls + length host.play.said) (length after.calls + length inside.play.said) (StopsSince host.store host.play.said) (StopsSince after inside.play.said) (IsLeft (state_of after)) (IsSaid (Some (pieces_of host.play.said)))
+  host_elapses call inside host after result is takes by =
+      subst (λ (h : Hosted G W). Elapses (length h.store.calls + length h.play.said) (length after.calls + length inside.play.said) (StopsSince h.store h.play.said) (StopsSince after inside.play.said) (IsLeft (state_of after)) (IsSaid (Some (pieces_of h.play.said))))
+      is (call_elapses call inside.store after inside.play.said result takes by)
 
--- a call of a host that says the bytes
-pub host_says : {T E : Type 0} (conn : ℕ) (bytes : List ℕ) (inside host : Hosted) (number : ℕ) (made : List Call) (q : Play) (result : Result T E) → inside ≡ host → made ≡ inside.store.calls → number ≡ length made → AfterSaid conn bytes number inside.play result q
-    → Elapses (length host.store.calls + length host.play.said) (length inside.store.calls + length q.said) (StopsSince host.store host.play.said) (StopsSince inside.store q.said) (IsLeft (state_of inside.store)) (MayHaveSaid conn bytes (Some host.play.taken) (Some (pieces_of host.play.said)))
-host_says conn bytes inside host number made q result is are counted after =
-    subst (λ (h : Hosted). Elapses (length h.store.calls + length h.play.said) (length inside.store.calls + length q.said) (StopsSince h.store h.play.said) (StopsSince inside.store q.said) (IsLeft (state_of inside.store)) (MayHaveSaid conn bytes (Some h.play.taken) (Some (pieces_of h.play.said))))
-    is (say_elapses conn bytes inside.store inside.play q result
-    (subst (λ n. AfterSaid conn bytes n inside.play result q) (counted ∙ ap (λ (l : List Call). length l) are) after))
+  -- a call of a host that says the bytes
+  pub host_says : {T E : Type 0} (conn : ℕ) (bytes : List ℕ) (inside host : Hosted G W) (number : ℕ) (made : List Call) (q : Play G W) (result : Result T E) → inside ≡ host → made ≡ inside.store.calls → number ≡ length made → AfterSaid conn bytes number inside.play result q
+      → Elapses (length host.store.calls + length host.play.said) (length inside.store.calls + length q.said) (StopsSince host.store host.play.said) (StopsSince inside.store q.said) (IsLeft (state_of inside.store)) (MayHaveSaid conn bytes (Some host.play.taken) (Some (pieces_of host.play.said)))
+  host_says conn bytes inside host number made q result is are counted after =
+      subst (λ (h : Hosted G W). Elapses (length h.store.calls + length h.play.said) (length inside.store.calls + length q.said) (StopsSince h.store h.play.said) (StopsSince inside.store q.said) (IsLeft (state_of inside.store)) (MayHaveSaid conn bytes (Some h.play.taken) (Some (pieces_of h.play.said))))
+      is (say_elapses conn bytes inside.store inside.play q result
+      (subst (λ n. AfterSaid conn bytes n inside.play result q) (counted ∙ ap (λ (l : List Call). length l) are) after))
 
--- what it said is told
-pub host_told : {T E : Type 0} (conn : ℕ) (bytes : List ℕ) (inside host : Hosted) (number : ℕ) (q : Play) (result : Result T E) → inside ≡ host → AfterSaid conn bytes number inside.play result q
-    → (inputs : List Input) → Some host.play.taken ≡ Some inputs → (before : List Piece) → Some (pieces_of host.play.said) ≡ Some before → AfterSay conn bytes (length inputs) result before (Some (pieces_of q.said))
-host_told conn bytes inside host number q result is after inputs taken before said =
-    let all : inside.play.taken ≡ inputs = cc in
-    let told : pieces_of inside.play.said ≡ before = cc in
-    subst (λ (l : List Input). AfterSay conn bytes (length l) result before (Some (pieces_of q.said))) all
-    (subst (λ (l : List Piece). AfterSay conn bytes (length inside.play.taken) result l (Some (pieces_of q.said))) told (say_told conn bytes number inside.play q result after))
+  -- what it said is told
+  pub host_told : {T E : Type 0} (conn : ℕ) (bytes : List ℕ) (inside host : Hosted G W) (number : ℕ) (q : Play G W) (result : Result T E) → inside ≡ host → AfterSaid conn bytes number inside.play result q
+      → (inputs : List (Input W)) → Some host.play.taken ≡ Some inputs → (before : List Piece) → Some (pieces_of host.play.said) ≡ Some before → AfterSay conn bytes (length inputs) result before (Some (pieces_of q.said))
+  host_told conn bytes inside host number q result is after inputs taken before said =
+      let all : inside.play.taken ≡ inputs = cc in
+      let told : pieces_of inside.play.said ≡ before = cc in
+      subst (λ (l : List (Input W)). AfterSay conn bytes (length l) result before (Some (pieces_of q.said))) all
+      (subst (λ (l : List Piece). AfterSay conn bytes (length inside.play.taken) result l (Some (pieces_of q.said))) told (say_told conn bytes number inside.play q result after))
 
--- a call of `say` whose number is listed
-pub say_cut : (conn : ℕ) (bytes : List ℕ) (number : ℕ) (p mid q : Play) → mid ≡ say_counted p → is_among p.says p.failing_say ≡ true → (q ≡ failed (piece_said conn (half bytes) number mid)) ⊎ (q ≡ lacked mid)
-    → ((is_among p.says p.failing_say ≡ true) × (q ≡ failed (piece_said conn (half bytes) number (say_counted p)))) ⊎ (q ≡ lacked (say_counted p))
-say_cut conn bytes number p mid q is listed (inl cut) = inl (listed, cut ∙ ap (λ (r : Play). failed (piece_said conn (half bytes) number r)) is)
-say_cut conn bytes number p mid q is listed (inr lack) = inr (lack ∙ ap lacked is)
+  -- a call of `say` whose number is listed
+  pub say_cut : (conn : ℕ) (bytes : List ℕ) (number : ℕ) (p mid q : Play G W) → mid ≡ say_counted p → is_among p.says p.failing_say ≡ true → (q ≡ failed (piece_said conn (half bytes) number mid)) ⊎ (q ≡ lacked mid)
+      → ((is_among p.says p.failing_say ≡ true) × (q ≡ failed (piece_said conn (half bytes) number (say_counted p)))) ⊎ (q ≡ lacked (say_counted p))
+  say_cut conn bytes number p mid q is listed (inl cut) = inl (listed, cut ∙ ap (λ (r : Play G W). failed (piece_said conn (half bytes) number r)) is)
+  say_cut conn bytes number p mid q is listed (inr lack) = inr (lack ∙ ap lacked is)

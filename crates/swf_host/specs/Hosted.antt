@@ -7,8 +7,8 @@ use Rattle.swf_store.specs.Replay.{IsLeft}
 use Rattle.swf_host.specs.declared.script.Said.{Said}
 use Rattle.swf_host.specs.Script.{Play}
 
-pub record Hosted : Type 0 where
-  pub play : Play
+pub record Hosted (G W : Type 0) : Type 0 where
+  pub play : Play G W
   pub store : Memory
 
 abbrev pub piece_of : Said → Piece

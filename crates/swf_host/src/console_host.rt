@@ -1,6 +1,7 @@
 // A host over three files, a reader and a writer: one line an input, one line a reply.
-ghost use Rattle.std.specs.Prelude.{◌≡◌};
+ghost use Rattle.std.specs.Prelude.{◌≡◌, true, false, IfOk};
 ghost use Rattle.swf_host.specs.Console.{files_of, console_faults};
+ghost use Rattle.swf_host.specs.Taken.{is_awaited};
 
 use crate::{Host, Input};
 use std::alloc::{AllocError, Global};
@@ -54,7 +55,9 @@ where
 }
 
 // Reads up to the newline of a line. No more of it is kept than a line may have.
-fn read_line<R: BufRead>(alloc: Global, reader: &mut R) -> io::Result<Input> {
+fn read_line<W, R: BufRead>(alloc: Global, reader: &mut R) -> io::Result<Input<W>>
+    ensures { IfOk result (λ input. is_awaited false input ≡ true) }
+{
     let mut line = Vec::new(alloc);
     let mut begun = false;
     let mut too_long = false;
@@ -178,22 +181,29 @@ where
     }
 }
 
-impl<F: Files, R: BufRead, W: Write> Host for ConsoleHost<F, R, W>
+impl<G: Drop, D: Drop, F: Files, R: BufRead, W: Write> Host<G, D> for ConsoleHost<F, R, W>
 where
     F::File: FileExt + AsRawFd,
 {
-    ghost use Rattle.std.specs.Prelude.{None, refl};
+    ghost use Rattle.std.specs.Prelude.{None, Some, [], refl};
     ghost use Rattle.swf_host.specs.Console.{console_faults};
 
     ghost taken = { λ _. None };
+
+    ghost given = { λ _. Some [] };
 
     ghost host_faults = { console_faults };
 
     ghost beside_taken = { λ _ _ _. refl };
 
+    ghost beside_given = { λ _ _ _. refl };
+
     ghost beside_faults = { λ _ _ same. same };
 
-    fn next(&mut self) -> Result<Input, Failed> {
+    fn next(&mut self, only_work: bool) -> Result<Input<D>, Failed> {
+        if only_work {
+            return Ok(Input::Idle);
+        }
         match read_line(self.alloc, &mut self.reader) {
             Ok(input) => Ok(input),
             Err(_) => {
@@ -211,5 +221,9 @@ where
                 Err(Failed)
             }
         }
+    }
+
+    fn give(&mut self, job: G) -> Result<(), G> {
+        Err(job)
     }
 }

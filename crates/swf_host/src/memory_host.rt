@@ -1,5 +1,5 @@
 // A host in memory over a store in memory. It follows a script, and tells everything.
-ghost use Rattle.std.specs.Prelude.{◌≡◌, length};
+ghost use Rattle.std.specs.Prelude.{◌≡◌, length, IfErr, OnOk};
 ghost use Rattle.std.specs.Option.{ForSome};
 ghost use Rattle.swf_store.specs.Faults.{HasCause};
 ghost use Rattle.swf_store.specs.Memory.{state_of};
@@ -7,22 +7,22 @@ ghost use Rattle.swf_store.specs.Replay.{IsLeft};
 ghost use Rattle.swf_store.specs.Said.{AfterSay, MayHaveSaid};
 ghost use Rattle.swf_store.specs.Stops.{Elapses};
 ghost use Rattle.swf_host.specs.Hosted.{pieces_of};
-ghost use Rattle.swf_host.specs.Script.{first_play, AfterNext, AfterSaid};
+ghost use Rattle.swf_host.specs.Script.{first_play, job_given, AfterNext, AfterSaid};
 
 use crate::script::{Said, Script, Turn};
-use crate::{Host, Input};
+use crate::{CopyIn, Host, Input};
 use std::alloc::Global;
 use std::marker::Model;
 use swf_store::{Call, Failed, File, MemoryStore, Store};
 
 /// A host that gives the inputs of a script, and `Closed` at its end.
-pub struct MemoryHost {
+pub struct MemoryHost<G, W> {
     alloc: Global,
     store: MemoryStore,
-    script: Script,
+    script: Script<G, W>,
 }
 
-impl Drop for MemoryHost {
+impl<G: Drop, W: Drop> Drop for MemoryHost<G, W> {
     fn drop(self) {
         let MemoryHost {
             alloc: _alloc,
@@ -32,10 +32,10 @@ impl Drop for MemoryHost {
     }
 }
 
-impl Model for MemoryHost {
+impl<G, W> Model for MemoryHost<G, W> {
     ghost use Rattle.swf_host.specs.Hosted.{Hosted};
 
-    ghost Value = { Hosted };
+    ghost Value = { Hosted G W };
 
     ghost use Rattle.swf_host.specs.HostedView.{hosted_view, IsHosted};
 
@@ -44,17 +44,17 @@ impl Model for MemoryHost {
     ghost invariant = { IsHosted };
 }
 
-impl MemoryHost {
+impl<G: Drop, W: CopyIn> MemoryHost<G, W> {
     /// A host of this store and script. The calls of `next` and of `say` that the two lists number from 0 fail; such a
     /// `next` uses up no turn, and such a `say` says the first half of its bytes. Besides they fail where no memory is found to
     /// keep what they tell.
     pub fn new(
         alloc: Global,
         store: MemoryStore,
-        script: Vec<Turn>,
+        script: Vec<Turn<W>>,
         failing_next: Vec<u64>,
         failing_say: Vec<u64>,
-    ) -> MemoryHost
+    ) -> MemoryHost<G, W>
         ensures play { result.play ≡ first_play script.items failing_next.items failing_say.items }
         ensures store { result.store ≡ store }
     {
@@ -79,8 +79,15 @@ impl MemoryHost {
         self.script.said.as_slice()
     }
 
+    /// The jobs that were given and kept, in order.
+    pub fn given(&self) -> &[G]
+        ensures { result.now ≡ self.now.play.given }
+    {
+        self.script.given.as_slice()
+    }
+
     /// The inputs that were taken, in order.
-    pub fn taken(&self) -> &[Input]
+    pub fn taken(&self) -> &[Input<W>]
         ensures { result.now ≡ self.now.play.taken }
     {
         self.script.taken.as_slice()
@@ -94,7 +101,7 @@ impl MemoryHost {
     }
 }
 
-impl Store for MemoryHost {
+impl<G: Drop, W: CopyIn> Store for MemoryHost<G, W> {
     ghost use Rattle.std.specs.Prelude.{Some, ◌+◌, length};
     ghost use Rattle.swf_store.specs.Laws.{reads_may_be_left_lem};
     ghost use Rattle.swf_store.specs.Memory.{state_of, faults_of};
@@ -117,7 +124,7 @@ impl Store for MemoryHost {
 
     ghost left_since = { λ host t image pieces. StopsSince host.store host.play.said t image pieces };
 
-    ghost Beside = { Play };
+    ghost Beside = { Play G W };
 
     ghost beside = { λ host. host.play };
 
@@ -144,34 +151,46 @@ impl Store for MemoryHost {
     }
 }
 
-impl Host for MemoryHost {
+impl<G: Drop, W: CopyIn> Host<G, W> for MemoryHost<G, W> {
     ghost use Rattle.std.specs.Prelude.{Some};
     ghost use Rattle.std.proofs.Common.{ap};
 
     ghost taken = { λ host. Some host.play.taken };
 
+    ghost given = { λ host. Some host.play.given };
+
     ghost host_faults = { λ host. host.play.faults };
 
     ghost beside_taken = { λ a b same. ap (λ play. Some play.taken) same };
 
+    ghost beside_given = { λ a b same. ap (λ play. Some play.given) same };
+
     ghost beside_faults = { λ a b same. ap (λ play. play.faults) same };
 
-    fn next(&mut self) -> Result<Input, Failed>
+    fn next(&mut self, only_work: bool) -> Result<Input<W>, Failed>
         ensures cause { HasCause self.old.play.faults self.new.play.faults result }
-        ensures play { AfterNext self.old.play result self.new.play }
+        ensures play { AfterNext only_work self.old.play result self.new.play }
         ensures store { self.new.store ≡ self.old.store }
     {
-        self.script.next(self.alloc)
+        self.script.next(self.alloc, only_work)
     }
 
     fn say(&mut self, conn: u64, bytes: &[u8]) -> Result<(), Failed>
         ensures cause { HasCause self.old.play.faults self.new.play.faults result }
-        ensures time { Elapses (⟦<MemoryHost as Store>⟧.moment self.old) (⟦<MemoryHost as Store>⟧.moment self.new) (⟦<MemoryHost as Store>⟧.left_since self.old) (⟦<MemoryHost as Store>⟧.left_since self.new) (IsLeft (state_of self.new.store)) (MayHaveSaid conn bytes.now (Some self.old.play.taken) (Some (pieces_of self.old.play.said))) }
+        ensures time { Elapses (⟦<MemoryHost<G, W> as Store>⟧.moment self.old) (⟦<MemoryHost<G, W> as Store>⟧.moment self.new) (⟦<MemoryHost<G, W> as Store>⟧.left_since self.old) (⟦<MemoryHost<G, W> as Store>⟧.left_since self.new) (IsLeft (state_of self.new.store)) (MayHaveSaid conn bytes.now (Some self.old.play.taken) (Some (pieces_of self.old.play.said))) }
         ensures said { ForSome (Some self.old.play.taken) (λ inputs. ForSome (Some (pieces_of self.old.play.said)) (λ before. AfterSay conn bytes.now (length inputs) result before (Some (pieces_of self.new.play.said)))) }
         ensures play { AfterSaid conn bytes.now (length self.old.store.calls) self.old.play result self.new.play }
         ensures store { self.new.store ≡ self.old.store }
     {
         let calls = self.store.calls().len() as u64;
         self.script.say(self.alloc, conn, bytes, calls)
+    }
+
+    fn give(&mut self, job: G) -> Result<(), G>
+        ensures given { OnOk result (self.new.play ≡ job_given job self.old.play) }
+        ensures back { IfErr result (λ back. (back ≡ job) × (self.new.play ≡ self.old.play)) }
+        ensures store { self.new.store ≡ self.old.store }
+    {
+        self.script.give(job)
     }
 }

@@ -1,18 +1,18 @@
 // A script that a host follows, and all that was taken and said.
-ghost use Rattle.std.specs.Prelude.{◌≡◌, ◌⊎◌, IfOk, OnOk, OnErr};
-ghost use Rattle.swf_host.specs.Script.{coming, failed, half, lacked, play, first_play, input_taken, piece_said, AfterNext, AfterSaid};
+ghost use Rattle.std.specs.Prelude.{◌≡◌, ◌⊎◌, IfErr, IfOk, OnOk, OnErr, option_map};
+ghost use Rattle.swf_host.specs.Script.{at_hand, coming, failed, half, lacked, play, first_play, input_taken, job_given, piece_said, AfterNext, AfterSaid};
 ghost use Rattle.swf_store.specs.Faults.{HasCause, RoseOnce};
 
-use crate::Input;
+use crate::{CopyIn, Input};
 use std::alloc::{AllocError, Global};
 use swf_store::Failed;
 use swf_text::Bytes;
 
 /// One turn of a script.
 #[derive(Drop)]
-pub enum Turn {
+pub enum Turn<W> {
     /// The next input.
-    In(Input),
+    In(Input<W>),
 }
 
 /// A piece that was said to a connection, and how many inputs had been taken and calls of the store made before it.
@@ -26,26 +26,27 @@ pub struct Said {
 
 // The turns, how far they were followed, and what came of them.
 #[derive(Drop)]
-pub(crate) struct Script {
-    turns: Vec<Turn>,
+pub(crate) struct Script<G, W> {
+    turns: Vec<Turn<W>>,
     at: usize,
     failing_next: Vec<u64>,
     failing_say: Vec<u64>,
     nexts: u64,
     says: u64,
-    pub(crate) taken: Vec<Input>,
+    pub(crate) taken: Vec<Input<W>>,
     pub(crate) said: Vec<Said>,
+    pub(crate) given: Vec<G>,
     faults: u64,
     pub(crate) lacks: u64,
 }
 
-impl Script {
+impl<G: Drop, W: CopyIn> Script<G, W> {
     pub(crate) fn new(
         alloc: Global,
-        turns: Vec<Turn>,
+        turns: Vec<Turn<W>>,
         failing_next: Vec<u64>,
         failing_say: Vec<u64>,
-    ) -> Script
+    ) -> Script<G, W>
         ensures { play result ≡ first_play turns.items failing_next.items failing_say.items }
     {
         Script {
@@ -57,30 +58,45 @@ impl Script {
             says: 0,
             taken: Vec::new(alloc),
             said: Vec::new(alloc),
+            given: Vec::new(alloc),
             faults: 0,
             lacks: 0,
         }
     }
 
-    // Copies the next input, or `Closed` past the end.
-    fn coming(&self, alloc: Global) -> Result<Input, AllocError>
-        ensures { IfOk result (λ i. i ≡ coming (play self.now).script (play self.now).at) }
+    // The input of the next turn, where the call waits for such a one.
+    fn at_hand(&self, only_work: bool) -> Option<&Input<W>>
+        ensures { option_map (λ i. i.now) result ≡ at_hand only_work (play self.now) }
     {
         match self.turns.get(self.at) {
-            Some(Turn::In(input)) => input.copy(alloc),
+            Some(Turn::In(input)) if input.is_awaited(only_work) => Some(input),
+            _ => None,
+        }
+    }
+
+    // Copies the next input.
+    fn coming(&self, alloc: Global, only_work: bool) -> Result<Input<W>, AllocError>
+        ensures { IfOk result (λ i. i ≡ coming only_work (play self.now)) }
+    {
+        match self.at_hand(only_work) {
+            Some(input) => input.copy(alloc),
+            None if only_work => Ok(Input::Idle),
             None => Ok(Input::Closed),
         }
     }
 
     // Takes the next input, and keeps a copy of it.
-    fn take(&mut self, alloc: Global) -> Result<Input, AllocError>
-        ensures ok { IfOk result (λ i. (i ≡ coming (play self.old).script (play self.old).at) × (play self.new ≡ input_taken i (play self.old))) }
+    fn take(&mut self, alloc: Global, only_work: bool) -> Result<Input<W>, AllocError>
+        ensures ok { IfOk result (λ i. (i ≡ coming only_work (play self.old)) × (play self.new ≡ input_taken only_work i (play self.old))) }
         ensures err { OnErr result (play self.new ≡ play self.old) }
     {
-        let input = self.coming(alloc)?;
-        let kept = self.coming(alloc)?;
+        let input = self.coming(alloc, only_work)?;
+        let kept = self.coming(alloc, only_work)?;
+        let used = self.at_hand(only_work).is_some();
         self.taken.push(kept)?;
-        self.at = self.at.saturating_add(1);
+        if used {
+            self.at = self.at.saturating_add(1);
+        }
         Ok(input)
     }
 
@@ -124,8 +140,8 @@ impl Script {
         }
     }
 
-    pub(crate) fn next(&mut self, alloc: Global) -> Result<Input, Failed>
-        ensures play { AfterNext (play self.old) result (play self.new) }
+    pub(crate) fn next(&mut self, alloc: Global, only_work: bool) -> Result<Input<W>, Failed>
+        ensures play { AfterNext only_work (play self.old) result (play self.new) }
         ensures cause { HasCause self.old.faults self.new.faults result }
     {
         let call = self.nexts;
@@ -134,9 +150,20 @@ impl Script {
             self.faults = self.faults.saturating_add(1);
             return Err(Failed);
         }
-        match self.take(alloc) {
+        match self.take(alloc, only_work) {
             Ok(input) => Ok(input),
             Err(_) => Err(self.lack()),
+        }
+    }
+
+    // Keeps a job, or hands it back where no memory is found.
+    pub(crate) fn give(&mut self, job: G) -> Result<(), G>
+        ensures ok { OnOk result (play self.new ≡ job_given job (play self.old)) }
+        ensures err { IfErr result (λ back. (back ≡ job) × (play self.new ≡ play self.old)) }
+    {
+        match self.given.push(job) {
+            Ok(()) => Ok(()),
+            Err(refused) => Err(refused.value),
         }
     }
 

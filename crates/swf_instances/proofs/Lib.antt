@@ -1,5 +1,7 @@
 pub mod Lookups
-pub mod QueueLemmas
+pub mod QueuedLemmas
 pub mod WaitLemmas
+pub mod ListenLemmas
+pub mod NoteLemmas
 pub mod TakeLemmas
 pub mod OfferLemmas

@@ -1,16 +1,23 @@
 -- What an offer leaves as it is, and how the places of those that take an event are written one after another.
-use Rattle.std.proofs.Common.{◌≡◌, ◌≢◌, ◌∙◌, refl, ap, sym, subst, cond, ℕ, zero, suc, ◌+◌, ◌≤◌, List, [], ◌∷◌, ◌++◌, length, take, nat_lt, Bool, true, false, Some, option_map, slice_get, arith, add-one, append-nil}
+use Rattle.std.proofs.Common.{◌≡◌, ◌≢◌, ◌∙◌, refl, ap, sym, subst, cond, ℕ, zero, suc, ◌+◌, ◌<◌, ◌≤◌, inl, inr, List, [], ◌∷◌, ◌++◌, length, take, nat_lt, Bool, true, false, Some, None, option_map, slice_get, arith, add-one, append-nil}
 use Rattle.std.proofs.lemmas.Option.{same_Some, slice_get-map}
-use Rattle.std.proofs.lemmas.Bool.{ltb-false}
+use Rattle.std.proofs.lemmas.Bool.{cases_eq, ltb-false}
+use Rattle.std.proofs.lemmas.List.{take_all}
 use Rattle.std.specs.List.{AllByRecursion, fold}
 use Rattle.swf_cloudevents.specs.declared.event.Event.{Event}
-use Rattle.swf_meaning.specs.Offer.{offered_one, takers_in, offered_all, takers}
+use Rattle.swf_meaning.specs.Offer.{offered, offered_one, takers_in, offered_all, takers}
 use Rattle.swf_meaning.specs.World.{Instance}
 use Rattle.swf_runs.proofs.OfferLemmas.{one_untaken}
 use Rattle.swf_instances.specs.declared.offer.Hearing.{Hearing}
-use Rattle.swf_instances.specs.Offers.{put_at, put_all, offered_but, ids, IsHeardFrom, IsOffer}
-use Rattle.swf_instances.specs.Takes.{FitsAt, take_at}
-use Rattle.swf_tasks.specs.declared.machine.Step.TheVariants.{Whole}
+use Rattle.swf_instances.specs.Offers.{put_at, put_all, offered_but, ids, Covers, IsHeardFrom, IsOffer}
+use Rattle.swf_instances.specs.Kept.{Listening}
+use Rattle.swf_instances.proofs.ListenLemmas.{unheard}
+use Rattle.swf_listeners.specs.Listeners.{numbers_where, wanted_by, who}
+use Rattle.swf_listeners.specs.Wanted.{Wanted, wants}
+use Rattle.swf_listeners.proofs.WantedLemmas.{wants_of}
+use Rattle.swf_listeners.proofs.WhoLemmas.{Passes, numbers_from, to_next, to_end, where_from}
+use Rattle.swf_queue.specs.Queue.{Queue, is_among}
+use Rattle.swf_offers.specs.EventTypes.{event_types}
 
 -- an instance is put in its own place
 put_same : (is : List Instance) (n : ℕ) (i : Instance) → slice_get is n ≡ Some i → put_at n i is ≡ is
@@ -166,13 +173,85 @@ ids_all (h ∷ hs) is all =
     let one = ids_put is h.number h.instance all.0 in
     ids_all hs (put_at h.number h.instance is) (from_again is (put_at h.number h.instance is) hs (sym one) all.1) ∙ one
 
--- one that took an event fits its place
-pub heard_fits : (is : List Instance) (n : ℕ) (j : Instance) → slice_get (ids is) n ≡ Some j.id → FitsAt n (Whole j) is
-heard_fits [] n j e = cc
-heard_fits (i ∷ is) zero j e = (i, refl, sym (same_Some i.id j.id e))
-heard_fits (i ∷ is) (suc n) j e = heard_fits is n j e
+-- ---- those alone are gone over that an event may change
 
-pub whole_put : (n : ℕ) (j : Instance) (is : List Instance) → take_at n (Whole j) is ≡ put_at n j is
-whole_put n j [] = refl
-whole_put zero j (i ∷ is) = refl
-whole_put (suc n) j (i ∷ is) = ap (λ is. i ∷ is) (whole_put n j is)
+-- what holds once the numbers before this one were gone over
+abbrev pub IsOfferedTo : ℕ → Event → List Instance → List Hearing → ℕ → ℕ → Type 0
+IsOfferedTo n e is hs taken k = Offered k n e is hs × (length is ≤ n → taken ≡ takers e (take k is))
+
+there_at : (is : List Instance) (n : ℕ) → n < length is → (i : Instance) × (slice_get is n ≡ Some i)
+there_at [] n w = absurd (omega arith)
+there_at (i ∷ is) zero w = (i, refl)
+there_at (i ∷ is) (suc n) w = there_at is n (omega arith)
+
+plus-zero : (m : ℕ) → m + 0 ≡ m
+plus-zero m = omega arith
+
+-- an instance that it does not change is passed over
+passed : (n : ℕ) (e : Event) (is : List Instance) (hs : List Hearing) (taken : ℕ) (test : ℕ → Bool) → ((m : ℕ) (i : Instance) → slice_get is m ≡ Some i → test m ≡ false → takers_in e i ≡ 0) → Passes (IsOfferedTo n e is hs taken) test (length is)
+passed n e is hs taken test others k w gone so =
+    let there = there_at is k w in
+    let none : takers_in e there.0 ≡ 0 = others k there.0 there.1 gone in
+    let more : length is ≤ n → taken ≡ takers e (take (suc k) is) =
+    λ all. so.1 all ∙ sym (ap (λ j. takers e (take j is)) (sym (add-one k)) ∙ takers_more e is k there.0 there.1 ∙ ap (λ m. takers e (take k is) + m) none ∙ plus-zero (takers e (take k is))) in
+    elim (cases_eq k n) [
+      | inl same ↦ (subst (λ j. Offered j n e is hs) (add-one k) (offered_skipped k n e is hs same so.0), more)
+      | inr other ↦ (subst (λ j. Offered j n e is hs) (add-one k) (subst (Offered (k + 1) n e is) (append-nil hs) (offered_next k n e is hs there.0 0 other there.1 (sym none) so.0)), more)
+    ]
+
+-- between those before a number, and the ones that are left
+pub record Between (n : ℕ) (e : Event) (is : List Instance) (left : List ℕ) (hs : List Hearing) (taken : ℕ) : Type 0 where
+  pub test : ℕ → Bool
+  pub others : (m : ℕ) (i : Instance) → slice_get is m ≡ Some i → test m ≡ false → takers_in e i ≡ 0
+  pub at : ℕ
+  pub many : ℕ
+  pub all : many + at ≡ length is
+  pub left_is : left ≡ numbers_from test at many
+  pub so_far : IsOfferedTo n e is hs taken at
+
+pub between_first : (n : ℕ) (e : Event) (is : List Instance) (left : List ℕ) → Covers e is left → Between n e is left [] 0
+between_first n e is left c =
+    record { test = c.test; others = c.others; at = 0; many = length is; all = omega arith; left_is = c.are ∙ where_from c.test (length is); so_far = (offered_none n e is, λ all. refl) }
+
+-- at the next of them
+pub record AtNext (n : ℕ) (e : Event) (is : List Instance) (number : ℕ) (left : List ℕ) (hs : List Hearing) (taken : ℕ) : Type 0 where
+  pub test : ℕ → Bool
+  pub others : (m : ℕ) (i : Instance) → slice_get is m ≡ Some i → test m ≡ false → takers_in e i ≡ 0
+  pub many : ℕ
+  pub all : many + suc number ≡ length is
+  pub left_is : left ≡ numbers_from test (suc number) many
+  pub so_far : IsOfferedTo n e is hs taken number
+
+pub between_next : (n : ℕ) (e : Event) (is : List Instance) (number : ℕ) (rest left : List ℕ) (hs : List Hearing) (taken : ℕ) → rest ≡ number ∷ left → Between n e is rest hs taken → AtNext n e is number left hs taken
+between_next n e is number rest left hs taken next b =
+    let p = to_next (IsOfferedTo n e is hs taken) b.test b.many b.at number left (λ k w h q. passed n e is hs taken b.test b.others k (omega (arith, w, b.all)) h q) (sym b.left_is ∙ next) b.so_far in
+    record { test = b.test; others = b.others; many = p.0; all = p.1.1.1 ∙ b.all; left_is = p.1.1.0; so_far = p.1.0 }
+
+pub between_more : (n : ℕ) (e : Event) (is : List Instance) (number : ℕ) (left : List ℕ) (hs gs : List Hearing) (was taken : ℕ) → AtNext n e is number left hs was → IsOfferedTo n e is gs taken (number + 1) → Between n e is left gs taken
+between_more n e is number left hs gs was taken a so =
+    record { test = a.test; others = a.others; at = suc number; many = a.many; all = a.all; left_is = a.left_is; so_far = subst (IsOfferedTo n e is gs taken) (add-one number) so }
+
+pub between_done : (n : ℕ) (e : Event) (is : List Instance) (left : List ℕ) (hs : List Hearing) (taken : ℕ) → left ≡ [] → Between n e is left hs taken → IsOffer n e is hs × (length is ≤ n → taken ≡ takers e is)
+between_done n e is left hs taken none b =
+    let p = to_end (IsOfferedTo n e is hs taken) b.test b.many b.at (λ k w h q. passed n e is hs taken b.test b.others k (omega (arith, w, b.all)) h q) (sym b.left_is ∙ none) b.so_far in
+    (offered_done (b.many + b.at) n e is hs b.all p.0, λ all. p.1 all ∙ ap (takers e) (take_all (b.many + b.at) is (omega (arith, b.all))))
+
+-- where none may take the event it changes none
+pub offered_nowhere : (n : ℕ) (e : Event) (is : List Instance) (ns : List ℕ) → ns ≡ [] → Covers e is ns → IsOffer n e is [] × (length is ≤ n → 0 ≡ takers e is)
+offered_nowhere n e is ns none c = between_done n e is ns [] 0 none (between_first n e is ns c)
+
+empty : (ns : List ℕ) → slice_get ns 0 ≡ None → ns ≡ []
+empty [] e = refl
+empty (n ∷ ns) e = cc
+
+-- who wants an event's type, where it is noted of all what they want
+pub covers_who : (e : Event) (is : List Instance) (wanted : List Wanted) (stale : Queue) (ns : List ℕ) → Listening is wanted stale → slice_get stale.numbers 0 ≡ None → ns ≡ who e.kind wanted → Covers e is ns
+covers_who e is wanted stale ns l fresh are = record {
+  test = λ n. wants e.kind (wanted_by wanted n);
+  are = are ∙ ap (numbers_where (λ n. wants e.kind (wanted_by wanted n))) l.many;
+  others = λ n i at gone.
+      unheard e i.node (sym (wants_of e.kind (event_types i.node)) ∙ ap (wants e.kind) (sym (l.noted n i at (ap (is_among n) (empty stale.numbers fresh)))) ∙ gone);
+}
+
+pub covers_all : (e : Event) (is : List Instance) (ns : List ℕ) → ns ≡ numbers_where (λ n. true) (length is) → Covers e is ns
+covers_all e is ns are = record { test = λ n. true; are = are; others = λ n i at gone. absurd (cc) }

@@ -1,21 +1,20 @@
 -- Until when instances wait, at one moment and at a later one.
-use Rattle.std.proofs.Common.{◌≡◌, ◌∙◌, refl, ap, sym, ℕ, zero, suc, ◌||◌, ◌⊎◌, inl, inr, List, [], ◌∷◌, ◌++◌, nat_le, Bool, true, false, Option, Some, None}
-use Rattle.std.specs.Prelude.{min, slice_get, slice_set}
+use Rattle.std.proofs.Common.{◌≡◌, ◌∙◌, refl, ap, sym, ℕ, zero, suc, ◌||◌, ◌⊎◌, inl, inr, List, [], ◌∷◌, ◌++◌, nat_le, true, Option, Some, None}
+use Rattle.std.specs.Prelude.{min, slice_set}
 use Rattle.std.proofs.Math.Bool.{or_assoc, or-false}
 use Rattle.std.proofs.lemmas.Bool.{or_cases, or_left, or_right}
 use Rattle.std.proofs.lemmas.List.{map-append}
-use Rattle.std.proofs.lemmas.List.Folds.{list_any-append}
-use Rattle.std.proofs.lemmas.Option.{same_Some}
-use Rattle.std.specs.List.{fold, list_any, reduce}
-use Rattle.swf_document.specs.Task.{Task}
-use Rattle.swf_meaning.specs.Local.{is_enabled, is_enabled_inside, is_some_enabled}
-use Rattle.swf_meaning.specs.Node.{Node, Fresh, Live, Done, Fault, Inside, At, Later, Sleep, Hear, Forked, Nodes, no_nodes, branch}
-use Rattle.swf_meaning.specs.Wake.{waits, waits_inside, waits_among, is_due as is_due_in}
+use Rattle.std.specs.List.{cons_option, filter_map, fold, list_any, reduce}
+use Rattle.swf_meaning.specs.Listen.{is_heard}
+use Rattle.swf_meaning.specs.Node.{Node}
+use Rattle.swf_meaning.specs.Strands.{tops, can_top}
+use Rattle.swf_meaning.specs.Top.{Top, Begins, Moves, Fails, Retries, Sleeps, Hears, Splits, Ends, Breaks}
+use Rattle.swf_meaning.specs.Wake.{waits, until_top, is_due as is_due_in}
 use Rattle.swf_meaning.specs.World.{Instance}
 use Rattle.swf_strands.specs.Alarm.{alarm_of}
-use Rattle.swf_turns.specs.Alarms.{is_by, is_due}
-use Rattle.swf_turns.specs.Line.{is_among}
-use Rattle.swf_turns.proofs.AlarmLemmas.{is_by_sooner}
+use Rattle.swf_queue.specs.Alarms.{is_by, is_due}
+use Rattle.swf_queue.specs.Queue.{is_among}
+use Rattle.swf_queue.proofs.AlarmLemmas.{is_by_sooner}
 use Rattle.swf_instances.specs.Offers.{put_at}
 use Rattle.swf_instances.specs.Queued.{Queued, enabled_at}
 use Rattle.swf_instances.specs.Waits.{alarms_of}
@@ -40,75 +39,55 @@ some_over moment [] = refl
 some_over moment (i ∷ is) = λ j. alarm_over moment i.node j || some_over moment is j
 
 -- the alarm of an instance that stands in a place of another
-alarms_put : (is : List Instance) (n : ℕ) (j : Instance) → slice_set (alarms_of is) n (alarm_of j.node) ≡ alarms_of (put_at n j is)
+pub alarms_put : (is : List Instance) (n : ℕ) (j : Instance) → slice_set (alarms_of is) n (alarm_of j.node) ≡ alarms_of (put_at n j is)
 alarms_put [] n j = refl
 alarms_put (i ∷ is) zero j = refl
 alarms_put (i ∷ is) (suc n) j = ap (λ os. alarm_of i.node ∷ os) (alarms_put is n j)
-
-put_there : (is : List Instance) (n : ℕ) (i j : Instance) → slice_get is n ≡ Some i → slice_get (put_at n j is) n ≡ Some j
-put_there [] n i j e = cc
-put_there (x ∷ xs) zero i j e = refl
-put_there (x ∷ xs) (suc n) i j e = put_there xs n i j e
-
-pub alarms_set : (is js : List Instance) (n : ℕ) (i j k : Instance) → slice_get is n ≡ Some i → js ≡ put_at n j is → slice_get js n ≡ Some k → slice_set (alarms_of is) n (alarm_of k.node) ≡ alarms_of js
-alarms_set is js n i j k there put stands =
-    let own : k ≡ j = same_Some k j (sym stands ∙ ap (λ xs. slice_get xs n) put ∙ put_there is n i j there) in
-    ap (λ x. slice_set (alarms_of is) n (alarm_of x.node)) own ∙ alarms_put is n j ∙ sym (ap alarms_of put)
 
 -- one more that does not wait
 pub alarms_pushed : (is : List Instance) (i : Instance) → waits i.node ≡ [] → alarms_of is ++ None ∷ [] ≡ alarms_of (is ++ i ∷ [])
 alarms_pushed is i awake = sym (map-append (λ i. alarm_of i.node) is (i ∷ []) ∙ ap (λ ms. alarms_of is ++ reduce min ms ∷ []) awake)
 
 -- a wait that has ended, or none: something can take a step at a moment that it could not take before
-Woke : ℕ → Bool → List ℕ → Type 0
-Woke moment b ms = (b ≡ true) ⊎ (list_any (λ m. nat_le m moment) ms ≡ true)
+Woke : ℕ → ℕ → List (List ℕ × Top) → Type 0
+Woke now moment ss = (list_any (λ s. can_top now s.1) ss ≡ true) ⊎ (list_any (λ m. nat_le m moment) (filter_map (λ s. until_top s.1) ss) ≡ true)
 
--- the same of one of two
-first_woke : (moment : ℕ) (b c : Bool) (ms ks : List ℕ) → Woke moment b ms → Woke moment (b || c) (ms ++ ks)
+-- the same of one more strand
+one_woke : (now moment : ℕ) (bs : List ℕ) (t : Top) (ss : List (List ℕ × Top)) → can_top moment t ≡ true → Woke now moment ((bs, t) ∷ ss)
 unfolding Woke
-first_woke moment b c ms ks w = elim w [
-  | inl e ↦ inl (or_left b c e)
-  | inr h ↦ inr (list_any-append (λ m. nat_le m moment) ms ks ∙ or_left (list_any (λ m. nat_le m moment) ms) (list_any (λ m. nat_le m moment) ks) h)
-]
+one_woke now moment bs (Begins r v) ss e = inl refl
+one_woke now moment bs (Moves r round i w f) ss e = inl refl
+one_woke now moment bs (Fails r round i p) ss e = inl refl
+one_woke now moment bs (Retries r n m) ss e = inr (or_left (nat_le m moment) (list_any (λ k. nat_le k moment) (filter_map (λ s. until_top s.1) ss)) e)
+one_woke now moment bs (Sleeps r m) ss e = inr (or_left (nat_le m moment) (list_any (λ k. nat_le k moment) (filter_map (λ s. until_top s.1) ss)) e)
+one_woke now moment bs (Hears r bound hs) ss e = inl (or_left (is_heard r.task hs) (list_any (λ s. can_top now s.1) ss) e)
+one_woke now moment bs (Splits r ns) ss e = cc
+one_woke now moment bs (Ends w f) ss e = cc
+one_woke now moment bs (Breaks p) ss e = cc
 
-other_woke : (moment : ℕ) (b c : Bool) (ms ks : List ℕ) → Woke moment c ks → Woke moment (b || c) (ms ++ ks)
+more_woke : (now moment : ℕ) (bs : List ℕ) (t : Top) (ss : List (List ℕ × Top)) → Woke now moment ss → Woke now moment ((bs, t) ∷ ss)
 unfolding Woke
-other_woke moment b c ms ks w = elim w [
-  | inl e ↦ inl (or_right b c e)
-  | inr h ↦ inr (list_any-append (λ m. nat_le m moment) ms ks ∙ or_right (list_any (λ m. nat_le m moment) ms) (list_any (λ m. nat_le m moment) ks) h)
+more_woke now moment bs t ss w = elim w [
+  | inl e ↦ inl (or_right (can_top now t) (list_any (λ s. can_top now s.1) ss) e)
+  | inr h ↦ inr (by (until_top t) h)
 ]
+  where
+    by : (o : Option ℕ) → list_any (λ m. nat_le m moment) (filter_map (λ (s : List ℕ × Top). until_top s.1) ss) ≡ true → list_any (λ m. nat_le m moment) (cons_option o (filter_map (λ (s : List ℕ × Top). until_top s.1) ss)) ≡ true
+    by None h = h
+    by (Some m) h = or_right (nat_le m moment) (list_any (λ k. nat_le k moment) (filter_map (λ s. until_top s.1) ss)) h
 
-mutual
-  unfolding Woke
-
-  woke : (now moment : ℕ) (n : Node) → is_enabled moment n ≡ true → Woke moment (is_enabled now n) (waits n)
-  woke now moment (Fresh t v) e = inl refl
-  woke now moment (Live r k) e = woke_inside now moment r.task k e
-  woke now moment (Done w f) e = cc
-  woke now moment (Fault p) e = cc
-
-  woke_inside : (now moment : ℕ) (t : Task) (k : Inside) → is_enabled_inside moment t k ≡ true → Woke moment (is_enabled_inside now t k) (waits_inside k)
-  woke_inside now moment s (At round i (Fresh t v)) e = inl refl
-  woke_inside now moment s (At round i (Live q k)) e = woke now moment (Live q k) e
-  woke_inside now moment s (At round i (Done w f)) e = inl refl
-  woke_inside now moment s (At round i (Fault p)) e = inl refl
-  woke_inside now moment s (Later n m) e = inr (or_left (nat_le m moment) false e)
-  woke_inside now moment s (Sleep m) e = inr (or_left (nat_le m moment) false e)
-  woke_inside now moment s (Hear bound hs) e = inl e
-  woke_inside now moment s (Forked ns) e = woke_among now moment ns e
-
-  woke_among : (now moment : ℕ) (ns : Nodes) → is_some_enabled moment ns ≡ true → Woke moment (is_some_enabled now ns) (waits_among ns)
-  woke_among now moment no_nodes e = cc
-  woke_among now moment (branch n ns) e = elim (or_cases (is_enabled moment n) (is_some_enabled moment ns) e) [
-    | inl h ↦ first_woke moment (is_enabled now n) (is_some_enabled now ns) (waits n) (waits_among ns) (woke now moment n h)
-    | inr h ↦ other_woke moment (is_enabled now n) (is_some_enabled now ns) (waits n) (waits_among ns) (woke_among now moment ns h)
-  ]
+woke : (now moment : ℕ) (ss : List (List ℕ × Top)) → list_any (λ s. can_top moment s.1) ss ≡ true → Woke now moment ss
+woke now moment [] e = cc
+woke now moment (s ∷ ss) e = elim (or_cases (can_top moment s.1) (list_any (λ t. can_top moment t.1) ss) e) [
+  | inl h ↦ one_woke now moment s.0 s.1 ss h
+  | inr h ↦ more_woke now moment s.0 s.1 ss (woke now moment ss h)
+]
 
 -- what is enabled at a moment was enabled now, or its alarm is over then
 enabled_later : (now moment : ℕ) (is : List Instance) (n : ℕ) → enabled_at moment is n ≡ true → (enabled_at now is n ≡ true) ⊎ (is_due moment (alarms_of is) n ≡ true)
 unfolding Woke
 enabled_later now moment [] n e = cc
-enabled_later now moment (i ∷ is) zero e = elim (woke now moment i.node e) [ inl h ↦ inl h | inr h ↦ inr (alarm_over moment i.node ∙ h) ]
+enabled_later now moment (i ∷ is) zero e = elim (woke now moment (tops i.node) e) [ inl h ↦ inl h | inr h ↦ inr (alarm_over moment i.node ∙ h) ]
 enabled_later now moment (i ∷ is) (suc n) e = enabled_later now moment is n e
 
 -- once those are in the queue whose alarms are over, the moment is reached

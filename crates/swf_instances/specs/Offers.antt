@@ -1,9 +1,10 @@
 -- An event is offered to all instances but one, and those that took it are put in their places.
-use Rattle.std.specs.Prelude.{◌≡◌, ℕ, zero, suc, List, [], ◌∷◌, map, Some, slice_get}
+use Rattle.std.specs.Prelude.{◌≡◌, ℕ, zero, suc, List, [], ◌∷◌, Bool, false, length, map, Some, slice_get}
 use Rattle.std.specs.List.{AllByRecursion}
 use Rattle.swf_cloudevents.specs.declared.event.Event.{Event}
-use Rattle.swf_meaning.specs.Offer.{offered_all, offered_one}
+use Rattle.swf_meaning.specs.Offer.{offered_all, offered_one, takers_in}
 use Rattle.swf_meaning.specs.World.{Instance}
+use Rattle.swf_listeners.specs.Listeners.{numbers_where}
 use Rattle.swf_instances.specs.declared.offer.Hearing.{Hearing}
 
 -- with another instance in place of that of a number
@@ -35,3 +36,9 @@ IsHeardFrom is h = slice_get (ids is) h.number ≡ Some h.instance.id
 pub record IsOffer (n : ℕ) (e : Event) (is : List Instance) (hs : List Hearing) : Type 0 where
   pub put : put_all hs is ≡ offered_but n e is
   pub heard : AllByRecursion (IsHeardFrom is) hs
+
+-- these numbers, ascending, are of all that may take an event
+pub record Covers (e : Event) (is : List Instance) (ns : List ℕ) : Type 0 where
+  pub test : ℕ → Bool
+  pub are : ns ≡ numbers_where test (length is)
+  pub others : (n : ℕ) (i : Instance) → slice_get is n ≡ Some i → test n ≡ false → takers_in e i ≡ 0

@@ -4,7 +4,7 @@ use Rattle.std.specs.List.{list_any}
 use Rattle.swf_meaning.specs.Local.{is_enabled}
 use Rattle.swf_meaning.specs.Strands.{can_go}
 use Rattle.swf_meaning.specs.World.{Instance}
-use Rattle.swf_turns.specs.Line.{is_among}
+use Rattle.swf_queue.specs.Queue.{is_among}
 
 -- the instance of that number can take a step
 abbrev pub enabled_at : ℕ → List Instance → ℕ → Bool

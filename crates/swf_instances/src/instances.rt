@@ -6,21 +6,28 @@ ghost use Rattle.swf_meaning.specs.Answer.{instance_at};
 ghost use Rattle.swf_meaning.specs.Wake.{is_due, waits};
 ghost use Rattle.swf_instances.specs.Takes.{FitsAt, take_at};
 
+use crate::listening::{may_change, note_all, note_later};
 use indexmap::IndexMap;
 use std::alloc::{AllocError, Global};
 use std::marker::Model;
 use swf_duration::Moment;
-use swf_tasks::{BoxedMachine, Machine, Step};
+use swf_listeners::Listeners;
+use swf_queue::{Alarms, Queue};
+use swf_tasks::{BoxedMachine, Machine, Prepared, SentEvent};
 use swf_text::Text;
-use swf_turns::{Alarms, Turns};
 
 /// The instances at a moment. Contracts see them in start order, the moment, and how many more fit without memory.
 #[derive(Drop)]
 pub struct Instances {
+    alloc: Global,
     pub(crate) machines: IndexMap<Text, Machine>,
-    pub(crate) turns: Turns,
+    pub(crate) queue: Queue,
     /// Of each instance, the least moment that a strand of it waits for.
     pub(crate) alarms: Alarms,
+    /// Of each instance, what it listens for.
+    pub(crate) listeners: Listeners,
+    /// Those of which that is not noted yet: they came or took a step since room was made last.
+    pub(crate) stale: Queue,
     /// The one that was reached last.
     pub(crate) moment: Moment,
 }
@@ -36,9 +43,9 @@ impl Model for Instances {
 
     ghost use Rattle.swf_instances.specs.Kept.{Kept};
 
-    ghost view = { λ i. record { instances = instances_in i.machines.entries; moment = i.moment; room = min (spare i.machines) (min i.turns.room i.alarms.room) } };
+    ghost view = { λ i. record { instances = instances_in i.machines.entries; moment = i.moment; room = min (min (spare i.machines) i.queue.room) (min i.alarms.room (min i.listeners.room i.stale.room)) } };
 
-    ghost invariant = { λ i. Kept i.machines.entries i.moment i.turns i.alarms.moments };
+    ghost invariant = { λ i. Kept i.machines.entries i.moment i.queue i.alarms.moments i.listeners.wanted i.stale };
 }
 
 impl Instances {
@@ -48,22 +55,29 @@ impl Instances {
         ensures moment { result.moment ≡ 0 }
     {
         Instances {
+            alloc,
             machines: IndexMap::new(alloc),
-            turns: Turns::new(alloc),
+            queue: Queue::new(alloc),
             alarms: Alarms::new(alloc),
+            listeners: Listeners::new(alloc),
+            stale: Queue::new(alloc),
             moment: Moment::new(0),
         }
     }
 
-    /// Makes room for one instance more.
+    /// Makes room for one instance more, and notes what those listen for that came or took a step since it was made last.
     pub fn reserve(&mut self) -> Result<(), AllocError>
         ensures instances { self.new.instances ≡ self.old.instances }
         ensures moment { self.new.moment ≡ self.old.moment }
         ensures room { OnOk result (0 < self.new.room) }
     {
+        let (listeners, stale) = (&mut self.listeners, &mut self.stale);
+        note_all(self.alloc, &self.machines, listeners, stale)?;
         self.machines.reserve(1)?;
-        self.turns.reserve(1)?;
-        self.alarms.reserve(1)
+        self.queue.reserve(1)?;
+        self.alarms.reserve(1)?;
+        self.listeners.reserve(1)?;
+        self.stale.reserve(1)
     }
 
     /// How many there are.
@@ -128,28 +142,36 @@ impl Instances {
         ensures instances { self.new.instances ≡ self.old.instances ++ instance ∷ [] }
         ensures moment { self.new.moment ≡ self.old.moment }
     {
-        self.machines.insert(id, instance.into_machine()).unwrap();
-        self.turns.add();
+        self.machines.insert(id, instance.into_inner()).unwrap();
+        self.queue.add();
         self.alarms.add();
+        self.listeners.add(self.alloc);
+        self.stale.add();
     }
 
-    /// The instance of a number takes a step that was prepared, and gets a turn. It takes no memory.
-    pub fn take(&mut self, number: usize, step: Step)
-        requires { FitsAt number step self.old.instances }
-        ensures instances { self.new.instances ≡ take_at number step self.old.instances }
+    /// The instance of a number takes a step that was prepared, and joins the queue. Answers the event that goes out, where one does.
+    /// It takes no memory.
+    pub fn take(&mut self, number: usize, prepared: Prepared) -> Option<SentEvent>
+        requires { FitsAt number prepared self.old.instances }
+        ensures instances { self.new.instances ≡ take_at number prepared self.old.instances }
         ensures moment { self.new.moment ≡ self.old.moment }
+        ensures emitted { result ≡ prepared.emitted }
     {
-        self.turns.put(number);
-        self.machines[number].take(step);
-        self.alarms.set(number, self.machines[number].alarm());
+        self.queue.put(number);
+        let may_change = may_change(&self.listeners, number, &prepared);
+        note_later(&mut self.stale, number, may_change);
+        let instance = &mut self.machines[number];
+        let emitted = instance.take(prepared);
+        self.alarms.set(number, instance.alarm());
+        emitted
     }
 
-    /// A moment is reached: the instances whose wait is over get turns. It takes no memory.
+    /// A moment is reached: the instances whose wait is over join the queue. It takes no memory.
     pub fn reach(&mut self, moment: Moment)
         ensures instances { self.new.instances ≡ self.old.instances }
         ensures moment { self.new.moment ≡ moment }
     {
-        self.alarms.wake(&mut self.turns, moment.milliseconds());
+        self.alarms.wake(&mut self.queue, moment.milliseconds());
         self.moment = moment;
     }
 }

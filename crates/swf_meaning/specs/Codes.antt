@@ -12,7 +12,7 @@ use Rattle.swf_document.specs.declared.common.Flow.{Flow}
 use Rattle.swf_document.specs.declared.error.Problem.{Problem}
 use Rattle.swf_meaning.specs.declared.heard.Heard.{Heard}
 use Rattle.swf_meaning.specs.declared.label.Label.{Label}
-use Rattle.swf_meaning.specs.Node.{Node, Fresh, Live, Done, Fault, Inside, At, Later, Sleep, Hear, Forked, Nodes, no_nodes, branch, Round, Seq, Each, Try, Catch, Running}
+use Rattle.swf_meaning.specs.Node.{Node, Fresh, Live, Done, Fault, Inside, At, Later, Sleep, Hear, Forked, Nodes, no_nodes, branch, Round, Seq, Each, Try, Catch, Fun, Sub, Running}
 use Rattle.swf_meaning.specs.World.{Instance, World}
 
 pub label_code : Coded Label
@@ -40,12 +40,17 @@ code_round Seq = gcons (gnum 0) gnil
 code_round (Each items j) = gcons (gnum 1) (gcons ((coded_list value_code).code items) (gnum j))
 code_round (Try n) = gcons (gnum 2) (gnum n)
 code_round (Catch p) = gcons (gnum 3) (problem_code.code p)
+code_round Fun = gcons (gnum 4) gnil
+code_round (Sub d v c) = gcons (gnum 5) (gcons (document_code.code d) (gcons (value_code.code v) (value_code.code c)))
 
 pub code_round_inj : (x y : Round) → code_round x ≡ code_round y → x ≡ y
 code_round_inj Seq Seq p = refl
 code_round_inj (Each xs i) (Each ys j) p = λ h. Each ((coded_list value_code).inj xs ys (ap (λ g. head (tail g)) p) h) (ap (λ g. number_in (tail (tail g))) p h)
 code_round_inj (Try n) (Try m) p = ap (λ g. Try (number_in (tail g))) p
 code_round_inj (Catch p) (Catch q) e = ap Catch (problem_code.inj p q (ap tail e))
+code_round_inj Fun Fun p = refl
+code_round_inj (Sub d v c) (Sub e w b) p =
+    λ h. Sub (document_code.inj d e (ap (λ g. head (tail g)) p) h) (value_code.inj v w (ap (λ g. head (tail (tail g))) p) h) (value_code.inj c b (ap (λ g. tail (tail (tail g))) p) h)
 code_round_inj x y p = cc
 
 abbrev mutual

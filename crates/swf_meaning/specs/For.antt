@@ -8,13 +8,13 @@ use Rattle.swf_document.specs.declared.error.Problem.{Problem}
 use Rattle.swf_transform.specs.Fill.{first_of}
 use Rattle.swf_meaning.specs.Complete.{Stepped}
 use Rattle.swf_meaning.specs.Line.{Line, within}
-use Rattle.swf_meaning.specs.Lists.{turn}
+use Rattle.swf_meaning.specs.Lists.{iteration}
 use Rattle.swf_meaning.specs.Node.{Running}
 use Rattle.swf_meaning.specs.Rule.{◌>>=◌, fails, value_of}
 
 -- over the items of a list; any other value is an error
 abbrev pub over : Line → Running → Value → Result Stepped Problem
-over l r (list xs) = turn l r (values_of xs) zero r.input
+over l r (list xs) = iteration l r (values_of xs) zero r.input
 over l r x = fails r.task kinds.Expression (codes "cannot loop")
 
 -- `in` is asked on the transformed input

@@ -8,7 +8,7 @@ use Rattle.swf_document.specs.declared.error.ErrorKind.TheVariants as kinds
 use Rattle.swf_document.specs.declared.error.Problem.{Problem}
 use Rattle.swf_meaning.specs.Complete.{Stepped, becomes, step_of, complete}
 use Rattle.swf_meaning.specs.Line.{Line, Site}
-use Rattle.swf_meaning.specs.Node.{Node, Fresh, Live, Done, Fault, Inside, At, Later, Sleep, Hear, Forked, Nodes, no_nodes, branch, Running}
+use Rattle.swf_meaning.specs.Node.{Node, Fresh, Live, Done, Fault, Forked, Nodes, no_nodes, branch, Running}
 use Rattle.swf_meaning.specs.Parts.{Branches, kind_of, fork_in}
 use Rattle.swf_meaning.specs.Rule.{fails}
 
@@ -17,25 +17,7 @@ abbrev pub count : Nodes → ℕ
 count no_nodes = zero
 count (branch n ns) = suc (count ns)
 
--- how many strands a node has besides that of its outermost task: every branch of every `fork` that runs
-abbrev mutual
-  pub branches_in : Node → ℕ
-  branches_in (Fresh t v) = zero
-  branches_in (Live r k) = branches_inside k
-  branches_in (Done w f) = zero
-  branches_in (Fault p) = zero
-
-  pub branches_inside : Inside → ℕ
-  branches_inside (At round i n) = branches_in n
-  branches_inside (Later n m) = zero
-  branches_inside (Sleep m) = zero
-  branches_inside (Hear bound hs) = zero
-  branches_inside (Forked ns) = count ns + branches_among ns
-
-  pub branches_among : Nodes → ℕ
-  branches_among no_nodes = zero
-  branches_among (branch n ns) = branches_in n + branches_among ns
-
+-- how many branches may be at work in an instance
 abbrev pub most_branches : ℕ
 most_branches = 256
 
@@ -103,9 +85,9 @@ settled l r compete ns (Done w flows.End) = Ok (becomes l (Done w flows.End))
 settled l r compete ns (Done w f) = if compete then complete l r w else joined l r ns (outputs ns)
 settled l r compete ns (Fault p) = Err p
 
--- what the `fork` comes to where it sees the context that the branch left
+-- what the `fork` comes to. A branch leaves the context as it was
 abbrev pub settling : Line → Running → Nodes → ℕ → Stepped → Stepped
-settling l r ns b m = let k = record l { context = m.context } in step_of k (settled k r (competes r.task) (put ns b m.node) m.node)
+settling l r ns b m = step_of l (settled l r (competes r.task) (put ns b m.node) m.node)
 
 -- a branch took its step
 abbrev pub after_branch : Line → Running → Nodes → ℕ → Stepped → Stepped

@@ -1,3 +1,4 @@
+pub mod Documents
 pub mod Parts
 pub mod Node
 pub mod Line

@@ -5,6 +5,7 @@ use Rattle.swf_value.specs.Value.{Value, int, text, object, member, no_members}
 use Rattle.swf_jq_eval.specs.declared.vars.Variable.{Variable}
 use Rattle.swf_document.specs.Task.{Task}
 use Rattle.swf_document.specs.declared.document.Document.{Document}
+use Rattle.swf_meaning.specs.Documents.{Loaded}
 use Rattle.swf_meaning.specs.Node.{Running}
 use Rattle.swf_meaning.specs.Parts.{place_of}
 
@@ -20,11 +21,12 @@ pub record Line : Type 0 where
   pub around : List Variable
 
 -- what a step goes by that needs more of the world than its strand: the number of the instance's next event, how many branches the
--- instance has, and the moment
+-- instance has, the moment, and the loaded documents
 pub record Site : Type 0 where
   pub number : ℕ
   pub branches : ℕ
   pub now : ℕ
+  pub documents : List Loaded
 
 abbrev pub variable : List ℕ → Value → Variable
 variable x v = record { name = x; value = v }

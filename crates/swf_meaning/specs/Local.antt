@@ -1,18 +1,19 @@
 -- The rules by which a strand takes one step (DSL, "Concepts", "Flow directives", "Fault tolerance").
-use Rattle.std.specs.Prelude.{◌||◌, ℕ, List, Bool, true, false, nat_le, Option, Some, None, option_map, option_and_then, Result, Err}
+use Rattle.std.specs.Prelude.{ℕ, List, Bool, Option, Some, None, option_map, option_and_then, Result, Err}
+use Rattle.std.specs.List.{list_any}
 use Rattle.swf_value.specs.Value.{Value}
-use Rattle.swf_document.specs.Task.{Task}
 use Rattle.swf_document.specs.declared.common.Flow.{Flow}
 use Rattle.swf_document.specs.declared.error.Problem.{Problem}
 use Rattle.swf_meaning.specs.Complete.{Stepped, step_of}
 use Rattle.swf_meaning.specs.Enter.{enter}
 use Rattle.swf_meaning.specs.Line.{Line, Site}
-use Rattle.swf_meaning.specs.Listen.{is_heard, heard}
+use Rattle.swf_meaning.specs.Listen.{heard}
 use Rattle.swf_meaning.specs.Lists.{list_of, goes_to}
 use Rattle.swf_meaning.specs.Next.{next}
-use Rattle.swf_meaning.specs.Node.{Node, Fresh, Live, Done, Fault, Inside, At, Later, Sleep, Hear, Forked, Nodes, no_nodes, branch, Round, Seq, Each, Try, Catch, Running}
+use Rattle.swf_meaning.specs.Node.{Node, Round, Seq, Each, Try, Catch, Fun, Sub, Running}
 use Rattle.swf_meaning.specs.Parts.{Catching, kind_of, try_in}
 use Rattle.swf_meaning.specs.Put.{put_at}
+use Rattle.swf_meaning.specs.Strands.{tops, can_top}
 use Rattle.swf_meaning.specs.Top.{Top, Begins, Moves, Fails, Retries, Sleeps, Hears, Splits, Ends, Breaks, top_at, line_at}
 use Rattle.swf_meaning.specs.Try.{caught}
 use Rattle.swf_meaning.specs.Wake.{woken, again}
@@ -31,6 +32,8 @@ failed s l r Seq p = Err p
 failed s l r (Each items j) p = Err p
 failed s l r (Try n) p = caught_by s l r n p (try_in (kind_of r.task))
 failed s l r (Catch q) p = Err p
+failed s l r Fun p = Err p
+failed s l r (Sub d v c) p = Err p
 
 -- Enter, Next, Catch and Pass up, and Wake: the rule that applies to the top of a strand; none where it waits on, splits or is over
 abbrev pub rule : Site → Line → Top → Option (Result Stepped Problem)
@@ -48,24 +51,6 @@ rule s l (Breaks p) = None
 abbrev pub local : Site → Line → List ℕ → Node → Option Stepped
 local s l bs n = let z = line_at l bs n in option_map (λ m. put_at l bs n (step_of z m)) (option_and_then (rule s z) (top_at bs n))
 
--- some strand can take a step at a moment: its innermost node has not begun, has ended with something around it in its strand,
--- waits no more, or heard all that it listens for
-abbrev mutual
-  pub is_enabled : ℕ → Node → Bool
-  is_enabled now (Fresh t v) = true
-  is_enabled now (Live r k) = is_enabled_inside now r.task k
-  is_enabled now (Done w f) = false
-  is_enabled now (Fault p) = false
-
-  pub is_enabled_inside : ℕ → Task → Inside → Bool
-  is_enabled_inside now t (At round i (Done w f)) = true
-  is_enabled_inside now t (At round i (Fault p)) = true
-  is_enabled_inside now t (At round i n) = is_enabled now n
-  is_enabled_inside now t (Later n until) = nat_le until now
-  is_enabled_inside now t (Sleep until) = nat_le until now
-  is_enabled_inside now t (Hear bound hs) = is_heard t hs
-  is_enabled_inside now t (Forked ns) = is_some_enabled now ns
-
-  pub is_some_enabled : ℕ → Nodes → Bool
-  is_some_enabled now no_nodes = false
-  is_some_enabled now (branch n ns) = is_enabled now n || is_some_enabled now ns
+-- some strand can take a step at a moment
+abbrev pub is_enabled : ℕ → Node → Bool
+is_enabled now n = list_any (λ s. can_top now s.1) (tops n)

@@ -3,6 +3,7 @@ use Rattle.std.specs.Prelude.{ℕ, List}
 use Rattle.swf_value.specs.Value.{Value, Members}
 use Rattle.swf_document.specs.Task.{Task}
 use Rattle.swf_document.specs.declared.common.Flow.{Flow}
+use Rattle.swf_document.specs.declared.document.Document.{Document}
 use Rattle.swf_document.specs.declared.error.Problem.{Problem}
 use Rattle.swf_meaning.specs.declared.heard.Heard.{Heard}
 
@@ -12,13 +13,16 @@ pub record Running : Type 0 where
   pub raw : Value
   pub input : Value
 
--- for what a list of tasks is run: once; as the turn of a `for` over these items; as the attempt of a `try` after so many
--- retries; or to handle an error that was caught
+-- for what a list of tasks is run: once; as the iteration of a `for` over these items; as the attempt of a `try` after so many
+-- retries; to handle an error that was caught; as a function that was called; or as the workflow of a document, on that raw input, with a
+-- context of its own
 pub data Round : Type 0 where
   Seq : Round
   Each : List Value → ℕ → Round
   Try : ℕ → Round
   Catch : Problem → Round
+  Fun : Round
+  Sub : Document → Value → Value → Round
 
 -- a task that has not begun, with its raw input; one at work, with what runs inside; one that is done, with its output and
 -- where control goes; and one that ended in an error. A workflow is a task too: a `do` at the empty place

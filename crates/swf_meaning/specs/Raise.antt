@@ -41,7 +41,7 @@ abbrev pub or_place : Task → Option (List ℕ) → List ℕ
 or_place t None = pointer (place_of t)
 or_place t (Some x) = x
 
--- the parts are filled in turn, by ascending name
+-- the parts are filled one after the other, by ascending name
 abbrev pub raised : Task → List Variable → Value → ErrorSpec → Result Problem Problem
 raised t vars u e = do
   detail ← part t vars u e.detail

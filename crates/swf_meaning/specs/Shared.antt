@@ -1,7 +1,8 @@
 -- Steps that need more of the world than the instance itself: that it may wait, or make an activity, an event or strands.
 use Rattle.std.specs.Prelude.{ℕ, zero, suc, List, Bool, true, false, is_some, Option, Some, None, option_map, if◌then◌else◌}
 use Rattle.swf_document.specs.Task.{Kind, call, do_all, emit, for, fork, listen, raise, run, set, switch, try, wait}
-use Rattle.swf_meaning.specs.Node.{Node, Round, Seq, Each, Try, Catch}
+use Rattle.swf_meaning.specs.Documents.{Loaded}
+use Rattle.swf_meaning.specs.Node.{Node, Round, Seq, Each, Try, Catch, Fun, Sub}
 use Rattle.swf_meaning.specs.Parts.{Catching, kind_of, try_in}
 use Rattle.swf_meaning.specs.Top.{Top, Begins, Moves, Fails, Retries, Sleeps, Hears, Splits, Ends, Breaks, top_at, top_is}
 use Rattle.swf_meaning.specs.World.{Instance, step_at, with_step}
@@ -31,6 +32,8 @@ is_shared_error Seq k = false
 is_shared_error (Each items j) k = false
 is_shared_error (Try n) k = has_retry (try_in k)
 is_shared_error (Catch p) k = false
+is_shared_error Fun k = false
+is_shared_error (Sub d v c) k = false
 
 -- the step of a top is shared
 abbrev pub is_shared_top : Top → Bool
@@ -49,8 +52,8 @@ abbrev pub is_shared : List ℕ → Node → Bool
 is_shared bs n = top_is is_shared_top (top_at bs n)
 
 -- one step that is not shared; none where the next one is, or there is none
-abbrev pub unshared : ℕ → List ℕ → Instance → Option Instance
-unshared now bs i = if is_shared bs i.node then None else option_map (with_step i) (step_at now bs i)
+abbrev pub unshared : ℕ → List Loaded → List ℕ → Instance → Option Instance
+unshared now ds bs i = if is_shared bs i.node then None else option_map (with_step i) (step_at now ds bs i)
 
 -- with the step before those that were taken, where there is one
 abbrev pub after_one : Instance → Option (Instance × ℕ) → Instance × ℕ
@@ -58,6 +61,6 @@ after_one i None = (i, zero)
 after_one i (Some r) = (r.0, suc r.1)
 
 -- what at most so many such steps of a strand at a moment lead to, and how many were taken
-abbrev pub advanced : ℕ → List ℕ → ℕ → Instance → Instance × ℕ
-advanced now bs zero i = (i, zero)
-advanced now bs (suc n) i = after_one i (option_map (advanced now bs n) (unshared now bs i))
+abbrev pub advanced : ℕ → List Loaded → List ℕ → ℕ → Instance → Instance × ℕ
+advanced now ds bs zero i = (i, zero)
+advanced now ds bs (suc n) i = after_one i (option_map (advanced now ds bs n) (unshared now ds bs i))

@@ -1,32 +1,42 @@
 -- The strands of an instance: its lines of control, each named by the numbers of its branches from the outside in (DSL reference,
 -- "Fork").
-use Rattle.std.specs.Prelude.{◌+◌, ◌++◌, ℕ, zero, List, [], ◌∷◌, Bool, true, false, nat_le, map}
+use Rattle.std.specs.Prelude.{◌+◌, ◌-◌, ◌++◌, ℕ, zero, length, List, [], ◌∷◌, Bool, true, false, nat_le, map}
 use Rattle.swf_meaning.specs.Listen.{is_heard}
-use Rattle.swf_meaning.specs.Node.{Node, Fresh, Live, Done, Fault, Inside, At, Later, Sleep, Hear, Forked, Nodes, no_nodes, branch}
+use Rattle.swf_meaning.specs.Node.{Node, Fresh, Live, Done, Fault, Inside, At, Later, Sleep, Hear, Forked, Nodes, no_nodes, branch, Running}
 use Rattle.swf_meaning.specs.Top.{Top, Begins, Moves, Fails, Retries, Sleeps, Hears, Splits, Ends, Breaks, top_at, top_is}
 
--- the strands below that of a node's outermost task, ascending: one before those of its branches
+-- the name of a strand inside a branch of that number, as seen from the `fork`; its top is the same
+abbrev pub in_branch : ℕ → List ℕ × Top → List ℕ × Top
+in_branch b s = (b ∷ s.0, s.1)
+
+-- all strands of a node, ascending, each with its top: first the outermost one, then those of the branches of a `fork` in order
 abbrev mutual
-  pub strands_below : Node → List (List ℕ)
-  strands_below (Fresh t v) = []
-  strands_below (Live r k) = strands_inside k
-  strands_below (Done w f) = []
-  strands_below (Fault p) = []
+  pub tops : Node → List (List ℕ × Top)
+  tops (Fresh t v) = ([], Begins t v) ∷ []
+  tops (Live r k) = tops_inside r k
+  tops (Done w f) = ([], Ends w f) ∷ []
+  tops (Fault p) = ([], Breaks p) ∷ []
 
-  pub strands_inside : Inside → List (List ℕ)
-  strands_inside (At round i n) = strands_below n
-  strands_inside (Later n m) = []
-  strands_inside (Sleep m) = []
-  strands_inside (Hear bound hs) = []
-  strands_inside (Forked ns) = strands_from zero ns
+  pub tops_inside : Running → Inside → List (List ℕ × Top)
+  tops_inside r (At round i (Done w f)) = ([], Moves r round i w f) ∷ []
+  tops_inside r (At round i (Fault p)) = ([], Fails r round i p) ∷ []
+  tops_inside r (At round i n) = tops n
+  tops_inside r (Later n until) = ([], Retries r n until) ∷ []
+  tops_inside r (Sleep until) = ([], Sleeps r until) ∷ []
+  tops_inside r (Hear bound hs) = ([], Hears r bound hs) ∷ []
+  tops_inside r (Forked ns) = ([], Splits r ns) ∷ tops_from zero ns
 
-  pub strands_from : ℕ → Nodes → List (List ℕ)
-  strands_from b no_nodes = []
-  strands_from b (branch n ns) = map (λ bs. b ∷ bs) ([] ∷ strands_below n) ++ strands_from (b + 1) ns
+  pub tops_from : ℕ → Nodes → List (List ℕ × Top)
+  tops_from b no_nodes = []
+  tops_from b (branch n ns) = map (in_branch b) (tops n) ++ tops_from (b + 1) ns
 
--- all strands, ascending
+-- their names
 abbrev pub strands : Node → List (List ℕ)
-strands n = [] ∷ strands_below n
+strands n = map (λ s. s.0) (tops n)
+
+-- how many there are besides the first: one for every branch of every `fork` that runs
+abbrev pub branches_in : Node → ℕ
+branches_in n = length (strands n) - 1
 
 -- the top of a strand can take a step at a moment: it has not begun, has ended with something around it in its strand, waits no more,
 -- or heard all that it listens for

@@ -3,13 +3,14 @@ use Rattle.std.specs.Prelude.{◌+◌, ℕ, List, [], Option}
 use Rattle.swf_value.specs.Value.{Value, null}
 use Rattle.swf_cloudevents.specs.declared.event.Event.{Event}
 use Rattle.swf_document.specs.declared.document.Document.{Document}
+use Rattle.swf_meaning.specs.Documents.{Loaded}
 use Rattle.swf_meaning.specs.Node.{Node, Fresh}
 use Rattle.swf_meaning.specs.declared.key.Key.{Key}
 use Rattle.swf_meaning.specs.Complete.{Stepped}
 use Rattle.swf_meaning.specs.Line.{Line, Site}
 use Rattle.swf_meaning.specs.Local.{local}
-use Rattle.swf_meaning.specs.Fork.{branches_in}
 use Rattle.swf_meaning.specs.Parts.{workflow}
+use Rattle.swf_meaning.specs.Strands.{branches_in}
 
 -- an instance: its document, its raw input, when it started, its context, its tree, and the number of its next event
 pub record Instance : Type 0 where
@@ -20,11 +21,6 @@ pub record Instance : Type 0 where
   pub context : Value
   pub node : Node
   pub number : ℕ
-
--- a document that was loaded, beside the value that it was read from
-pub record Loaded : Type 0 where
-  pub value : Value
-  pub document : Document
 
 -- the documents in load order, the instances in start order, the used keys with their places, the moment,
 -- the events that were emitted, and how many labels came before
@@ -43,13 +39,13 @@ empty = record { documents = []; instances = []; keys = []; now = 0; outbox = []
 abbrev pub line_of : Instance → Line
 line_of i = record { document = i.document; id = i.id; started = i.started; input = i.input; context = i.context; around = [] }
 
--- and what some go by besides, at a moment
-abbrev pub site_of : ℕ → Instance → Site
-site_of now i = record { number = i.number; branches = branches_in i.node; now = now }
+-- and what some go by besides, at a moment, where these documents are loaded
+abbrev pub site_of : ℕ → List Loaded → Instance → Site
+site_of now ds i = record { number = i.number; branches = branches_in i.node; now = now; documents = ds }
 
--- the step of a strand of an instance at a moment
-abbrev pub step_at : ℕ → List ℕ → Instance → Option Stepped
-step_at now bs i = local (site_of now i) (line_of i) bs i.node
+-- the step of a strand of an instance then
+abbrev pub step_at : ℕ → List Loaded → List ℕ → Instance → Option Stepped
+step_at now ds bs i = local (site_of now ds i) (line_of i) bs i.node
 
 -- an instance that has just begun
 abbrev pub new_instance : List ℕ → Value → ℕ → Document → Instance

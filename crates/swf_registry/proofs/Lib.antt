@@ -1,3 +1,1 @@
-pub mod BuiltLemmas
 pub mod Lookups
-pub mod Versions

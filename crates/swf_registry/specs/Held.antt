@@ -1,10 +1,8 @@
--- What the used keys and the documents are to those above: a list, and how many more fit without memory.
+-- What the used keys are to those above: a list, and how many more fit without memory.
 use Rattle.std.specs.Prelude.{ℕ, List, refl}
 use Rattle.std.specs.Coded.{Coded, code_by, codes, coded×, coded_ℕ, coded_list}
-use Rattle.swf_value.specs.ValueCode.{value_code, members_code}
-use Rattle.swf_document.specs.DocumentCode.{key_code, document_code}
+use Rattle.swf_document.specs.DocumentCode.{key_code}
 use Rattle.swf_meaning.specs.declared.key.Key.{Key}
-use Rattle.swf_meaning.specs.World.{Loaded}
 
 -- every used key with its place, in the order of use
 pub record HeldKeys : Type 0 where
@@ -16,14 +14,3 @@ used_key_code = hlevel (codes, key_code)
 
 abbrev pub held_keys_code : Coded HeldKeys
 held_keys_code = code_by (List (Key × ℕ) × ℕ) (coded× (coded_list (coded× used_key_code coded_ℕ)) coded_ℕ) (λ h. (h.keys, h.room)) (λ p. record { keys = p.0; room = p.1 }) (λ _. refl)
-
--- the documents, in load order
-pub record HeldDocuments : Type 0 where
-  pub documents : List Loaded
-  pub room : ℕ
-
-pub loaded_code : Coded Loaded
-loaded_code = hlevel (codes, value_code, members_code, document_code)
-
-abbrev pub held_documents_code : Coded HeldDocuments
-held_documents_code = code_by (List Loaded × ℕ) (coded× (coded_list loaded_code) coded_ℕ) (λ h. (h.documents, h.room)) (λ p. record { documents = p.0; room = p.1 }) (λ _. refl)

@@ -1,4 +1,2 @@
 pub mod UsedKey
 pub mod Held
-pub mod Versions
-pub mod Loads

@@ -1,14 +1,14 @@
 -- Which used key is looked up.
 use denote.Bor.{Bor}
-use Rattle.std.specs.Prelude.{◌≡◌, ◌&&◌, refl, ℕ, List, [], ◌∷◌, Bool, true, false, Option, Some, None, if◌then◌else◌}
+use Rattle.std.specs.Prelude.{◌≡◌, refl, ℕ, List, [], ◌∷◌, Bool, true, Option, Some, None, if◌then◌else◌}
 use Rattle.std.proofs.Common.{ap, ◌∙◌}
-use Rattle.swf_text.specs.Same.{same}
 use Rattle.swf_runs.proofs.OnceLemmas.{same_key_true}
 use Rattle.swf_document.specs.declared.document.DocKey.{DocKey}
 use Rattle.swf_meaning.specs.contracts.key.KeyPartialEq.TheImpl.{ghosts}
 use Rattle.swf_meaning.specs.declared.key.Key.{Key}
 use Rattle.swf_meaning.specs.declared.key.Key.TheVariants.{Document, Instance, Event, Activity, Moment}
-use Rattle.swf_runs.specs.Keys.{same_doc, same_key}
+use Rattle.swf_catalog.specs.Loads.{docs_alike}
+use Rattle.swf_runs.specs.Keys.{same_key}
 use Rattle.swf_registry.specs.declared.sought.Sought.{Sought}
 use Rattle.swf_registry.specs.declared.sought.Sought.TheVariants as sought
 
@@ -39,18 +39,6 @@ sought_alike F G d i e a (sought.Document k) = d k
 sought_alike F G d i e a (sought.Instance id) = i id
 sought_alike F G d i e a (sought.Event source id) = e source id
 sought_alike F G d i e a (sought.Activity x) = a x
-
-and_again : (a b c : Bool) → ((a && b) && c) ≡ (a && (b && c))
-and_again true b c = refl
-and_again false b c = refl
-
--- the test that maps use
-abbrev pub doc_eq : DocKey → DocKey → Bool
-doc_eq a b = same a.namespace b.namespace && (same a.name b.name && same a.version b.version)
-
--- two keys are one where their parts are
-pub docs_alike : (a b : DocKey) → same_doc a b ≡ doc_eq a b
-docs_alike a b = and_again (same a.namespace b.namespace) (same a.name b.name) (same a.version b.version)
 
 -- the test of the type of keys
 abbrev pub key_eq : Key → Key → Bool

@@ -1,11 +1,11 @@
 // How a used key is looked up without a copy.
 ghost use Rattle.std.specs.Prelude.{◌≡◌, refl};
 ghost use Rattle.swf_registry.specs.UsedKey.{stands_for, hashed_alike, stands_alike, sought_alike};
-ghost use Rattle.swf_runs.specs.Keys.{same_doc};
+ghost use Rattle.swf_meaning.specs.Documents.{same_doc};
 
-use crate::documents::same_name;
 use indexmap::Equivalent;
 use std::hash::Hash;
+use swf_catalog::same_name;
 use swf_document::DocKey;
 use swf_meaning::Key;
 use swf_text::{Text, same_texts};

@@ -80,8 +80,8 @@ fn push_instance(
     timers: &mut Vec<Json>,
     instance: &Machine,
 ) -> Result<(), AllocError>
-    ensures listens { OnOk result (listens.new.items ≡ listens.old.items ++ map (listen_value instance.now) (listening [] instance.now.node)) }
-    ensures timers { OnOk result (timers.new.items ≡ timers.old.items ++ map (timer_value instance.now) (waiting [] instance.now.node)) }
+    ensures listens { OnOk result (listens.new.items ≡ listens.old.items ++ map (listen_value instance.now) (listening instance.now.node)) }
+    ensures timers { OnOk result (timers.new.items ≡ timers.old.items ++ map (timer_value instance.now) (waiting instance.now.node)) }
 {
     for strand in instance.strands(alloc)? {
         push_listen(alloc, listens, instance, &strand)?;

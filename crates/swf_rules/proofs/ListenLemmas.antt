@@ -1,19 +1,16 @@
 -- What a `listen` binds before any event, and which filters it passes over.
-use Rattle.std.proofs.Common.{arith, ◌≡◌, ◌∙◌, ℕ, List, [], ◌∷◌, ◌++◌, true, None, Ok, Err, refl, ap, sym, ◌<◌, ◌+◌, length, get_or, drop}
-use Rattle.std.proofs.lemmas.List.{at_drop_more, drop_more}
-use Rattle.std.specs.Prelude.{Result, if◌then◌else◌}
+use Rattle.std.proofs.Common.{◌≡◌, ◌∙◌, ℕ, List, [], ◌∷◌, ◌++◌, Ok, Err, refl, ap, sym, ◌<◌, ◌+◌, length, get_or, drop}
+use Rattle.std.proofs.lemmas.List.{at_drop_more}
+use Rattle.std.specs.Prelude.{Result}
 use Rattle.std.specs.Result.{IsErrAnd}
 use Rattle.swf_value.specs.Value.{Value, Members}
 use Rattle.swf_jq_eval.specs.declared.vars.Variable.{Variable}
-use Rattle.swf_cloudevents.specs.declared.event.Event.{Event}
 use Rattle.swf_document.specs.Task.{Task}
 use Rattle.swf_document.specs.declared.error.Problem.{Problem}
 use Rattle.swf_document.specs.declared.event.Correlation.{Correlation}
 use Rattle.swf_document.specs.declared.event.Filter.{Filter}
-use Rattle.swf_transform.specs.Filter.{correlated}
-use Rattle.swf_meaning.specs.Listen.{expecting, bound_by, correlations, is_met, or_else, hears, taken_from}
+use Rattle.swf_meaning.specs.Listen.{expecting, bound_by, correlations}
 use Rattle.swf_meaning.specs.Rule.{◌>>=◌}
-use Rattle.swf_meaning.specs.declared.heard.Heard.{Heard}
 use Rattle.swf_scene.proofs.HaltLemmas.{Gives-same, Gives-passed}
 use Rattle.swf_scene.specs.Halts.{Gives}
 use Rattle.swf_scene.specs.declared.halt.Halt.{Halt}

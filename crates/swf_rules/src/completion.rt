@@ -10,9 +10,10 @@ ghost use Rattle.swf_scene.specs.Setting.{line_of};
 
 use crate::rule::Rule;
 use std::alloc::{AllocError, Global};
+use swf_catalog::TaskRef;
 use swf_document::{ErrorKind, Flow};
 use swf_scene::{Halt, Scene, before, behind, value_of};
-use swf_stack::{Made, TaskRef, Top};
+use swf_stack::{Made, Top};
 use swf_transform::{fill, is_within};
 use swf_value::Json;
 
@@ -67,8 +68,8 @@ impl Rule<'_> {
         match self.running.task().output_as() {
             None => Ok(given),
             Some(template) => {
-                let vars = self.within()?;
-                self.value_of(fill(self.alloc, template, &vars, &given)?)
+                let sight = self.within()?;
+                self.value_of(fill(self.alloc, template, sight.vars(), &given)?)
             }
         }
     }
@@ -80,7 +81,8 @@ impl Rule<'_> {
         match self.running.task().export_as() {
             None => Ok(finished(output, flow, self.scene.context.copy()?)),
             Some(template) => {
-                let vars = behind(self.alloc, self.scene, self.running, &output)?;
+                let sight = self.within()?;
+                let vars = behind(self.alloc, self.scene, sight.vars(), &output)?;
                 let context = self.value_of(fill(self.alloc, template, &vars, &output)?)?;
                 Ok(finished(output, flow, context))
             }
@@ -94,8 +96,18 @@ impl Rule<'_> {
         if !is_within(&given) {
             return Err(self.fails(ErrorKind::Runtime, "value limit"));
         }
-        let output = self.output_of(given)?;
-        self.exported(flow, output)
+        if self.running.task().output_as().is_none() {
+            return self.exported(flow, given);
+        }
+        let sight = self.within()?;
+        let rule = Rule {
+            alloc: self.alloc,
+            scene: self.scene,
+            running: self.running,
+            vars: Some(sight.vars()),
+        };
+        let output = rule.output_of(given)?;
+        rule.exported(flow, output)
     }
 
     /// The task ends with a raw output, and control goes on by its own `then`.

@@ -10,7 +10,7 @@ use crate::completion::step_of;
 use crate::rule::Rule;
 use std::alloc::{AllocError, Global};
 use swf_cloudevents::{EventFault, read_event};
-use swf_document::{ErrorKind, Template};
+use swf_document::{Boxed, ErrorKind, Template};
 use swf_scene::Halt;
 use swf_stack::{Made, SentEvent};
 use swf_text::{Text, TextBuilder, word};
@@ -67,7 +67,7 @@ impl Rule<'_> {
     {
         match read_event(self.alloc, value) {
             Ok(event) => {
-                let event = SentEvent::new(self.alloc, event)?;
+                let event = Boxed::new(self.alloc, event)?;
                 let given = self.complete(self.running.input().copy()?);
                 Ok(with_event(step_of(self.scene, given)?, event))
             }

@@ -2,7 +2,7 @@
 ghost use Rattle.swf_meaning.specs.For.{looping, over};
 ghost use Rattle.swf_rules.specs.Rules.{line_in};
 ghost use Rattle.swf_scene.specs.Halts.{Makes};
-ghost use Rattle.swf_stack.specs.TaskRef.{loop_of};
+ghost use Rattle.swf_catalog.specs.TaskRef.{loop_of};
 
 use crate::rule::Rule;
 use swf_document::{ErrorKind, ForSpec};
@@ -16,19 +16,19 @@ impl Rule<'_> {
     pub fn looping(&self, spec: &ForSpec) -> Result<Made, Halt>
         ensures { Makes (looping (line_in self.now) self.now.running.now (loop_of spec.now)) result }
     {
-        let vars = self.within()?;
-        let items = first(self.alloc, &spec.items, &vars, self.running.input())?;
+        let sight = self.within()?;
+        let items = first(self.alloc, &spec.items, sight.vars(), self.running.input())?;
         let items = self.value_of(items)?;
         self.over(&items)
     }
 
-    // The first turn over the items of a list; any other value is an error.
+    // The first iteration over the items of a list; any other value is an error.
     #[tactic(auto, using(swf_jq_builtins::proofs::Lists::values_of_items_of))]
     fn over(&self, items: &Json) -> Result<Made, Halt>
         ensures { Makes (over (line_in self.now) self.now.running.now items.now) result }
     {
         match items.node() {
-            JsonNode::List(items) => self.turn(items.copy()?, 0, self.running.input().copy()?),
+            JsonNode::List(items) => self.iteration(items.copy()?, 0, self.running.input().copy()?),
             _ => Err(self.fails(ErrorKind::Expression, "cannot loop")),
         }
     }

@@ -90,8 +90,8 @@ impl Rule<'_> {
     pub fn listening(&self, spec: &ListenSpec) -> Result<Made, Halt>
         ensures { Makes (listening (line_in self.now) self.now.running.now spec.now) result }
     {
-        let vars = self.within()?;
-        let bound = self.bound_of(&vars, spec.filters.as_slice())?;
+        let sight = self.within()?;
+        let bound = self.bound_of(sight.vars(), spec.filters.as_slice())?;
         let top = Top::Hearing {
             running: self.running.copy()?,
             bound,

@@ -3,22 +3,24 @@ ghost use Rattle.std.specs.Prelude.{◌≡◌, ◌<◌, ◌-◌, ◌^◌, IfOk, 
 ghost use Rattle.swf_meaning.specs.Around.{seen};
 ghost use Rattle.swf_meaning.specs.Complete.{asked, becomes};
 ghost use Rattle.swf_meaning.specs.Line.{within};
-ghost use Rattle.swf_meaning.specs.Lists.{comes_to, list_ended, turn, turn_guarded, turn_begins, begins_with, guard_of};
+ghost use Rattle.swf_meaning.specs.Lists.{comes_to, list_ended, iteration, iteration_guarded, iteration_begins, begins_with, guard_of};
 ghost use Rattle.swf_meaning.specs.Node.{Live, At};
 ghost use Rattle.swf_rules.specs.Rules.{line_in};
 ghost use Rattle.swf_scene.specs.Halts.{Gives, Makes};
-ghost use Rattle.swf_stack.specs.Stack.{round_of, made_node, stepped_of};
+ghost use Rattle.swf_catalog.specs.Rounds.{round_of};
+ghost use Rattle.swf_stack.specs.Stack.{made_node, stepped_of};
 
 use crate::rule::Rule;
 use std::alloc::AllocError;
+use swf_catalog::{Iteration, Round, TaskRef};
 use swf_document::Flow;
 use swf_expr::Expr;
 use swf_scene::{Halt, within};
-use swf_stack::{Frame, Made, Round, SharedFrame, TaskRef, Top, Turn};
+use swf_stack::{Frame, Made, Top};
 use swf_value::{Json, JsonList};
 
-// So many turns have numbers.
-const MOST_TURNS: u64 = 1 << 53;
+// So many iterations have numbers.
+const MOST_ITERATIONS: u64 = 1 << 53;
 
 // The first task of the list begins with a value; a list without tasks gives that value.
 fn begins_with(child: Option<TaskRef>, value: Json) -> Top
@@ -44,45 +46,45 @@ impl Rule<'_> {
         Ok(self.holding(round, place, Top::Fresh { task, raw: value })?)
     }
 
-    /// The task's list has ended with a value: a `for` goes on to its next turn, and any other task is complete.
+    /// The task's list has ended with a value: a `for` goes on to its next iteration, and any other task is complete.
     pub(crate) fn list_ended(&self, round: Round, value: Json) -> Result<Made, Halt>
         ensures { Makes (list_ended (line_in self.now) self.now.running.now (round_of round) value) result }
     {
         match round {
-            Round::Each(Turn { items, number }) => self.turn(items, number + 1, value),
+            Round::Each(Iteration { items, number }) => self.iteration(items, number + 1, value),
             _ => self.complete(value),
         }
     }
 
-    /// The turn of a number begins with a value, unless no item is left.
-    pub(crate) fn turn(&self, items: JsonList, number: u64, value: Json) -> Result<Made, Halt>
-        ensures { Makes (turn (line_in self.now) self.now.running.now items number value) result }
+    /// The iteration of a number begins with a value, unless no item is left.
+    pub(crate) fn iteration(&self, items: JsonList, number: u64, value: Json) -> Result<Made, Halt>
+        ensures { Makes (iteration (line_in self.now) self.now.running.now items number value) result }
     {
         if number as usize >= items.as_slice().len() {
             return self.complete(value);
         }
-        if number >= MOST_TURNS {
+        if number >= MOST_ITERATIONS {
             return Err(Halt::OutOfMemory);
         }
-        let round = Round::Each(Turn { items, number });
-        self.turn_guarded(round, value)
+        let round = Round::Each(Iteration { items, number });
+        self.iteration_guarded(round, value)
     }
 
-    // `while` is asked before a turn.
-    fn turn_guarded(&self, round: Round, value: Json) -> Result<Made, Halt>
-        ensures { Makes (turn_guarded (line_in self.now) self.now.running.now (round_of round) value (guard_of self.now.running.now.task)) result }
+    // `while` is asked before an iteration.
+    fn iteration_guarded(&self, round: Round, value: Json) -> Result<Made, Halt>
+        ensures { Makes (iteration_guarded (line_in self.now) self.now.running.now (round_of round) value (guard_of self.now.running.now.task)) result }
     {
         let Some(condition) = self.running.task().guard() else {
-            return self.turn_begins(round, value);
+            return self.iteration_begins(round, value);
         };
         if self.goes_on(&round, &value, condition)? {
-            self.turn_begins(round, value)
+            self.iteration_begins(round, value)
         } else {
             self.complete(value)
         }
     }
 
-    // Whether a `while` is true before a turn.
+    // Whether a `while` is true before an iteration.
     fn goes_on(&self, round: &Round, value: &Json, condition: &Expr) -> Result<bool, Halt>
         ensures { Gives (asked self.now.running.now.task (within (seen (line_in self.now) self.now.running.now.task (round_of round.now)) self.now.running.now) value.now condition.now) result }
     {
@@ -91,9 +93,9 @@ impl Rule<'_> {
         self.asked(&vars, value, condition)
     }
 
-    // A turn begins with the first task of the list.
-    fn turn_begins(&self, round: Round, value: Json) -> Result<Made, Halt>
-        ensures { Makes (Ok (turn_begins (line_in self.now) self.now.running.now (round_of round) value)) result }
+    // An iteration begins with the first task of the list.
+    fn iteration_begins(&self, round: Round, value: Json) -> Result<Made, Halt>
+        ensures { Makes (Ok (iteration_begins (line_in self.now) self.now.running.now (round_of round) value)) result }
     {
         let child = self.running.task().child(&round, 0)?;
         Ok(self.holding(round, 0, begins_with(child, value))?)
@@ -106,16 +108,12 @@ impl Rule<'_> {
     {
         let context = self.scene.context.copy()?;
         let running = self.running.copy()?;
-        let frame = SharedFrame::new(
-            self.alloc,
-            Frame {
+        Ok(Made {
+            frame: Some(Frame {
                 running,
                 round,
                 place,
-            },
-        )?;
-        Ok(Made {
-            frame: Some(frame),
+            }),
             top,
             context,
             emitted: None,

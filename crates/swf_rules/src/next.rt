@@ -6,15 +6,16 @@ ghost use Rattle.swf_meaning.specs.Local.{moved_on, failed};
 ghost use Rattle.swf_rules.specs.Goals.{goal_of};
 ghost use Rattle.swf_rules.specs.Rules.{line_in};
 ghost use Rattle.swf_scene.specs.Halts.{Makes};
-ghost use Rattle.swf_stack.specs.Stack.{round_of};
+ghost use Rattle.swf_catalog.specs.Rounds.{round_of};
 ghost use Rattle.swf_scene.specs.Setting.{line_of, site_of};
 
 use crate::completion::finished;
 use crate::rule::Rule;
 use std::alloc::Global;
+use swf_catalog::{Round, Work};
 use swf_document::{Flow, Named, Problem};
 use swf_scene::{Halt, Scene};
-use swf_stack::{Frame, Made, Round, Work};
+use swf_stack::{Frame, Made};
 use swf_text::{Text, same_texts};
 use swf_value::Json;
 
@@ -68,27 +69,25 @@ impl Rule<'_> {
 }
 
 /// A task of a running task's list is done.
-pub fn moved_on(
+#[tactic(auto, using(swf_stack::proofs::RoundLemmas::workflow_ended_of))]
+pub fn moved_on<'s>(
     alloc: Global,
-    scene: &Scene,
-    frame: &Frame,
+    scene: &'s Scene<'s>,
+    frame: &'s Frame,
     output: &Json,
     flow: &Flow,
 ) -> Result<Made, Halt>
     ensures { Makes (moved_on (line_of scene.entry.now) frame.now.running (round_of frame.now.round) frame.now.place output.now flow.now) result }
 {
-    let Frame {
-        running,
-        round,
-        place,
-    } = frame;
+    let (running, round) = (&frame.running, &frame.round);
     let rule = Rule {
         alloc,
         scene,
         running,
+        vars: None,
     };
     let output = output.copy()?;
-    match next(running.task().named(round), *place, flow) {
+    match next(running.task().named(round), frame.place, flow) {
         Goal::Place(place) => rule.comes_to(round.copy()?, place, output),
         Goal::ListEnd => rule.list_ended(round.copy()?, output),
         Goal::WorkflowEnd => rule.ended(output),
@@ -96,16 +95,21 @@ pub fn moved_on(
 }
 
 /// A task of a running task's list ended in an error: a `try` may catch it, and it ends any other task.
-pub fn failed(alloc: Global, scene: &Scene, frame: &Frame, problem: &Problem) -> Result<Made, Halt>
+pub fn failed<'s>(
+    alloc: Global,
+    scene: &'s Scene<'s>,
+    frame: &'s Frame,
+    problem: &Problem,
+) -> Result<Made, Halt>
     ensures { Makes (failed (site_of scene.entry.now) (line_of scene.entry.now) frame.now.running (round_of frame.now.round) problem.now) result }
 {
-    let running = &frame.running;
     let rule = Rule {
         alloc,
         scene,
-        running,
+        running: &frame.running,
+        vars: None,
     };
-    match (&frame.round, running.task().work()) {
+    match (&frame.round, rule.running.task().work()) {
         (Round::Try { retries }, Work::Try(spec)) => rule.caught(*retries, problem, spec),
         _ => Err(Halt::Fault(problem.copy()?)),
     }

@@ -81,10 +81,10 @@ impl Rule<'_> {
         ensures { Gives (raised_by (line_in self.now) self.now.running.now reference.now) result }
     {
         match reference {
-            ErrorRef::Written(error) => self.raised(&self.within()?, error),
+            ErrorRef::Written(error) => self.raised(self.within()?.vars(), error),
             ErrorRef::Named(name) => {
-                let errors = self.scene.setting.document.document().errors.as_slice();
-                let Some(error) = error_named(name, errors) else {
+                let document = self.scene.setting.document.get().document();
+                let Some(error) = error_named(name, document.errors.as_slice()) else {
                     return Err(self.fails(ErrorKind::Configuration, "unknown error"));
                 };
                 let scene = self.scene.alone(self.alloc)?;

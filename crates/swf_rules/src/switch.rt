@@ -31,8 +31,8 @@ impl Rule<'_> {
         match &case.cond {
             None => Ok(false),
             Some(condition) => {
-                let vars = self.within()?;
-                self.asked(&vars, self.running.input(), condition.get())
+                let sight = self.within()?;
+                self.asked(sight.vars(), self.running.input(), condition.get())
             }
         }
     }

@@ -5,17 +5,18 @@ ghost use Rattle.swf_meaning.specs.Try.{allows, retry_named, unless, conditions,
 ghost use Rattle.swf_rules.specs.Rules.{line_in, site_in};
 ghost use Rattle.swf_rules.specs.Verdicts.{verdict_of, Finds};
 ghost use Rattle.swf_scene.specs.Halts.{Gives, Makes};
-ghost use Rattle.swf_stack.specs.TaskRef.{catch_of};
+ghost use Rattle.swf_catalog.specs.TaskRef.{catch_of};
 
 use crate::rule::Rule;
 use std::alloc::AllocError;
+use swf_catalog::Round;
 use swf_document::{
     ErrorKind, NamedRetry, Problem, RetryPolicy, RetryRef, TrySpec, matches_filter, unboxed,
 };
 use swf_expr::Expr;
 use swf_jq_eval::Vars;
 use swf_scene::{Halt, catching, retrying};
-use swf_stack::{Made, Round};
+use swf_stack::Made;
 use swf_text::{Text, same_texts};
 
 /// What is done about an error: it passes, since it is not caught; the list is tried again after a delay, in milliseconds; another
@@ -113,8 +114,8 @@ impl Rule<'_> {
         match reference {
             RetryRef::Written(policy) => Some(policy),
             RetryRef::Named(name) => {
-                let retries = self.scene.setting.document.document().retries.as_slice();
-                retry_named(name, retries)
+                let document = self.scene.setting.document.get().document();
+                retry_named(name, document.retries.as_slice())
             }
         }
     }
@@ -168,13 +169,12 @@ impl Rule<'_> {
         ensures { Makes (by_verdict (site_in self.now) (line_in self.now) self.now.running.now retries problem.now (verdict_of verdict)) result }
     {
         match verdict {
-            Verdict::Pass => Err(Halt::Fault(problem.copy()?)),
+            Verdict::Pass | Verdict::Stay => Err(Halt::Fault(problem.copy()?)),
             Verdict::Again(delay) => self.later(retries, delay),
             Verdict::Handle => {
                 let round = Round::Catch(problem.copy()?);
                 self.comes_to(round, 0, self.running.input().copy()?)
             }
-            Verdict::Stay => Err(Halt::Fault(problem.copy()?)),
             Verdict::Give => self.complete(self.running.input().copy()?),
         }
     }

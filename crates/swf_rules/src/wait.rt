@@ -11,15 +11,16 @@ ghost use Rattle.swf_stack.specs.Stack.{waiting};
 
 use crate::completion::becoming;
 use crate::rule::Rule;
+use swf_catalog::Round;
 use swf_scene::Halt;
-use swf_stack::{Made, Round, Top};
+use swf_stack::{Made, Top};
 
 impl Rule<'_> {
     // The task waits for so long from now, a `try` for the retry of this number.
     fn waiting_for(&self, retries: Option<u64>, duration: u64) -> Result<Made, Halt>
         ensures { Makes (Ok (becomes (line_in self.now) (Live self.now.running.now (waiting retries ((site_in self.now).now + duration))))) result }
     {
-        let Some(until) = self.scene.now.milliseconds().checked_add(duration) else {
+        let Some(until) = self.scene.site.now.milliseconds().checked_add(duration) else {
             return Err(Halt::OutOfMemory);
         };
         let top = Top::Waiting {

@@ -135,9 +135,7 @@ settles s l r compete ns b (Fault p) is some none all alive = tt
 
 -- a node that is alive in the place of the top leaves all of it alive
 branch_alive : (s : Site) (l : Line) (r : Running) (ns : Nodes) (b : ℕ) (m : Stepped) → IsAliveInside r.task (Forked ns) → IsAlive m.node → IsAlive (after_branch l r ns b m).node
-branch_alive s l r ns b m a h =
-    let k = record l { context = m.context } in
-    gives_on k (settled k r (competes r.task) (put ns b m.node) m.node) (settles s k r (competes r.task) ns b m.node refl a.0 a.1 a.2 h)
+branch_alive s l r ns b m a h = gives_on l (settled l r (competes r.task) (put ns b m.node) m.node) (settles s l r (competes r.task) ns b m.node refl a.0 a.1 a.2 h)
 
 mutual
   put_alive : (s : Site) (l : Line) (bs : List ℕ) (n : Node) (m : Stepped) → IsAlive n → IsAlive m.node → IsAlive (put_at l bs n m).node

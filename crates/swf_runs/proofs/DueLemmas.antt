@@ -1,48 +1,54 @@
 -- An instance with a timer that is over can take a step.
-use Rattle.std.proofs.Common.{◌≡◌, ◌∙◌, refl, ap, sym, cond, ℕ, zero, ◌+◌, List, [], ◌∷◌, ◌++◌, codes, nat_le, Bool, true, false, ◌||◌, inl, inr}
+use Rattle.std.proofs.Common.{◌≡◌, refl, ap, cond, ℕ, List, [], ◌∷◌, codes, nat_le, Bool, true, false, ◌||◌, inl, inr, option_map}
 use Rattle.std.proofs.lemmas.Bool.{or_left, or_right, or_cases}
-use Rattle.std.proofs.lemmas.List.Folds.{list_any-append}
-use Rattle.swf_document.specs.Task.{Task}
+use Rattle.std.specs.List.{list_any, filter_map}
 use Rattle.swf_meaning.specs.Answer.{status_of}
-use Rattle.swf_meaning.specs.Local.{is_enabled, is_enabled_inside, is_some_enabled}
-use Rattle.swf_meaning.specs.Node.{Node, Fresh, Live, Done, Fault, Inside, At, Later, Sleep, Hear, Forked, Nodes, no_nodes, branch}
-use Rattle.swf_meaning.specs.Pending.{waiting, waiting_inside, waiting_among}
+use Rattle.swf_meaning.specs.Listen.{is_heard}
+use Rattle.swf_meaning.specs.Node.{Node, Fresh, Live, Done, Fault}
+use Rattle.swf_meaning.specs.Pending.{waiting}
+use Rattle.swf_meaning.specs.Strands.{tops_inside, can_top}
+use Rattle.swf_meaning.specs.Top.{Top, Begins, Moves, Fails, Retries, Sleeps, Hears, Splits, Ends, Breaks}
+use Rattle.swf_meaning.specs.Wake.{until_top}
 use Rattle.swf_meaning.specs.declared.label.Label.{Label}
 use Rattle.swf_runs.specs.Waiting.{is_over, IsOverRunning}
 use Rattle.swf_runs.specs.Runs.{world_at, Legal}
 
-only_one : (b : Bool) → (b || false) ≡ true → b ≡ true
-only_one true e = refl
-only_one false e = e
+-- the timers of strands, and whether one of these can take a step
+abbrev timers_of : List (List ℕ × Top) → List (List ℕ × ℕ)
+timers_of ss = filter_map (λ s. option_map (λ m. (s.0, m)) (until_top s.1)) ss
 
-mutual
-  pub over_enabled : (now : ℕ) (bs : List ℕ) (n : Node) → is_over now (waiting bs n) ≡ true → is_enabled now n ≡ true
-  over_enabled now bs (Fresh t v) e = refl
-  over_enabled now bs (Live r k) e = over_inside now bs r.task k e
-  over_enabled now bs (Done w f) e = cc
-  over_enabled now bs (Fault p) e = cc
+abbrev some_can : ℕ → List (List ℕ × Top) → Bool
+some_can now ss = list_any (λ s. can_top now s.1) ss
 
-  over_inside : (now : ℕ) (bs : List ℕ) (t : Task) (k : Inside) → is_over now (waiting_inside bs k) ≡ true → is_enabled_inside now t k ≡ true
-  over_inside now bs t (At r i (Fresh x w)) e = refl
-  over_inside now bs t (At r i (Live q k)) e = over_enabled now bs (Live q k) e
-  over_inside now bs t (At r i (Done w f)) e = refl
-  over_inside now bs t (At r i (Fault p)) e = refl
-  over_inside now bs t (Later n m) e = only_one (nat_le m now) e
-  over_inside now bs t (Sleep m) e = only_one (nat_le m now) e
-  over_inside now bs t (Hear bound hs) e = cc
-  over_inside now bs t (Forked ns) e = over_among now bs zero ns e
+-- one more strand
+more_over : (now : ℕ) (bs : List ℕ) (t : Top) (ss : List (List ℕ × Top)) → (is_over now (timers_of ss) ≡ true → some_can now ss ≡ true) → is_over now (timers_of ((bs, t) ∷ ss)) ≡ true → (can_top now t || some_can now ss) ≡ true
+more_over now bs t ss rest = by t
+  where
+    behind : (b : Bool) → is_over now (timers_of ss) ≡ true → (b || some_can now ss) ≡ true
+    behind b h = or_right b (some_can now ss) (rest h)
 
-  over_among : (now : ℕ) (bs : List ℕ) (b : ℕ) (ns : Nodes) → is_over now (waiting_among bs b ns) ≡ true → is_some_enabled now ns ≡ true
-  over_among now bs b no_nodes e = cc
-  over_among now bs b (branch n ns) e =
-      elim (or_cases (is_over now (waiting (bs ++ b ∷ []) n)) (is_over now (waiting_among bs (b + 1) ns)) (sym (list_any-append (λ p. nat_le p.1 now) (waiting (bs ++ b ∷ []) n) (waiting_among bs (b + 1) ns)) ∙ e)) [
-        | inl h ↦ or_left (is_enabled now n) (is_some_enabled now ns) (over_enabled now (bs ++ b ∷ []) n h)
-        | inr h ↦ or_right (is_enabled now n) (is_some_enabled now ns) (over_among now bs (b + 1) ns h)
-      ]
+    timer : (m : ℕ) → (nat_le m now || is_over now (timers_of ss)) ≡ true → (nat_le m now || some_can now ss) ≡ true
+    timer m h = elim (or_cases (nat_le m now) (is_over now (timers_of ss)) h) [ inl own ↦ or_left (nat_le m now) (some_can now ss) own | inr more ↦ behind (nat_le m now) more ]
 
-over_running : (now : ℕ) (n : Node) → is_over now (waiting [] n) ≡ true → status_of now n ≡ codes "running"
+    by : (u : Top) → is_over now (timers_of ((bs, u) ∷ ss)) ≡ true → (can_top now u || some_can now ss) ≡ true
+    by (Begins r v) h = refl
+    by (Moves r round i w f) h = refl
+    by (Fails r round i p) h = refl
+    by (Retries r n m) h = timer m h
+    by (Sleeps r m) h = timer m h
+    by (Hears r bound hs) h = behind (is_heard r.task hs) h
+    by (Splits r ns) h = behind false h
+    by (Ends w f) h = behind false h
+    by (Breaks p) h = behind false h
+
+-- a strand whose moment has come can take a step
+over_can : (now : ℕ) (ss : List (List ℕ × Top)) → is_over now (timers_of ss) ≡ true → some_can now ss ≡ true
+over_can now [] e = cc
+over_can now (s ∷ ss) e = more_over now s.0 s.1 ss (over_can now ss) e
+
+over_running : (now : ℕ) (n : Node) → is_over now (waiting n) ≡ true → status_of now n ≡ codes "running"
 over_running now (Fresh t v) e = refl
-over_running now (Live r k) e = ap (λ b. cond b (codes "running") (codes "waiting")) (over_inside now [] r.task k e)
+over_running now (Live r k) e = ap (λ b. cond b (codes "running") (codes "waiting")) (over_can now (tops_inside r k) e)
 over_running now (Done w f) e = cc
 over_running now (Fault p) e = cc
 

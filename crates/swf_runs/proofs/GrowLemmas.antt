@@ -7,7 +7,8 @@ use Rattle.swf_meaning.specs.World.{World, new_instance}
 use Rattle.swf_meaning.specs.declared.key.Key.TheVariants.{Document as OfDocument, Instance as OfInstance, Event as OfEvent, Moment as OfMoment}
 use Rattle.swf_meaning.specs.declared.label.Label.{Label}
 use Rattle.swf_meaning.specs.declared.label.Label.TheVariants.{Load, Start, Event as Told, Reply, Moment, Step}
-use Rattle.swf_runs.specs.After.{is_used, with_document, loaded, accepted, most_documents, document_at, with_instance, most_instances, with_event, stepped, sent, with_instances, counted, after}
+use Rattle.swf_meaning.specs.Documents.{document_at}
+use Rattle.swf_runs.specs.After.{is_used, with_document, loaded, accepted, most_documents, with_instance, most_instances, with_event, stepped, sent, with_instances, counted, after}
 use Rattle.swf_runs.specs.Grows.{Begins, origin, Grows}
 use Rattle.swf_runs.specs.Runs.{run_from, world_at, Legal}
 use Rattle.swf_runs.proofs.OnceLemmas.{mapped_some, refused_some}
@@ -49,7 +50,7 @@ adds_after w m (Moment t) e =
     let s = sym (same_Some (record (counted (OfMoment t) w) { now = t }) m h.1) in
     same_both w m (ap (λ u. u.documents) s) (ap (λ u. u.outbox) s)
 adds_after w m (Step id strand) e =
-    mapped_some (with_instances w) (stepped w.now id strand w.instances) m e
+    mapped_some (with_instances w) (stepped w.now w.documents id strand w.instances) m e
     (λ js p q. subst (Adds w) q (sent_adds (record w { instances = js.0; count = w.count + 1 }) js.1))
 
 -- no label changes where an instance comes from
@@ -59,7 +60,7 @@ origins_after w m (Began id input d unused used room e now) =
     (map origin (new_instance id input w.now d ∷ []), ap (map origin) e ∙ map-append origin w.instances (new_instance id input w.now d ∷ []))
 origins_after w m (Heard x e now) = same_list (map origin w.instances) (map origin m.instances) (ap (map origin) e ∙ map_offered origin x (λ i. refl) w.instances)
 origins_after w m (Took id strand js s e now) =
-    same_list (map origin w.instances) (map origin m.instances) (ap (map origin) e ∙ map_sent origin (λ x i. refl) js.1 js.0 ∙ map_taken origin (λ i x. refl) w.now id strand w.instances js s)
+    same_list (map origin w.instances) (map origin m.instances) (ap (map origin) e ∙ map_sent origin (λ x i. refl) js.1 js.0 ∙ map_taken origin (λ i x. refl) w.now w.documents id strand w.instances js s)
 
 grows_after : (w m : World) (l : Label) → after w l ≡ Some m → Grows w m
 grows_after w m l e =

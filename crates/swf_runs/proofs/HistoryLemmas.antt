@@ -8,7 +8,8 @@ use Rattle.swf_meaning.specs.declared.key.Key.{Key}
 use Rattle.swf_meaning.specs.declared.key.Key.TheVariants.{Document as OfDocument, Instance as OfInstance, Event as OfEvent, Moment as OfMoment}
 use Rattle.swf_meaning.specs.declared.label.Label.{Label}
 use Rattle.swf_meaning.specs.declared.label.Label.TheVariants.{Load, Start, Event as Told, Reply, Moment, Step}
-use Rattle.swf_runs.specs.After.{is_used, with_document, loaded, accepted, most_documents, document_at, with_instance, most_instances, with_event, stepped, sent, with_instances, counted, after}
+use Rattle.swf_meaning.specs.Documents.{document_at}
+use Rattle.swf_runs.specs.After.{is_used, with_document, loaded, accepted, most_documents, with_instance, most_instances, with_event, stepped, sent, with_instances, counted, after}
 use Rattle.swf_runs.specs.Keys.{key_of}
 use Rattle.swf_runs.specs.Counted.{keyed, IsCounted}
 use Rattle.swf_runs.specs.Runs.{run_from, run, world_at, Legal}
@@ -36,7 +37,7 @@ count_after w m (Moment t) e =
     let h = refused_some (nat_le t w.now) (Some (record (counted (OfMoment t) w) { now = t })) m e in
     ap (λ u. u.count) (sym (same_Some (record (counted (OfMoment t) w) { now = t }) m h.1))
 count_after w m (Step id strand) e =
-    mapped_some (with_instances w) (stepped w.now id strand w.instances) m e (λ js p q. ap (λ u. u.count) (sym q) ∙ sent_count (record w { instances = js.0; count = w.count + 1 }) js.1)
+    mapped_some (with_instances w) (stepped w.now w.documents id strand w.instances) m e (λ js p q. ap (λ u. u.count) (sym q) ∙ sent_count (record w { instances = js.0; count = w.count + 1 }) js.1)
 
 -- a label's key is the next one, at the place of the label
 next_key : (o : Option Key) (w m : World) (ks : List (Key × ℕ)) → Grown o w m → m.keys ++ ks ≡ w.keys ++ cons_option (option_map (λ k. (k, w.count)) o) ks

@@ -1,38 +1,14 @@
 -- What an offer leaves as it is.
-use Rattle.std.proofs.Common.{false, ◌≡◌, ◌∙◌, refl, ap, if◌then◌else◌, List, [], ◌++◌, true, Option, Some, None, arith}
+use Rattle.std.proofs.Common.{false, ◌≡◌, ◌∙◌, refl, ap, if◌then◌else◌, List, true, Option, Some, None, arith}
 use Rattle.swf_value.specs.Value.{Members}
 use Rattle.swf_cloudevents.specs.declared.event.Event.{Event}
 use Rattle.swf_document.specs.Task.{Task}
 use Rattle.swf_meaning.specs.Node.{Node, Fresh, Live, Done, Fault, Inside, At, Later, Sleep, Hear, Forked, Nodes, no_nodes, branch}
 use Rattle.swf_meaning.specs.Offer.{or_same, takes_by, offered, offered_inside, offered_among, offered_one, takers_in}
 use Rattle.swf_meaning.specs.Parts.{kind_of, listen_in}
-use Rattle.swf_meaning.specs.Wake.{waits, waits_inside, waits_among}
 use Rattle.swf_meaning.specs.World.{Instance}
 use Rattle.swf_meaning.specs.declared.heard.Heard.{Heard}
 use Rattle.swf_runs.specs.Alive.{has_ended, is_error, some_goes_on, all_go_on, IsAlive, IsAliveInside, AreAlive}
-
--- an offer does not change the moments that strands wait for
-or_same_waits : (bound : Members) (hs : List Heard) (o : Option (Members × List Heard)) → waits_inside (or_same bound hs o).0 ≡ []
-or_same_waits bound hs None = refl
-or_same_waits bound hs (Some p) = refl
-
-mutual
-  pub waits_offered : (e : Event) (n : Node) → waits (offered e n).0 ≡ waits n
-  waits_offered e (Fresh t v) = refl
-  waits_offered e (Live r k) = waits_inside_offered e r.task k
-  waits_offered e (Done w f) = refl
-  waits_offered e (Fault p) = refl
-
-  waits_inside_offered : (e : Event) (t : Task) (k : Inside) → waits_inside (offered_inside e t k).0 ≡ waits_inside k
-  waits_inside_offered e t (At r i n) = waits_offered e n
-  waits_inside_offered e t (Later n m) = refl
-  waits_inside_offered e t (Sleep m) = refl
-  waits_inside_offered e t (Hear bound hs) = or_same_waits bound hs (takes_by (listen_in (kind_of t)) bound hs e)
-  waits_inside_offered e t (Forked ns) = waits_among_offered e ns
-
-  waits_among_offered : (e : Event) (ns : Nodes) → waits_among (offered_among e ns).0 ≡ waits_among ns
-  waits_among_offered e no_nodes = refl
-  waits_among_offered e (branch n ns) = λ i. waits_offered e n i ++ waits_among_offered e ns i
 
 -- a strand that takes no event stays
 or_same_none : (bound : Members) (hs : List Heard) (o : Option (Members × List Heard)) → (or_same bound hs o).1 ≡ 0 → (or_same bound hs o).0 ≡ Hear bound hs

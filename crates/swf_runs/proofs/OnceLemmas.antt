@@ -17,7 +17,8 @@ use Rattle.swf_runs.specs.Keys.{same_key, doc_key, key_of, are_distinct, Once}
 use Rattle.swf_meaning.specs.declared.key.Key.{Key}
 use Rattle.swf_meaning.specs.declared.key.Key.TheVariants.{Document as OfDocument, Instance as OfInstance, Event as OfEvent, Activity as OfActivity, Moment as OfMoment}
 use Rattle.swf_meaning.specs.World.{World, empty, new_instance}
-use Rattle.swf_runs.specs.After.{is_used, with_document, loaded, load_faults, if_none, accepted, most_documents, document_at, with_instance, most_instances, with_event, stepped, sent, with_instances, counted, after}
+use Rattle.swf_meaning.specs.Documents.{document_at}
+use Rattle.swf_runs.specs.After.{is_used, with_document, loaded, load_faults, if_none, accepted, most_documents, with_instance, most_instances, with_event, stepped, sent, with_instances, counted, after}
 use Rattle.swf_runs.specs.Runs.{run_from, Legal}
 
 -- what is mapped to a value is a value
@@ -114,7 +115,7 @@ after_grown w m (Moment t) timed e =
     let h = refused_some (nat_le t w.now) (Some (record (counted (OfMoment t) w) { now = t })) m e in
     (not_reached w t timed h.0, ap (λ u. u.keys) (sym (same_Some (record (counted (OfMoment t) w) { now = t }) m h.1)))
 after_grown w m (Step id strand) timed e =
-    mapped_some (with_instances w) (stepped w.now id strand w.instances) m e (λ x p q. ap (λ u. u.keys) (sym q) ∙ sent_keys (record w { instances = x.0; count = w.count + 1 }) x.1)
+    mapped_some (with_instances w) (stepped w.now w.documents id strand w.instances) m e (λ x p q. ap (λ u. u.keys) (sym q) ∙ sent_keys (record w { instances = x.0; count = w.count + 1 }) x.1)
 
 -- a key that is used after a label was used before it, or is the label's
 used_before : (o : Option Key) (w m : World) (k : Key) → Grown o w m → is_used k m ≡ true → (is_used k w ≡ true) ⊎ (o ≡ Some k)
@@ -151,7 +152,7 @@ later w m (Moment t) e =
     let n : t ≡ m.now = ap (λ u. u.now) (same_Some (record (counted (OfMoment t) w) { now = t }) m h.1) in
     (omega (arith, n, leb-false t w.now h.0), λ u k. let same : t ≡ u = cc in omega (arith, n, same))
 later w m (Step id strand) e =
-    same_now (Step id strand) w m (mapped_some (with_instances w) (stepped w.now id strand w.instances) m e (λ x p q. ap (λ u. u.now) (sym q) ∙ sent_now (record w { instances = x.0; count = w.count + 1 }) x.1)) (λ t k. cc)
+    same_now (Step id strand) w m (mapped_some (with_instances w) (stepped w.now w.documents id strand w.instances) m e (λ x p q. ap (λ u. u.now) (sym q) ∙ sent_now (record w { instances = x.0; count = w.count + 1 }) x.1)) (λ t k. cc)
 
 pub timed_after : (w m : World) (l : Label) → Timed w → after w l ≡ Some m → Timed m
 timed_after w m l timed e t u =

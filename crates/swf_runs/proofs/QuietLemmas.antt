@@ -71,7 +71,7 @@ none_from (Some x) e = cc
 
 -- whether a step has a world after it
 after_can : (w : World) (id strand : List ℕ) → is_some (after w (Step id strand)) ≡ can_step w.now strand (instance_at id w.instances)
-after_can w id strand = some_mapped (with_instances w) (stepped w.now id strand w.instances) ∙ stepped_some w.now id strand w.instances
+after_can w id strand = some_mapped (with_instances w) (stepped w.now w.documents id strand w.instances) ∙ stepped_some w.now w.documents id strand w.instances
 
 quiet_still : (w : World) → are_apart (ids w.instances) ≡ true → IsQuietStill w
 quiet_still w a = (still, quiet)

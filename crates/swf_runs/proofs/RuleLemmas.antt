@@ -26,10 +26,10 @@ use Rattle.swf_meaning.specs.For.{over}
 use Rattle.swf_meaning.specs.Fork.{fresh, split, forking, count, most_branches}
 use Rattle.swf_meaning.specs.Line.{Line, Site, within, is_workflow}
 use Rattle.swf_meaning.specs.Listen.{bound_by, correlations, heard_by, is_satisfied, events_of}
-use Rattle.swf_meaning.specs.Lists.{list_of, guard_of, begins_with, turn_decided, turn_guarded, turn, list_ended, arrives, comes_to, goes_to}
+use Rattle.swf_meaning.specs.Lists.{list_of, guard_of, begins_with, iteration_decided, iteration_guarded, iteration, list_ended, arrives, comes_to, workflow_ended, goes_to}
 use Rattle.swf_meaning.specs.Local.{moved_on, caught_by, failed, rule, local}
 use Rattle.swf_meaning.specs.Next.{Goal, Place, ListEnd, WorkflowEnd, task_at, ended, next}
-use Rattle.swf_meaning.specs.Node.{Node, Fresh, Live, Done, Fault, Inside, At, Later, Sleep, Hear, Forked, Nodes, no_nodes, branch, Round, Seq, Each, Try, Catch, Running}
+use Rattle.swf_meaning.specs.Node.{Node, Fresh, Live, Done, Fault, Inside, At, Later, Sleep, Hear, Forked, Nodes, no_nodes, branch, Round, Seq, Each, Try, Catch, Fun, Sub, Running}
 use Rattle.swf_meaning.specs.Parts.{Catching, kind_of, common_of, listen_in, try_in}
 use Rattle.swf_meaning.specs.Put.{put_at}
 use Rattle.swf_meaning.specs.Raise.{raised_by}
@@ -114,23 +114,25 @@ begins : (w : Value) (o : Option Task) → IsBeginning (begins_with w o)
 begins w None = tt
 begins w (Some t) = tt
 
-turn_decides : (s : Site) (l : Line) (r : Running) (round : Round) (w : Value) (b : Bool) → Yields s (turn_decided l r round w b)
-turn_decides s l r round w true = begins w (task_at (list_of r.task round) zero)
-turn_decides s l r round w false = completes s l r w
+iteration_decides : (s : Site) (l : Line) (r : Running) (round : Round) (w : Value) (b : Bool) → Yields s (iteration_decided l r round w b)
+iteration_decides s l r round w true = begins w (task_at (list_of r.task round) zero)
+iteration_decides s l r round w false = completes s l r w
 
-turn_guards : (s : Site) (l : Line) (r : Running) (round : Round) (w : Value) (o : Option Tree) → Yields s (turn_guarded l r round w o)
-turn_guards s l r round w None = begins w (task_at (list_of r.task round) zero)
-turn_guards s l r round w (Some e) = after_part s (asked r.task (within (seen l r.task round) r) w e) (turn_decided l r round w) (turn_decides s l r round w)
+iteration_guards : (s : Site) (l : Line) (r : Running) (round : Round) (w : Value) (o : Option Tree) → Yields s (iteration_guarded l r round w o)
+iteration_guards s l r round w None = begins w (task_at (list_of r.task round) zero)
+iteration_guards s l r round w (Some e) = after_part s (asked r.task (within (seen l r.task round) r) w e) (iteration_decided l r round w) (iteration_decides s l r round w)
 
-turns : (s : Site) (l : Line) (r : Running) (items : List Value) (j : ℕ) (w : Value) → Yields s (turn l r items j w)
-turns s l r items j w =
-    by_either s (nat_lt j (length items)) (turn_guarded l r (Each items j) w (guard_of r.task)) (complete l r w) (turn_guards s l r (Each items j) w (guard_of r.task)) (completes s l r w)
+iterations : (s : Site) (l : Line) (r : Running) (items : List Value) (j : ℕ) (w : Value) → Yields s (iteration l r items j w)
+iterations s l r items j w =
+    by_either s (nat_lt j (length items)) (iteration_guarded l r (Each items j) w (guard_of r.task)) (complete l r w) (iteration_guards s l r (Each items j) w (guard_of r.task)) (completes s l r w)
 
 list_ends : (s : Site) (l : Line) (r : Running) (round : Round) (w : Value) → Yields s (list_ended l r round w)
 list_ends s l r Seq w = completes s l r w
-list_ends s l r (Each items j) w = turns s l r items (j + 1) w
+list_ends s l r (Each items j) w = iterations s l r items (j + 1) w
 list_ends s l r (Try n) w = completes s l r w
 list_ends s l r (Catch p) w = completes s l r w
+list_ends s l r Fun w = completes s l r w
+list_ends s l r (Sub d v c) w = completes s l r w
 
 arrival : (s : Site) (l : Line) (r : Running) (round : Round) (i : ℕ) (w : Value) (o : Option Task) → Yields s (arrives l r round i w o)
 arrival s l r round i w None = list_ends s l r round w
@@ -144,10 +146,18 @@ ends s l r w =
     by_either s (is_workflow r.task) (output_of l r w >>= λ x. Ok (becomes l (Done x flows.End))) (Ok (becomes l (Done w flows.End)))
     (after_part s (output_of l r w) (λ x. Ok (becomes l (Done x flows.End))) (λ x. tt)) tt
 
+workflow_ends : (s : Site) (l : Line) (r : Running) (round : Round) (w : Value) → Yields s (workflow_ended l r round w)
+workflow_ends s l r Seq w = ends s l r w
+workflow_ends s l r (Each items j) w = ends s l r w
+workflow_ends s l r (Try n) w = ends s l r w
+workflow_ends s l r (Catch p) w = ends s l r w
+workflow_ends s l r Fun w = ends s l r w
+workflow_ends s l r (Sub d v c) w = completes s l r w
+
 goes : (s : Site) (l : Line) (r : Running) (round : Round) (w : Value) (g : Goal) → Yields s (goes_to l r round w g)
 goes s l r round w (Place i) = comes s l r round i w
 goes s l r round w ListEnd = list_ends s l r round w
-goes s l r round w WorkflowEnd = ends s l r w
+goes s l r round w WorkflowEnd = workflow_ends s l r round w
 
 moves_on : (s : Site) (l : Line) (r : Running) (round : Round) (i : ℕ) (w : Value) (f : Flow) → Yields s (moved_on l r round i w f)
 moves_on s l r round i w f = goes s l r round w (next (list_of r.task round) i f)
@@ -168,6 +178,8 @@ fails_on s l r Seq p = tt
 fails_on s l r (Each items j) p = tt
 fails_on s l r (Try n) p = catches s l r n p (try_in (kind_of r.task))
 fails_on s l r (Catch q) p = tt
+fails_on s l r Fun p = tt
+fails_on s l r (Sub d v c) p = tt
 
 hears : (s : Site) (l : Line) (r : Running) (hs : List Heard) (o : Option ListenSpec) → MayYield s (heard_by l r hs o)
 hears s l r hs None = tt
@@ -182,7 +194,7 @@ sends s l r (Ok e) = steps s l (complete l r r.input) (completes s l r r.input)
 sends s l r (Err f) = tt
 
 goes_over : (s : Site) (l : Line) (r : Running) (v : Value) → Yields s (over l r v)
-goes_over s l r (list xs) = turns s l r (values_of xs) zero r.input
+goes_over s l r (list xs) = iterations s l r (values_of xs) zero r.input
 goes_over s l r v = tt
 
 -- branches that have not begun

@@ -6,6 +6,7 @@ use Rattle.swf_cloudevents.specs.declared.event.Event.{Event}
 use Rattle.swf_text.specs.Same.{same}
 use Rattle.swf_meaning.specs.Answer.{instance_at, report, status_of, with_error, with_output}
 use Rattle.swf_meaning.specs.Complete.{Stepped}
+use Rattle.swf_meaning.specs.Documents.{Loaded}
 use Rattle.swf_meaning.specs.Local.{local}
 use Rattle.swf_meaning.specs.Node.{Node, Fresh, Live, Done, Fault}
 use Rattle.swf_meaning.specs.Offer.{offered_one, offered_all}
@@ -54,29 +55,29 @@ ended_still s l [] (Fault p) h = refl
 ended_still s l (b ∷ bs) (Fault p) h = refl
 
 -- the one that takes a step has not ended
-stepped_ended : (now : ℕ) (strand : List ℕ) (x i : Instance) (m : Stepped) → has_ended i.node ≡ true → step_at now strand x ≡ Some m → Some x ≡ Some i → ⊥
-stepped_ended now strand x i m h s e =
-    let none = ended_still (site_of now x) (line_of x) strand x.node (ap (λ y. has_ended y.node) (same_Some x i e) ∙ h) in
+stepped_ended : (now : ℕ) (ds : List Loaded) (strand : List ℕ) (x i : Instance) (m : Stepped) → has_ended i.node ≡ true → step_at now ds strand x ≡ Some m → Some x ≡ Some i → ⊥
+stepped_ended now ds strand x i m h s e =
+    let none = ended_still (site_of now ds x) (line_of x) strand x.node (ap (λ y. has_ended y.node) (same_Some x i e) ∙ h) in
     let f : None ≡ Some m = sym none ∙ s in
     cc
 
-taken_ended : (now : ℕ) (id strand : List ℕ) (is : List Instance) (js : List Instance × Option Event) (k : List ℕ) (i : Instance) → has_ended i.node ≡ true → stepped now id strand is ≡ Some js → instance_at k is ≡ Some i → instance_at k js.0 ≡ Some i
-taken_ended now id strand [] js k i h s p = cc
-taken_ended now id strand (x ∷ xs) js k i h s p = by (same id x.id) s (λ q a. taken_ended now id strand xs q k i h a)
+taken_ended : (now : ℕ) (ds : List Loaded) (id strand : List ℕ) (is : List Instance) (js : List Instance × Option Event) (k : List ℕ) (i : Instance) → has_ended i.node ≡ true → stepped now ds id strand is ≡ Some js → instance_at k is ≡ Some i → instance_at k js.0 ≡ Some i
+taken_ended now ds id strand [] js k i h s p = cc
+taken_ended now ds id strand (x ∷ xs) js k i h s p = by (same id x.id) s (λ q a. taken_ended now ds id strand xs q k i h a)
   where
-    own : (m : Stepped) → step_at now strand x ≡ Some m → (c : Bool) → cond c (Some x) (instance_at k xs) ≡ Some i → cond c (Some (with_step x m)) (instance_at k xs) ≡ Some i
-    own m a true e = absurd (stepped_ended now strand x i m h a e)
+    own : (m : Stepped) → step_at now ds strand x ≡ Some m → (c : Bool) → cond c (Some x) (instance_at k xs) ≡ Some i → cond c (Some (with_step x m)) (instance_at k xs) ≡ Some i
+    own m a true e = absurd (stepped_ended now ds strand x i m h a e)
     own m a false e = e
 
     other : (q : List Instance × Option Event) → (instance_at k xs ≡ Some i → instance_at k q.0 ≡ Some i) → (c : Bool) → cond c (Some x) (instance_at k xs) ≡ Some i → cond c (Some x) (instance_at k q.0) ≡ Some i
     other q f true e = e
     other q f false e = f e
 
-    by : (b : Bool) → cond b (option_map (λ (m : Stepped). (with_step x m ∷ xs, m.emitted)) (step_at now strand x)) (option_map (λ (q : List Instance × Option Event). (x ∷ q.0, q.1)) (stepped now id strand xs)) ≡ Some js →
-        ((q : List Instance × Option Event) → stepped now id strand xs ≡ Some q → instance_at k xs ≡ Some i → instance_at k q.0 ≡ Some i) → instance_at k js.0 ≡ Some i
-    by true s rest = mapped_some (λ (m : Stepped). (with_step x m ∷ xs, m.emitted)) (step_at now strand x) js s
+    by : (b : Bool) → cond b (option_map (λ (m : Stepped). (with_step x m ∷ xs, m.emitted)) (step_at now ds strand x)) (option_map (λ (q : List Instance × Option Event). (x ∷ q.0, q.1)) (stepped now ds id strand xs)) ≡ Some js →
+        ((q : List Instance × Option Event) → stepped now ds id strand xs ≡ Some q → instance_at k xs ≡ Some i → instance_at k q.0 ≡ Some i) → instance_at k js.0 ≡ Some i
+    by true s rest = mapped_some (λ (m : Stepped). (with_step x m ∷ xs, m.emitted)) (step_at now ds strand x) js s
         (λ m a q. subst (λ (j : List Instance × Option Event). instance_at k j.0 ≡ Some i) q (own m a (same k x.id) p))
-    by false s rest = mapped_some (λ (q : List Instance × Option Event). (x ∷ q.0, q.1)) (stepped now id strand xs) js s
+    by false s rest = mapped_some (λ (q : List Instance × Option Event). (x ∷ q.0, q.1)) (stepped now ds id strand xs) js s
         (λ q a e. subst (λ (j : List Instance × Option Event). instance_at k j.0 ≡ Some i) e (other q (rest q a) (same k x.id) p))
 
 -- an instance that has ended is the same one after a label
@@ -84,7 +85,7 @@ ended_after : (id : List ℕ) (i : Instance) → has_ended i.node ≡ true → (
 ended_after id i h w m p (Kept e later) = ap (instance_at id) e ∙ p
 ended_after id i h w m p (Began new input d unused used room e now) = ap (instance_at id) e ∙ at_before id w.instances (new_instance new input w.now d ∷ []) i p
 ended_after id i h w m p (Heard x e now) = ap (instance_at id) e ∙ ended_heard id x w.instances i h p
-ended_after id i h w m p (Took new strand js s e now) = ap (instance_at id) e ∙ ended_sent id js.1 js.0 i h (taken_ended w.now new strand w.instances js id i h s p)
+ended_after id i h w m p (Took new strand js s e now) = ap (instance_at id) e ∙ ended_sent id js.1 js.0 i h (taken_ended w.now w.documents new strand w.instances js id i h s p)
 
 ended_run : (id : List ℕ) (i : Instance) → has_ended i.node ≡ true → (w m : World) (ls : List Label) → run_from w ls ≡ Some m → instance_at id w.instances ≡ Some i → instance_at id m.instances ≡ Some i
 ended_run id i h w m ls e p = run_keeps (λ u. instance_at id u.instances ≡ Some i) (λ u v l q a. ended_after id i h u v q (change u v l a)) w m ls e p

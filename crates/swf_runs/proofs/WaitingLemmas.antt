@@ -1,20 +1,23 @@
 -- What goes on without a step listens, or waits for a moment.
-use Rattle.std.proofs.Common.{◌≡◌, ◌∙◌, refl, ap, sym, subst, cond, ℕ, zero, ◌+◌, ◌<◌, ◌⊎◌, inl, inr, ⊎_elim, List, [], ◌∷◌, ◌++◌, length, codes, Bool, true, false, Some, arith, ◌||◌}
-use Rattle.std.proofs.lemmas.Bool.{or_left, or_right, both_ways, cases_Bool}
-use Rattle.std.proofs.lemmas.List.{length-append}
+use Rattle.std.proofs.Common.{◌≡◌, ◌∙◌, refl, ap, sym, subst, cond, ℕ, zero, ◌+◌, ◌<◌, ◌⊎◌, inl, inr, ⊎_elim, List, [], ◌∷◌, map, length, codes, Bool, true, false, not, Option, Some, None, option_map, arith, ◌||◌}
+use Rattle.std.proofs.lemmas.Bool.{or_cases, or_left, or_right, both_ways, cases_Bool}
 use Rattle.std.proofs.lemmas.Option.{same_Some}
-use Rattle.std.specs.List.{AllByRecursion}
-use Rattle.swf_document.specs.Task.{Task}
+use Rattle.std.specs.List.{AllByRecursion, cons_option, filter, filter_map, list_any}
 use Rattle.swf_text.specs.Same.{same}
 use Rattle.swf_text.proofs.SameLemmas.{same_refl}
 use Rattle.swf_meaning.specs.Answer.{instance_at, status_of}
 use Rattle.swf_meaning.specs.Complete.{Stepped}
+use Rattle.swf_meaning.specs.Documents.{Loaded}
 use Rattle.swf_meaning.specs.Listen.{is_heard}
-use Rattle.swf_meaning.specs.Local.{is_enabled, is_enabled_inside, is_some_enabled}
-use Rattle.swf_meaning.specs.Node.{Node, Fresh, Live, Done, Fault, Inside, At, Later, Sleep, Hear, Forked, Nodes, no_nodes, branch}
-use Rattle.swf_meaning.specs.Pending.{if_listening, listening, listening_inside, listening_among, waiting, waiting_inside, waiting_among}
+use Rattle.swf_meaning.specs.Local.{is_enabled}
+use Rattle.swf_meaning.specs.Node.{Node, Fresh, Live, Done, Fault, Inside, At, Later, Sleep, Hear, Forked, Nodes, no_nodes, branch, Running}
+use Rattle.swf_meaning.specs.Pending.{is_listening}
+use Rattle.swf_meaning.specs.Strands.{tops, tops_inside, tops_from, can_top}
+use Rattle.swf_meaning.specs.Top.{Top, Begins, Moves, Fails, Retries, Sleeps, Hears, Splits, Ends, Breaks}
+use Rattle.swf_meaning.specs.Wake.{until_top}
 use Rattle.swf_meaning.specs.World.{World, Instance, step_at, with_step, site_of, line_of}
 use Rattle.swf_meaning.specs.declared.label.Label.{Label}
+use Rattle.swf_meaning.proofs.TopsLemmas.{any-branch}
 use Rattle.swf_runs.specs.After.{after}
 use Rattle.swf_runs.specs.Alive.{has_ended, some_goes_on, IsAlive, IsAliveInside, AreAlive, IsAllAlive}
 use Rattle.swf_runs.specs.Waiting.{IsListed, IsWaitListed}
@@ -24,8 +27,8 @@ use Rattle.swf_runs.proofs.OfferLemmas.{alive_offered}
 use Rattle.swf_runs.proofs.WorldLemmas.{change, change_all, legal_keeps}
 
 -- each step and each offer leaves an instance alive
-step_alive : (now : ℕ) (strand : List ℕ) (i : Instance) (m : Stepped) → step_at now strand i ≡ Some m → IsAlive i.node → IsAlive (with_step i m).node
-step_alive now strand i m s a = local_alive (site_of now i) (line_of i) strand i.node m s a
+step_alive : (now : ℕ) (ds : List Loaded) (strand : List ℕ) (i : Instance) (m : Stepped) → step_at now ds strand i ≡ Some m → IsAlive i.node → IsAlive (with_step i m).node
+step_alive now ds strand i m s a = local_alive (site_of now ds i) (line_of i) strand i.node m s a
 
 alive_after : (w m : World) (l : Label) → IsAllAlive w → after w l ≡ Some m → IsAllAlive m
 alive_after w m l all e = change_all (λ i. IsAlive i.node) w m (λ id input d. tt) step_alive (λ x i a. alive_offered x i.node a) all (change w m l e)
@@ -37,48 +40,80 @@ legal_alive h legal = legal_keeps IsAllAlive alive_after tt h legal
 abbrev OrListed : Bool → ℕ → ℕ → Type 0
 OrListed enabled listens timers = (enabled ≡ true) ⊎ (0 < listens + timers)
 
-hear_listed : (bs : List ℕ) (heard : Bool) → OrListed heard (length (if_listening bs heard)) 0
-hear_listed bs true = inl refl
-hear_listed bs false = inr (omega arith)
+-- the strand has not ended, and is no `fork`
+abbrev goes_on : Top → Bool
+goes_on (Splits r ns) = false
+goes_on (Ends w f) = false
+goes_on (Breaks p) = false
+goes_on t = true
 
--- one of two
-first_listed : (b c : Bool) (xs ys : List (List ℕ)) (ps qs : List (List ℕ × ℕ)) → OrListed b (length xs) (length ps) → OrListed (b || c) (length (xs ++ ys)) (length (ps ++ qs))
-first_listed b c xs ys ps qs (inl e) = inl (or_left b c e)
-first_listed b c xs ys ps qs (inr h) = inr (omega (arith, h, length-append xs ys, length-append ps qs))
+abbrev listens : List (List ℕ × Top) → ℕ
+listens ss = length (map {A = List ℕ × Top} (λ s. s.0) (filter (λ s. is_listening s.1) ss))
 
-other_listed : (b c : Bool) (xs ys : List (List ℕ)) (ps qs : List (List ℕ × ℕ)) → OrListed c (length ys) (length qs) → OrListed (b || c) (length (xs ++ ys)) (length (ps ++ qs))
-other_listed b c xs ys ps qs (inl e) = inl (or_right b c e)
-other_listed b c xs ys ps qs (inr h) = inr (omega (arith, h, length-append xs ys, length-append ps qs))
+abbrev timers : List (List ℕ × Top) → ℕ
+timers ss = length (filter_map {X = List ℕ × Top} {Y = List ℕ × ℕ} (λ s. option_map (λ m. (s.0, m)) (until_top s.1)) ss)
+
+-- one more strand
+more_listed : (now : ℕ) (bs : List ℕ) (t : Top) (ss : List (List ℕ × Top)) → OrListed (list_any (λ s. can_top now s.1) ss) (listens ss) (timers ss) → OrListed (list_any (λ s. can_top now s.1) ((bs, t) ∷ ss)) (listens ((bs, t) ∷ ss)) (timers ((bs, t) ∷ ss))
+more_listed now bs t ss (inl e) = inl (or_right (can_top now t) (list_any (λ s. can_top now s.1) ss) e)
+more_listed now bs t ss (inr h) = inr (by (is_listening t) (until_top t))
+  where
+    by : (b : Bool) (o : Option ℕ) → 0 < length (map {A = List ℕ × Top} (λ s. s.0) (cond b ((bs, t) ∷ filter (λ s. is_listening s.1) ss) (filter (λ s. is_listening s.1) ss))) + length (cons_option {X = List ℕ × ℕ} (option_map (λ m. (bs, m)) o) (filter_map (λ s. option_map (λ m. (s.0, m)) (until_top s.1)) ss))
+    by true None = omega arith
+    by true (Some m) = omega arith
+    by false None = h
+    by false (Some m) = omega arith
+
+one_listed : (now : ℕ) (bs : List ℕ) (t : Top) (ss : List (List ℕ × Top)) → goes_on t ≡ true → OrListed (list_any (λ s. can_top now s.1) ((bs, t) ∷ ss)) (listens ((bs, t) ∷ ss)) (timers ((bs, t) ∷ ss))
+one_listed now bs (Begins r v) ss e = inl refl
+one_listed now bs (Moves r round i w f) ss e = inl refl
+one_listed now bs (Fails r round i p) ss e = inl refl
+one_listed now bs (Retries r n m) ss e = inr (omega arith)
+one_listed now bs (Sleeps r m) ss e = inr (omega arith)
+one_listed now bs (Hears r bound hs) ss e = by (is_heard r.task hs)
+  where
+    by : (heard : Bool) → OrListed (heard || list_any (λ s. can_top now s.1) ss) (length (map {A = List ℕ × Top} (λ s. s.0) (cond (not heard) ((bs, Hears r bound hs) ∷ filter (λ s. is_listening s.1) ss) (filter (λ s. is_listening s.1) ss)))) (timers ss)
+    by true = inl refl
+    by false = inr (omega arith)
+one_listed now bs (Splits r ns) ss e = cc
+one_listed now bs (Ends w f) ss e = cc
+one_listed now bs (Breaks p) ss e = cc
+
+-- some of these go on
+some_listed : (now : ℕ) (ss : List (List ℕ × Top)) → list_any (λ s. goes_on s.1) ss ≡ true → OrListed (list_any (λ s. can_top now s.1) ss) (listens ss) (timers ss)
+some_listed now [] e = cc
+some_listed now (s ∷ ss) e = elim (or_cases (goes_on s.1) (list_any (λ s. goes_on s.1) ss) e) [
+  | inl own ↦ one_listed now s.0 s.1 ss own
+  | inr more ↦ more_listed now s.0 s.1 ss (some_listed now ss more)
+]
 
 goes_later : (e b : Bool) → e ≡ true → cond e b true ≡ true → b ≡ true
 goes_later true b p h = h
 goes_later false b p h = cc
 
--- a node that has not ended
+-- of a node that has not ended some strand goes on
 mutual
-  pub or_listed : (now : ℕ) (bs : List ℕ) (n : Node) → IsAlive n → has_ended n ≡ false → OrListed (is_enabled now n) (length (listening bs n)) (length (waiting bs n))
-  or_listed now bs (Fresh t v) a h = inl refl
-  or_listed now bs (Live r k) a h = or_listed_inside now bs r.task k a
-  or_listed now bs (Done w f) a h = cc
-  or_listed now bs (Fault p) a h = cc
+  some_on : (n : Node) → IsAlive n → has_ended n ≡ false → list_any (λ s. goes_on s.1) (tops n) ≡ true
+  some_on (Fresh t v) a h = refl
+  some_on (Live r k) a h = some_on_inside r k a
+  some_on (Done w f) a h = cc
+  some_on (Fault p) a h = cc
 
-  or_listed_inside : (now : ℕ) (bs : List ℕ) (t : Task) (k : Inside) → IsAliveInside t k → OrListed (is_enabled_inside now t k) (length (listening_inside bs t k)) (length (waiting_inside bs k))
-  or_listed_inside now bs t (At r i (Fresh x w)) a = inl refl
-  or_listed_inside now bs t (At r i (Live q k)) a = or_listed now bs (Live q k) a refl
-  or_listed_inside now bs t (At r i (Done w f)) a = inl refl
-  or_listed_inside now bs t (At r i (Fault p)) a = inl refl
-  or_listed_inside now bs t (Later n m) a = inr (omega arith)
-  or_listed_inside now bs t (Sleep m) a = inr (omega arith)
-  or_listed_inside now bs t (Hear bound hs) a = hear_listed bs (is_heard t hs)
-  or_listed_inside now bs t (Forked ns) a = or_listed_among now bs zero ns a.0 a.2
+  some_on_inside : (r : Running) (k : Inside) → IsAliveInside r.task k → list_any (λ s. goes_on s.1) (tops_inside r k) ≡ true
+  some_on_inside r (At round i (Fresh t v)) a = refl
+  some_on_inside r (At round i (Live q k)) a = some_on_inside q k a
+  some_on_inside r (At round i (Done w f)) a = refl
+  some_on_inside r (At round i (Fault p)) a = refl
+  some_on_inside r (Later n m) a = refl
+  some_on_inside r (Sleep m) a = refl
+  some_on_inside r (Hear bound hs) a = refl
+  some_on_inside r (Forked ns) a = some_on_among ns a.0 a.2
 
-  or_listed_among : (now : ℕ) (bs : List ℕ) (b : ℕ) (ns : Nodes) → some_goes_on ns ≡ true → AreAlive ns → OrListed (is_some_enabled now ns) (length (listening_among bs b ns)) (length (waiting_among bs b ns))
-  or_listed_among now bs b no_nodes on a = cc
-  or_listed_among now bs b (branch n ns) on a = elim (cases_Bool (has_ended n)) [
-    | inl e ↦ other_listed (is_enabled now n) (is_some_enabled now ns) (listening (bs ++ b ∷ []) n) (listening_among bs (b + 1) ns) (waiting (bs ++ b ∷ []) n) (waiting_among bs (b + 1) ns)
-        (or_listed_among now bs (b + 1) ns (goes_later (has_ended n) (some_goes_on ns) e on) a.2)
-    | inr e ↦ first_listed (is_enabled now n) (is_some_enabled now ns) (listening (bs ++ b ∷ []) n) (listening_among bs (b + 1) ns) (waiting (bs ++ b ∷ []) n) (waiting_among bs (b + 1) ns)
-        (or_listed now (bs ++ b ∷ []) n a.1 e)
+  some_on_among : (ns : Nodes) → some_goes_on ns ≡ true → AreAlive ns → list_any (λ s. goes_on s.1) (tops_from zero ns) ≡ true
+  some_on_among no_nodes on a = cc
+  some_on_among (branch n ns) on a = any-branch goes_on n ns ∙ elim (cases_Bool (has_ended n)) [
+    | inl e ↦ or_right (list_any (λ s. goes_on s.1) (tops n)) (list_any (λ s. goes_on s.1) (tops_from zero ns)) (some_on_among ns (goes_later (has_ended n) (some_goes_on ns) e on) a.2)
+    | inr e ↦ or_left (list_any (λ s. goes_on s.1) (tops n)) (list_any (λ s. goes_on s.1) (tops_from zero ns)) (some_on n a.1 e)
   ]
 
 -- another word than `waiting`
@@ -92,14 +127,14 @@ not_running false e = refl
 -- what is waiting has not ended, and is not enabled
 waits_on : (now : ℕ) (n : Node) → status_of now n ≡ codes "waiting" → (has_ended n ≡ false) × (is_enabled now n ≡ false)
 waits_on now (Fresh t v) e = (refl, not_running true e)
-waits_on now (Live r k) e = (refl, not_running (is_enabled_inside now r.task k) e)
+waits_on now (Live r k) e = (refl, not_running (is_enabled now (Live r k)) e)
 waits_on now (Done w f) e = absurd (other_word (codes "completed") refl e)
 waits_on now (Fault p) e = absurd (other_word (codes "faulted") refl e)
 
 listed : (now : ℕ) (n : Node) → IsAlive n → status_of now n ≡ codes "waiting" → IsListed n
 listed now n a e =
     let h = waits_on now n e in
-    ⊎_elim (λ t. let f : false ≡ true = sym h.1 ∙ t in cc) (λ l. l) (or_listed now [] n a h.0)
+    ⊎_elim (λ t. let f : false ≡ true = sym h.1 ∙ t in cc) (λ l. l) (some_listed now (tops n) (some_on n a h.0))
 
 -- what holds of all holds of the instance of an id
 of_id : (Q : Instance → Type 0) (id : List ℕ) (is : List Instance) (i : Instance) → AllByRecursion Q is → instance_at id is ≡ Some i → Q i

@@ -13,7 +13,8 @@ use Rattle.swf_meaning.specs.World.{World, Instance, empty, step_at, with_step, 
 use Rattle.swf_meaning.specs.declared.key.Key.TheVariants.{Document as OfDocument, Instance as OfInstance, Event as OfEvent, Moment as OfMoment}
 use Rattle.swf_meaning.specs.declared.label.Label.{Label}
 use Rattle.swf_meaning.specs.declared.label.Label.TheVariants.{Load, Start, Event as Told, Reply, Moment, Step}
-use Rattle.swf_runs.specs.After.{is_used, with_document, loaded, accepted, most_documents, document_at, with_instance, most_instances, with_event, stepped, sent, with_instances, counted, after}
+use Rattle.swf_meaning.specs.Documents.{Loaded, document_at}
+use Rattle.swf_runs.specs.After.{is_used, with_document, loaded, accepted, most_documents, with_instance, most_instances, with_event, stepped, sent, with_instances, counted, after}
 use Rattle.swf_runs.specs.Runs.{run_from, run, world_at, Legal}
 use Rattle.swf_runs.proofs.OnceLemmas.{mapped_some, refused_some, now_used, sent_now}
 use Rattle.swf_runs.proofs.RunLemmas.{run_from-append, world_of_run}
@@ -33,7 +34,7 @@ pub data Change (w m : World) : Type 0 where
   Kept : m.instances ≡ w.instances → w.now ≤ m.now → Change w m
   Began : (id : List ℕ) (input : Value) (d : Document) → is_used (OfInstance id) w ≡ false → is_used (OfInstance id) m ≡ true → length w.instances < most_instances → m.instances ≡ w.instances ++ new_instance id input w.now d ∷ [] → m.now ≡ w.now → Change w m
   Heard : (e : Event) → m.instances ≡ offered_all e w.instances → m.now ≡ w.now → Change w m
-  Took : (id strand : List ℕ) (js : List Instance × Option Event) → stepped w.now id strand w.instances ≡ Some js → m.instances ≡ sent_to js.1 js.0 → m.now ≡ w.now → Change w m
+  Took : (id strand : List ℕ) (js : List Instance × Option Event) → stepped w.now w.documents id strand w.instances ≡ Some js → m.instances ≡ sent_to js.1 js.0 → m.now ≡ w.now → Change w m
 
 pub change : (w m : World) (l : Label) → after w l ≡ Some m → Change w m
 change w m (Load v) e = option_and_then_some (loaded w v) (accepted v) m e
@@ -59,7 +60,7 @@ change w m (Moment t) e =
     let now : m.now ≡ t = ap (λ u. u.now) (sym s) in
     Kept (ap (λ u. u.instances) (sym s)) (omega (arith, now, leb-false t w.now h.0))
 change w m (Step id strand) e =
-    mapped_some (with_instances w) (stepped w.now id strand w.instances) m e
+    mapped_some (with_instances w) (stepped w.now w.documents id strand w.instances) m e
     (λ js p q.
     let u = record w { instances = js.0; count = w.count + 1 } in
     Took id strand js p (ap (λ u. u.instances) (sym q) ∙ sent_instances u js.1) (ap (λ u. u.now) (sym q) ∙ sent_now u js.1))
@@ -81,15 +82,15 @@ legal_keeps P kept p h legal =
     subst P (sym (world_of_run h t.0 t.1)) (run_keeps P kept empty t.0 h t.1 p)
 
 -- what a step of an instance keeps holds of all after one of them took it
-pub taken_all : (Q : Instance → Type 0) (now : ℕ) (id strand : List ℕ) → ((i : Instance) (m : Stepped) → step_at now strand i ≡ Some m → Q i → Q (with_step i m)) →
-    (is : List Instance) (js : List Instance × Option Event) → stepped now id strand is ≡ Some js → AllByRecursion Q is → AllByRecursion Q js.0
-taken_all Q now id strand kept [] js s all = cc
-taken_all Q now id strand kept (x ∷ xs) js s all = by (same id x.id) s (λ p a. taken_all Q now id strand kept xs p a all.1)
+pub taken_all : (Q : Instance → Type 0) (now : ℕ) (ds : List Loaded) (id strand : List ℕ) → ((i : Instance) (m : Stepped) → step_at now ds strand i ≡ Some m → Q i → Q (with_step i m)) →
+    (is : List Instance) (js : List Instance × Option Event) → stepped now ds id strand is ≡ Some js → AllByRecursion Q is → AllByRecursion Q js.0
+taken_all Q now ds id strand kept [] js s all = cc
+taken_all Q now ds id strand kept (x ∷ xs) js s all = by (same id x.id) s (λ p a. taken_all Q now ds id strand kept xs p a all.1)
   where
-    by : (b : Bool) → cond b (option_map (λ (m : Stepped). (with_step x m ∷ xs, m.emitted)) (step_at now strand x)) (option_map (λ (p : List Instance × Option Event). (x ∷ p.0, p.1)) (stepped now id strand xs)) ≡ Some js →
-        ((p : List Instance × Option Event) → stepped now id strand xs ≡ Some p → AllByRecursion Q p.0) → AllByRecursion Q js.0
-    by true s rest = mapped_some (λ (m : Stepped). (with_step x m ∷ xs, m.emitted)) (step_at now strand x) js s (λ m a q. subst (λ (j : List Instance × Option Event). AllByRecursion Q j.0) q (kept x m a all.0, all.1))
-    by false s rest = mapped_some (λ (p : List Instance × Option Event). (x ∷ p.0, p.1)) (stepped now id strand xs) js s (λ p a q. subst (λ (j : List Instance × Option Event). AllByRecursion Q j.0) q (all.0, rest p a))
+    by : (b : Bool) → cond b (option_map (λ (m : Stepped). (with_step x m ∷ xs, m.emitted)) (step_at now ds strand x)) (option_map (λ (p : List Instance × Option Event). (x ∷ p.0, p.1)) (stepped now ds id strand xs)) ≡ Some js →
+        ((p : List Instance × Option Event) → stepped now ds id strand xs ≡ Some p → AllByRecursion Q p.0) → AllByRecursion Q js.0
+    by true s rest = mapped_some (λ (m : Stepped). (with_step x m ∷ xs, m.emitted)) (step_at now ds strand x) js s (λ m a q. subst (λ (j : List Instance × Option Event). AllByRecursion Q j.0) q (kept x m a all.0, all.1))
+    by false s rest = mapped_some (λ (p : List Instance × Option Event). (x ∷ p.0, p.1)) (stepped now ds id strand xs) js s (λ p a q. subst (λ (j : List Instance × Option Event). AllByRecursion Q j.0) q (all.0, rest p a))
 
 -- what an offer keeps holds of all after an offer
 pub offered_keeps : (Q : Instance → Type 0) (e : Event) → ((i : Instance) → Q i → Q (offered_one e i)) → (is : List Instance) → AllByRecursion Q is → AllByRecursion Q (offered_all e is)
@@ -110,13 +111,13 @@ all_weaker Q R f (i ∷ is) all = (f i all.0, all_weaker Q R f is all.1)
 
 -- what holds of an instance that begins, and what each step and each offer keeps, holds of all instances after a label
 pub change_all : (Q : Instance → Type 0) (w m : World) → ((id : List ℕ) (input : Value) (d : Document) → Q (new_instance id input w.now d)) →
-    ((now : ℕ) (strand : List ℕ) (i : Instance) (m : Stepped) → step_at now strand i ≡ Some m → Q i → Q (with_step i m)) → ((e : Event) (i : Instance) → Q i → Q (offered_one e i)) →
+    ((now : ℕ) (ds : List Loaded) (strand : List ℕ) (i : Instance) (m : Stepped) → step_at now ds strand i ≡ Some m → Q i → Q (with_step i m)) → ((e : Event) (i : Instance) → Q i → Q (offered_one e i)) →
     AllByRecursion Q w.instances → Change w m → AllByRecursion Q m.instances
 change_all Q w m new step offer all (Kept e later) = subst (AllByRecursion Q) (sym e) all
 change_all Q w m new step offer all (Began id input d unused used room e now) = subst (AllByRecursion Q) (sym e) (one_more Q w.instances (new_instance id input w.now d) all (new id input d))
 change_all Q w m new step offer all (Heard x e now) = subst (AllByRecursion Q) (sym e) (offered_keeps Q x (offer x) w.instances all)
 change_all Q w m new step offer all (Took id strand js s e now) =
-    subst (AllByRecursion Q) (sym e) (sent_keeps Q offer js.1 js.0 (taken_all Q w.now id strand (step w.now strand) w.instances js s all))
+    subst (AllByRecursion Q) (sym e) (sent_keeps Q offer js.1 js.0 (taken_all Q w.now w.documents id strand (step w.now w.documents strand) w.instances js s all))
 
 -- the present moment does not fall
 pub now_after : (w m : World) → Change w m → w.now ≤ m.now
@@ -135,15 +136,15 @@ map_sent f same None is = refl
 map_sent f same (Some e) is = map_offered f e (same e) is
 
 -- and what steps leave as it is
-pub map_taken : {A : Type 0} (f : Instance → A) → ((i : Instance) (m : Stepped) → f (with_step i m) ≡ f i) → (now : ℕ) (id strand : List ℕ) (is : List Instance) (js : List Instance × Option Event) → stepped now id strand is ≡ Some js → map f js.0 ≡ map f is
-map_taken f kept now id strand [] js s = cc
-map_taken f kept now id strand (x ∷ xs) js s = by (same id x.id) s (map_taken f kept now id strand xs)
+pub map_taken : {A : Type 0} (f : Instance → A) → ((i : Instance) (m : Stepped) → f (with_step i m) ≡ f i) → (now : ℕ) (ds : List Loaded) (id strand : List ℕ) (is : List Instance) (js : List Instance × Option Event) → stepped now ds id strand is ≡ Some js → map f js.0 ≡ map f is
+map_taken f kept now ds id strand [] js s = cc
+map_taken f kept now ds id strand (x ∷ xs) js s = by (same id x.id) s (map_taken f kept now ds id strand xs)
   where
-    by : (b : Bool) → cond b (option_map (λ (m : Stepped). (with_step x m ∷ xs, m.emitted)) (step_at now strand x)) (option_map (λ (q : List Instance × Option Event). (x ∷ q.0, q.1)) (stepped now id strand xs)) ≡ Some js →
-        ((q : List Instance × Option Event) → stepped now id strand xs ≡ Some q → map f q.0 ≡ map f xs) → map f js.0 ≡ map f (x ∷ xs)
-    by true s rest = mapped_some (λ (m : Stepped). (with_step x m ∷ xs, m.emitted)) (step_at now strand x) js s
+    by : (b : Bool) → cond b (option_map (λ (m : Stepped). (with_step x m ∷ xs, m.emitted)) (step_at now ds strand x)) (option_map (λ (q : List Instance × Option Event). (x ∷ q.0, q.1)) (stepped now ds id strand xs)) ≡ Some js →
+        ((q : List Instance × Option Event) → stepped now ds id strand xs ≡ Some q → map f q.0 ≡ map f xs) → map f js.0 ≡ map f (x ∷ xs)
+    by true s rest = mapped_some (λ (m : Stepped). (with_step x m ∷ xs, m.emitted)) (step_at now ds strand x) js s
         (λ m a q. ap (λ (j : List Instance × Option Event). map f j.0) (sym q) ∙ ap (λ y. y ∷ map f xs) (kept x m))
-    by false s rest = mapped_some (λ (q : List Instance × Option Event). (x ∷ q.0, q.1)) (stepped now id strand xs) js s
+    by false s rest = mapped_some (λ (q : List Instance × Option Event). (x ∷ q.0, q.1)) (stepped now ds id strand xs) js s
         (λ q a e. ap (λ (j : List Instance × Option Event). map f j.0) (sym e) ∙ ap (λ ys. f x ∷ ys) (rest q a))
 
 -- what holds of each world and one that a run leads to from it holds of those of a legal history and of a longer one

@@ -13,11 +13,12 @@ use Rattle.swf_meaning.specs.declared.label.Label.{Label}
 use Rattle.swf_meaning.specs.declared.label.Label.TheVariants.{Load, Start, Event as Told, Reply, Moment, Step}
 use Rattle.swf_document.specs.declared.fault.Fault.{Fault}
 use Rattle.swf_meaning.specs.Built.{not_built}
-use Rattle.swf_runs.specs.Keys.{same_doc, same_key}
+use Rattle.swf_meaning.specs.Documents.{Loaded, document_at}
+use Rattle.swf_runs.specs.Keys.{same_key}
 use Rattle.swf_meaning.specs.Offer.{offered_all, takers}
 use Rattle.swf_meaning.specs.declared.key.Key.{Key}
 use Rattle.swf_meaning.specs.declared.key.Key.TheVariants.{Document as OfDocument, Instance as OfInstance, Event as OfEvent, Moment as OfMoment}
-use Rattle.swf_meaning.specs.World.{Instance, Loaded, World, step_at, new_instance, with_step}
+use Rattle.swf_meaning.specs.World.{Instance, World, step_at, new_instance, with_step}
 
 abbrev pub most_documents : ℕ
 most_documents = 1000
@@ -38,11 +39,6 @@ with_document w v d = record (counted (OfDocument d.key) w) { documents = w.docu
 -- a document is added that is new, while there is room
 abbrev pub loaded : World → Value → Document → Option World
 loaded w v d = if is_used (OfDocument d.key) w || nat_le most_documents (length w.documents) then None else Some (with_document w v d)
-
--- the loaded document of a key
-abbrev pub document_at : DocKey → List Loaded → Option Document
-document_at k [] = None
-document_at k (d ∷ ds) = if same_doc k d.document.key then Some d.document else document_at k ds
 
 -- the faults for which a value cannot be loaded: those of its document, and else the first task of a kind that is not built
 abbrev pub or_not_built : Document → List Fault → List Fault
@@ -86,14 +82,14 @@ is_open a w = false
 abbrev pub replied : World → List ℕ → CallReply → Option World
 replied w a r = if is_open a w then Some w else None
 
--- the instances after a strand of the one of that id took a step at a moment, and the event that goes out; none where there is none or it
--- cannot
-abbrev pub stepped : ℕ → List ℕ → List ℕ → List Instance → Option (List Instance × Option Event)
-stepped now id strand [] = None
-stepped now id strand (i ∷ is) =
+-- the instances after a strand of the one of that id took a step at a moment, where these documents are loaded, and the event that goes
+-- out; none where there is none or it cannot
+abbrev pub stepped : ℕ → List Loaded → List ℕ → List ℕ → List Instance → Option (List Instance × Option Event)
+stepped now ds id strand [] = None
+stepped now ds id strand (i ∷ is) =
     if same id i.id
-    then option_map (λ m. (with_step i m ∷ is, m.emitted)) (step_at now strand i)
-    else option_map (λ p. (i ∷ p.0, p.1)) (stepped now id strand is)
+    then option_map (λ m. (with_step i m ∷ is, m.emitted)) (step_at now ds strand i)
+    else option_map (λ p. (i ∷ p.0, p.1)) (stepped now ds id strand is)
 
 -- an event that goes out is offered to every `listen`
 abbrev pub sent : World → Option Event → World
@@ -110,7 +106,7 @@ after w (Start id key input) = started w id key input
 after w (Told e) = told w e
 after w (Reply a r) = replied w a r
 after w (Moment moment) = reached w moment
-after w (Step id strand) = option_map (with_instances w) (stepped w.now id strand w.instances)
+after w (Step id strand) = option_map (with_instances w) (stepped w.now w.documents id strand w.instances)
 
 -- how many tasks take the event that is told
 abbrev pub taken_by : World → Label → ℕ

@@ -5,13 +5,11 @@ use Rattle.swf_value.specs.Value.{Value}
 use Rattle.swf_text.specs.Same.{same}
 use Rattle.swf_reader.specs.Reads.{document_of}
 use Rattle.swf_document.specs.declared.document.DocKey.{DocKey}
+use Rattle.swf_meaning.specs.Documents.{same_doc}
 use Rattle.swf_meaning.specs.declared.key.Key.{Key}
 use Rattle.swf_meaning.specs.declared.key.Key.TheVariants.{Document, Instance, Event, Activity, Moment}
 use Rattle.swf_meaning.specs.declared.label.Label.{Label}
 use Rattle.swf_meaning.specs.declared.label.Label.TheVariants.{Load, Start, Event as Told, Reply, Moment as AtMoment, Step}
-
-abbrev pub same_doc : DocKey → DocKey → Bool
-same_doc a b = same a.namespace b.namespace && same a.name b.name && same a.version b.version
 
 abbrev pub same_key : Key → Key → Bool
 same_key (Document a) (Document b) = same_doc a b

@@ -2,6 +2,7 @@ pub mod Keys
 pub mod Outcomes
 pub mod After
 pub mod Runs
+pub mod Tops
 pub mod Alive
 pub mod Stays
 pub mod Grows

@@ -1,7 +1,8 @@
 -- How much a world holds at most.
 use Rattle.std.specs.Prelude.{◌≤◌, length}
 use Rattle.std.specs.List.{AllByRecursion}
-use Rattle.swf_meaning.specs.Fork.{branches_in, most_branches}
+use Rattle.swf_meaning.specs.Fork.{most_branches}
+use Rattle.swf_meaning.specs.Strands.{branches_in}
 use Rattle.swf_meaning.specs.World.{World}
 use Rattle.swf_runs.specs.After.{most_documents, most_instances}
 

@@ -1,5 +1,6 @@
 // What holds of every run, whichever program makes it.
 ghost use Rattle.std.specs.Prelude.{List, ◌++◌};
+ghost use Rattle.swf_meaning.specs.Node.{Node};
 ghost use Rattle.swf_meaning.specs.declared.label.Label.{Label};
 ghost use Rattle.swf_runs.specs.Alive.{IsAllAlive};
 ghost use Rattle.swf_runs.specs.Keys.{Once};
@@ -8,6 +9,7 @@ ghost use Rattle.swf_runs.specs.Grows.{Grows};
 ghost use Rattle.swf_runs.specs.Kept.{IsWorld};
 ghost use Rattle.swf_runs.specs.Quiet.{IsQuietStill};
 ghost use Rattle.swf_runs.specs.Stays.{Stays};
+ghost use Rattle.swf_runs.specs.Tops.{AreFound};
 ghost use Rattle.swf_runs.specs.Waiting.{IsOverRunning, IsWaitListed};
 ghost use Rattle.swf_runs.specs.Within.{IsWithin};
 ghost use Rattle.swf_runs.specs.Runs.{Legal, world_at};
@@ -61,4 +63,9 @@ pub fn legal_grows()
 /// After a legal run an instance with a timer whose moment has come is running.
 pub fn legal_over()
     ensures timers_end { (h : List Label) → Legal h → IsOverRunning (world_at h) }
+{}
+
+/// Among the strands of any node one is listed with a top exactly where its name finds that top.
+pub fn node_tops()
+    ensures listed_is_found { (n : Node) → AreFound n }
 {}

@@ -1,18 +1,13 @@
 -- How a rule goes on with what a part of it gave.
 use Rattle.std.proofs.Common.{◌≡◌, ℕ, List, Ok, Err, ap, sym, ◌∙◌, subst}
 use Rattle.std.proofs.lemmas.Result.{err_from_is_err_and}
-use Rattle.std.specs.Prelude.{Result, codes}
+use Rattle.std.specs.Prelude.{Result}
 use Rattle.std.specs.Result.{IsErrAnd}
-use Rattle.swf_value.specs.Value.{Value}
 use Rattle.swf_document.specs.Task.{Task}
 use Rattle.swf_document.specs.declared.error.ErrorKind.{ErrorKind}
-use Rattle.swf_document.specs.declared.error.ErrorKind.TheVariants as kinds
 use Rattle.swf_document.specs.declared.error.Problem.{Problem}
-use Rattle.swf_transform.specs.Fill.{message}
-use Rattle.swf_transform.specs.declared.got.Got.{Got}
-use Rattle.swf_transform.specs.declared.got.Got.TheVariants as gots
 use Rattle.swf_meaning.specs.Complete.{Stepped}
-use Rattle.swf_meaning.specs.Rule.{◌>>=◌, fails, value_of}
+use Rattle.swf_meaning.specs.Rule.{◌>>=◌, fails}
 use Rattle.swf_scene.specs.Halts.{Gives, Makes, IsFault}
 use Rattle.swf_scene.specs.declared.halt.Halt.{Halt}
 use Rattle.swf_scene.specs.declared.halt.Halt.TheVariants as halts

@@ -1,3 +1,4 @@
 pub mod SightLemmas
 pub mod SettingLemmas
 pub mod HaltLemmas
+pub mod SettingSends

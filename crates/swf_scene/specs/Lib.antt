@@ -1,3 +1,3 @@
-pub mod Words
 pub mod Setting
 pub mod Halts
+pub mod Sights

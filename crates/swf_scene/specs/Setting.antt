@@ -15,7 +15,7 @@ line_of s = record (setting_line s.setting.now) { context = s.context; around = 
 
 -- and what some go by besides
 abbrev pub site_of : Scene → Site
-site_of s = record { number = s.setting.now.number; branches = s.branches; now = s.now }
+site_of s = record { number = s.setting.now.number; branches = s.branches; now = s.site.now; documents = s.site.documents.now.documents }
 
 -- the same without the variables around
 abbrev pub alone : Line → Line

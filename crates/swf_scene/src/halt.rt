@@ -8,8 +8,8 @@ ghost use Rattle.swf_meaning.specs.Rule.{value_of};
 ghost use Rattle.swf_scene.specs.Halts.{IsFault, Gives};
 
 use std::alloc::{AllocError, AllocFailed, Global};
+use swf_catalog::TaskRef;
 use swf_document::{ErrorKind, Problem, standard_error};
-use swf_stack::TaskRef;
 use swf_transform::{Got, message};
 use swf_value::Json;
 

@@ -6,11 +6,9 @@ mod scene;
 mod setting;
 mod sight;
 mod site;
-mod words;
 
 pub use halt::{Halt, fails, value_of};
 pub use scene::Scene;
 pub use setting::Setting;
-pub use sight::{before, behind, catching, retrying, within};
+pub use sight::{Sight, before, behind, catching, retrying, within};
 pub use site::Site;
-pub use words::Words;

@@ -1,29 +1,29 @@
 // What the tasks of an instance go by.
 ghost use Rattle.std.specs.Prelude.{◌≡◌, ◌++◌, [], IfOk};
 ghost use Rattle.swf_meaning.specs.Around.{seen};
-ghost use Rattle.swf_stack.specs.Layers.{frames_of};
-ghost use Rattle.swf_stack.specs.Stack.{seen_in, round_of};
+ghost use Rattle.swf_stack.specs.Stands.{inward};
+ghost use Rattle.swf_stack.specs.Stack.{seen_in};
+ghost use Rattle.swf_catalog.specs.Rounds.{round_of};
 ghost use Rattle.swf_scene.specs.Setting.{line_of, site_of, setting_line, alone};
 
 use crate::setting::Setting;
 use crate::sight::{copy_variables, push_seen};
 use crate::site::Site;
-use crate::words::Words;
 use std::alloc::{AllocError, Global};
-use swf_duration::Moment;
+use swf_catalog::{Round, TaskRef};
+use swf_chain::Chain;
 use swf_jq_eval::Variable;
-use swf_stack::{Layer, Round, TaskRef};
+use swf_stack::Frame;
 use swf_value::Json;
 
-/// What a step goes by: the instance's setting, its context, how many branches it has, the moment, the variables around the task
-/// that takes it, and the names that variables need.
+/// What a step goes by: the instance's setting, its context, how many branches it has, the moment and the loaded documents, and the
+/// variables around the task that takes it.
 #[derive(Drop)]
 pub struct Scene<'a> {
     pub setting: &'a Setting,
     pub context: Json,
     pub branches: usize,
-    pub words: &'a Words,
-    pub now: Moment,
+    pub site: Site<'a>,
     pub around: Vec<Variable>,
 }
 
@@ -33,17 +33,17 @@ impl<'a> Scene<'a> {
         alloc: Global,
         setting: &'a Setting,
         branches: usize,
-        site: &Site<'a>,
+        site: Site<'a>,
     ) -> Result<Scene<'a>, AllocError>
         ensures line { IfOk result (λ s. line_of s ≡ setting_line setting.now) }
-        ensures site { IfOk result (λ s. site_of s ≡ record { number = setting.now.number; branches = branches; now = site.entry.now.now }) }
+        ensures site { IfOk result (λ s. site_of s ≡ record { number = setting.now.number; branches = branches; now = site.entry.now; documents = site.entry.documents.now.documents }) }
     {
+        let Site { now, documents } = site;
         Ok(Scene {
             setting,
             context: setting.context.copy()?,
             branches,
-            words: site.words,
-            now: site.now,
+            site: Site { now, documents },
             around: Vec::new(alloc),
         })
     }
@@ -57,8 +57,10 @@ impl<'a> Scene<'a> {
             setting: self.setting,
             context: self.context.copy()?,
             branches: self.branches,
-            words: self.words,
-            now: self.now,
+            site: Site {
+                now: self.site.now,
+                documents: self.site.documents,
+            },
             around: copy_variables(alloc, &self.around)?,
         })
     }
@@ -72,21 +74,22 @@ impl<'a> Scene<'a> {
         self
     }
 
-    /// What a task inside the running tasks of these goes by.
-    pub fn inside(mut self, alloc: Global, layers: &[Layer]) -> Result<Scene<'a>, AllocError>
-        ensures line { IfOk result (λ s. line_of s ≡ seen_in (line_of self.entry) (frames_of layers.now)) }
+    /// What a task inside these running tasks goes by, of which the first is the innermost.
+    pub fn inside(self, alloc: Global, around: &Chain<Frame>) -> Result<Scene<'a>, AllocError>
+        ensures line { IfOk result (λ s. line_of s ≡ seen_in (line_of self.entry) (inward around.now)) }
         ensures site { IfOk result (λ s. site_of s ≡ site_of self.entry) }
     {
-        for layer in layers {
-            if let Layer::Running(shared) = layer {
-                let frame = shared.frame();
-                push_seen(alloc, &mut self.around, frame.running.task(), &frame.round)?;
-            }
-        }
-        Ok(self)
+        let Some((frame, outer)) = around.split_first() else {
+            return Ok(self);
+        };
+        let mut scene = self.inside(alloc, outer)?;
+        let (task, round) = (frame.running.task(), &frame.round);
+        push_seen(alloc, &mut scene.around, task, round)?;
+        Ok(scene)
     }
 
     /// What a task that runs in a round of this one goes by.
+    #[tactic(auto, using(swf_stack::proofs::RoundLemmas::seen_of))]
     pub fn seen(
         &self,
         alloc: Global,
@@ -110,8 +113,10 @@ impl<'a> Scene<'a> {
             setting: self.setting,
             context: self.context.copy()?,
             branches: self.branches,
-            words: self.words,
-            now: self.now,
+            site: Site {
+                now: self.site.now,
+                documents: self.site.documents,
+            },
             around: Vec::new(alloc),
         })
     }

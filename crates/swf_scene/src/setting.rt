@@ -4,11 +4,9 @@ ghost use Rattle.std.specs.Coded.{Coded-set};
 ghost use Rattle.swf_value.specs.ValueCode.{value_code};
 ghost use Rattle.swf_meaning.specs.Line.{epoch, workflow_value};
 
-use crate::site::Site;
-use crate::words::Words;
 use std::alloc::{AllocError, Global};
+use swf_catalog::{SharedDocument, Words};
 use swf_duration::Moment;
-use swf_stack::SharedDocument;
 use swf_text::Text;
 use swf_value::{Json, Member};
 
@@ -37,12 +35,11 @@ impl Setting {
         document: SharedDocument,
         id: Text,
         input: Json,
-        site: &Site,
+        started: Moment,
     ) -> Result<Setting, AllocError>
-        ensures { IfOk result (λ s. (n : Node) → instance_of s n ≡ record { id = id; document = document; input = input; started = site.entry.now.now; context = null; node = n; number = 0 }) }
+        ensures { IfOk result (λ s. (n : Node) → instance_of s n ≡ record { id = id; document = document; input = input; started = started; context = null; node = n; number = 0 }) }
     {
-        let started = site.now;
-        let workflow = workflow_value(alloc, site.words, &id, started, &input)?;
+        let workflow = workflow_value(alloc, document.get().words(), &id, started, &input)?;
         Ok(Setting {
             document,
             id,

@@ -3,26 +3,46 @@ ghost use Rattle.std.specs.Prelude.{◌≡◌, ◌++◌, ◌∷◌, [], ◌<◌,
 ghost use Rattle.swf_text.specs.Same.{is_ascii};
 ghost use Rattle.swf_text.specs.Pointer.{pointer};
 ghost use Rattle.swf_value.specs.Value.{int, text, object, member, no_members};
-ghost use Rattle.swf_meaning.specs.Line.{variable, last_part, task_value, of_workflow, with_context, of_task, before, within, behind, is_workflow};
+ghost use Rattle.swf_meaning.specs.Line.{variable, last_part, task_value, of_workflow, with_context, of_task, before, within, is_workflow};
 ghost use Rattle.swf_meaning.specs.Around.{round_variables};
 ghost use Rattle.swf_meaning.specs.Parts.{kind_of};
 ghost use Rattle.swf_meaning.specs.Try.{catching, retrying};
-ghost use Rattle.swf_stack.specs.Stack.{round_of};
+ghost use Rattle.swf_catalog.specs.Rounds.{round_of};
 ghost use Rattle.swf_scene.specs.Setting.{line_of};
-ghost use Rattle.swf_stack.specs.TaskRef.{loop_variables};
+ghost use Rattle.swf_scene.specs.Sights.{vars_of};
+ghost use Rattle.swf_catalog.specs.TaskRef.{loop_variables};
 
 use crate::scene::Scene;
 use crate::setting::push_named;
-use crate::words::Words;
 use std::alloc::{AllocError, Global};
+use swf_catalog::{Iteration, Round, TaskRef, Words, Work};
 use swf_document::{ForSpec, Problem, problem_value};
 use swf_jq_eval::{Variable, Vars};
-use swf_stack::{Round, Running, TaskRef, Turn, Work};
+use swf_stack::Running;
 use swf_text::{Place, Text, pointer_text, word};
 use swf_value::Json;
 
 /// Room for as many variables as most expressions see.
 const MOST_OFTEN: usize = 8;
+
+/// What expressions of a task see: variables that were made for others before, or are made for these.
+#[derive(Drop)]
+pub enum Sight<'a> {
+    Lent(&'a Vars),
+    Made(Vars),
+}
+
+impl Sight<'_> {
+    /// The variables.
+    pub fn vars(&self) -> &Vars
+        ensures { result.now ≡ vars_of self.now }
+    {
+        match self {
+            Sight::Lent(vars) => vars,
+            Sight::Made(vars) => vars,
+        }
+    }
+}
 
 // Adds a variable whose name is shared.
 fn push_variable(variables: &mut Vec<Variable>, name: &Text, value: Json) -> Result<(), AllocError>
@@ -70,17 +90,21 @@ fn position(number: u64) -> Json
     Json::int(number as i64)
 }
 
-// Adds the item of a turn and its position.
-fn push_turn(variables: &mut Vec<Variable>, spec: &ForSpec, turn: &Turn) -> Result<(), AllocError>
-    ensures { IfOk result (λ _. variables.new.items ≡ variables.old.items ++ loop_variables spec.now turn.now) }
+// Adds the item of an iteration and its position.
+fn push_iteration(
+    variables: &mut Vec<Variable>,
+    spec: &ForSpec,
+    iteration: &Iteration,
+) -> Result<(), AllocError>
+    ensures { IfOk result (λ _. variables.new.items ≡ variables.old.items ++ loop_variables spec.now iteration.now) }
 {
-    let items = turn.items.as_slice();
-    let place = turn.number as usize;
+    let items = iteration.items.as_slice();
+    let place = iteration.number as usize;
     if place >= items.len() {
         return Ok(());
     }
     push_variable(variables, &spec.each, items[place].copy()?)?;
-    push_variable(variables, &spec.at, position(turn.number))?;
+    push_variable(variables, &spec.at, position(iteration.number))?;
     Ok(())
 }
 
@@ -94,7 +118,7 @@ pub fn push_seen(
     ensures { IfOk result (λ _. variables.new.items ≡ variables.old.items ++ round_variables (kind_of task.now) (round_of round.now)) }
 {
     match (task.work(), round) {
-        (Work::For(spec), Round::Each(turn)) => push_turn(variables, spec, turn),
+        (Work::For(spec), Round::Each(iteration)) => push_iteration(variables, spec, iteration),
         (Work::Try(spec), Round::Catch(problem)) => {
             push_variable(variables, &spec.name, problem_value(alloc, problem)?)
         }
@@ -111,6 +135,11 @@ fn name_at(alloc: Global, place: &Place) -> Result<Text, AllocError>
         Some((name, _)) => Ok(name.copy()?),
         None => word(alloc, ""),
     }
+}
+
+// The names that variables need.
+fn words_of<'a>(scene: &Scene<'a>) -> &'a Words {
+    scene.setting.document.get().words()
 }
 
 // `$task`.
@@ -146,7 +175,7 @@ fn of_workflow(alloc: Global, scene: &Scene) -> Result<Vec<Variable>, AllocError
     let mut variables = Vec::with_capacity(alloc, MOST_OFTEN)?;
     push_variable(
         &mut variables,
-        scene.words.workflow(),
+        words_of(scene).workflow(),
         scene.setting.workflow.copy()?,
     )?;
     Ok(variables)
@@ -156,7 +185,11 @@ fn with_context(alloc: Global, scene: &Scene) -> Result<Vec<Variable>, AllocErro
     ensures { IfOk result (λ xs. xs.items ≡ with_context (line_of scene.entry.now)) }
 {
     let mut variables = of_workflow(alloc, scene)?;
-    push_variable(&mut variables, scene.words.context(), scene.context.copy()?)?;
+    push_variable(
+        &mut variables,
+        words_of(scene).context(),
+        scene.context.copy()?,
+    )?;
     Ok(variables)
 }
 
@@ -168,7 +201,7 @@ fn of_task(
 ) -> Result<Vec<Variable>, AllocError>
     ensures { IfOk result (λ xs. xs.items ≡ of_task (line_of scene.entry.now) task.now raw.now) }
 {
-    let words = scene.words;
+    let words = words_of(scene);
     let mut variables = with_context(alloc, scene)?;
     push_variable(
         &mut variables,
@@ -201,33 +234,31 @@ fn around(alloc: Global, scene: &Scene, running: &Running) -> Result<Vec<Variabl
     }
 }
 
-// What `if`, a task's own definition and `output.as` see, as a list that may grow.
-fn inside(alloc: Global, scene: &Scene, running: &Running) -> Result<Vec<Variable>, AllocError>
-    ensures { IfOk result (λ xs. xs.items ≡ within (line_of scene.entry.now) running.now) }
-{
-    let mut variables = around(alloc, scene, running)?;
-    push_variable(&mut variables, scene.words.input(), running.input().copy()?)?;
-    Ok(variables)
-}
-
 /// What `if`, a task's own definition and `output.as` see.
 pub fn within(alloc: Global, scene: &Scene, running: &Running) -> Result<Vars, AllocError>
     ensures { IfOk result (λ r. r ≡ within (line_of scene.entry.now) running.now) }
 {
-    Ok(Vars::of(inside(alloc, scene, running)?))
+    let mut variables = around(alloc, scene, running)?;
+    push_variable(
+        &mut variables,
+        words_of(scene).input(),
+        running.input().copy()?,
+    )?;
+    Ok(Vars::of(variables))
 }
 
-/// What `export.as` sees, on the transformed output.
+/// What `export.as` sees, on the transformed output, besides what `output.as` sees.
 pub fn behind(
     alloc: Global,
     scene: &Scene,
-    running: &Running,
+    within: &Vars,
     output: &Json,
 ) -> Result<Vars, AllocError>
-    ensures { IfOk result (λ r. r ≡ behind (line_of scene.entry.now) running.now output.now) }
+    ensures { IfOk result (λ r. r ≡ within.now ++ variable (codes "output") output.now ∷ []) }
 {
-    let mut variables = inside(alloc, scene, running)?;
-    push_variable(&mut variables, scene.words.output(), output.copy()?)?;
+    let mut variables = Vec::with_capacity(alloc, MOST_OFTEN)?;
+    push_variables(&mut variables, within.as_slice())?;
+    push_variable(&mut variables, words_of(scene).output(), output.copy()?)?;
     Ok(Vars::of(variables))
 }
 

@@ -1,10 +1,10 @@
-// When and by which names a step is taken.
-use crate::words::Words;
+// What a step goes by that is the same for all instances.
+use swf_catalog::Documents;
 use swf_duration::Moment;
 
-/// What an instance goes by besides what it is: the moment; and the names that variables need.
+/// The moment of a step, and the loaded documents.
 #[derive(Clone, Copy)]
 pub struct Site<'a> {
     pub now: Moment,
-    pub words: &'a Words,
+    pub documents: &'a Documents,
 }

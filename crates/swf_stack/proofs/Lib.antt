@@ -1,4 +1,4 @@
-pub mod TaskLemmas
 pub mod RoundLemmas
-pub mod LayerLemmas
+pub mod StandLemmas
 pub mod HeardLemmas
+pub mod Sends

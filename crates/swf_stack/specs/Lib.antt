@@ -1,5 +1,2 @@
-pub mod Source
-pub mod TaskRef
 pub mod Stack
-pub mod FrameCode
-pub mod Layers
+pub mod Stands

@@ -1,6 +1,6 @@
 -- The tree that a stack stands for.
 use Rattle.std.specs.Prelude.{ℕ, List, [], ◌∷◌, Option, Some, None, option_to_list}
-use Rattle.swf_meaning.specs.Node.{Node, Fresh, Live, Done, Fault, Inside, At, Later, Sleep, Hear, Forked, Nodes, no_nodes, Round, Seq, Each, Try, Catch, Running}
+use Rattle.swf_meaning.specs.Node.{Node, Fresh, Live, Done, Fault, Inside, At, Later, Sleep, Hear, Forked, Nodes, no_nodes, Round, Seq, Each, Try, Catch}
 use Rattle.swf_meaning.specs.Around.{seen}
 use Rattle.swf_meaning.specs.Complete.{Stepped}
 use Rattle.swf_meaning.specs.Fork.{branches_of, fresh}
@@ -8,16 +8,9 @@ use Rattle.swf_meaning.specs.Line.{Line}
 use Rattle.swf_cloudevents.specs.declared.event.Event.{Event}
 use Rattle.swf_stack.specs.declared.made.Frame.{Frame}
 use Rattle.swf_stack.specs.declared.made.Made.{Made}
-use Rattle.swf_stack.specs.declared.made.Round.{Round as DeclaredRound}
-use Rattle.swf_stack.specs.declared.made.Round.TheVariants as rounds
+use Rattle.swf_catalog.specs.Rounds.{round_of}
 use Rattle.swf_stack.specs.declared.made.Top.{Top}
 use Rattle.swf_stack.specs.declared.made.Top.TheVariants as tops
-
-abbrev pub round_of : DeclaredRound → Round
-round_of rounds.Seq = Seq
-round_of (rounds.Each t) = Each t.items t.number
-round_of (rounds.Try n) = Try n
-round_of (rounds.Catch p) = Catch p
 
 -- a `wait`, or a `try` that waits to make that retry
 abbrev pub waiting : Option ℕ → ℕ → Inside

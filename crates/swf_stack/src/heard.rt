@@ -2,12 +2,12 @@
 ghost use Rattle.std.specs.Prelude.{◌≡◌, ◌++◌, ◌∷◌, [], IfOk, option_map};
 ghost use Rattle.swf_meaning.specs.Listen.{data_of, events_of, is_heard, is_met, is_satisfied, read_as, takes};
 
-use crate::task::{TaskRef, Work};
 use std::alloc::{AllocError, Global};
+use swf_catalog::{TaskRef, Work};
 use swf_cloudevents::{Event, NamedValues, Payload, event_json};
 use swf_document::{ListenMode, ListenSpec};
 use swf_meaning::Heard;
-use swf_transform::correlate;
+use swf_transform::{Offer, correlate};
 use swf_value::Json;
 
 // Whether a `listen` has heard all that it waits for.
@@ -42,15 +42,16 @@ fn is_met(place: usize, heard: &[Heard]) -> bool
     false
 }
 
-/// What a `listen` has bound after an event that it takes, and the event with the place of its filter; none where it takes it not.
+/// What a `listen` has bound after an event that is offered and that it takes, and the event with the place of its filter; none where it
+/// takes it not.
 pub fn takes(
     alloc: Global,
     spec: &ListenSpec,
     bound: &NamedValues,
     heard: &[Heard],
-    event: &Event,
+    offer: &Offer,
 ) -> Result<Option<(NamedValues, Heard)>, AllocError>
-    ensures { IfOk result (λ o. option_map (λ p. (p.0, heard.now ++ p.1 ∷ [])) o ≡ takes spec.now bound.now heard.now event.now) }
+    ensures { IfOk result (λ o. option_map (λ p. (p.0, heard.now ++ p.1 ∷ [])) o ≡ takes spec.now bound.now heard.now offer.now) }
 {
     if is_satisfied(spec, heard) {
         return Ok(None);
@@ -60,8 +61,8 @@ pub fn takes(
         if is_met(place, heard) {
             continue;
         }
-        if let Some(bound) = correlate(alloc, &filters[place], bound, event)? {
-            let event = event.copy()?;
+        if let Some(bound) = correlate(alloc, &filters[place], bound, offer)? {
+            let event = offer.event().copy()?;
             return Ok(Some((
                 bound,
                 Heard {

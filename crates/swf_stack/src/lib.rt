@@ -1,18 +1,12 @@
-//! What an instance is made of: tasks of a loaded document, and stacks of frames with what stands on top of them.
+//! What an instance is made of: stacks of the tasks that run inside each other, with what stands on top of them.
 #![tactic(auto)]
 
+mod crossing;
 mod heard;
 mod made;
 mod running;
-mod sent;
-mod shared;
-mod shared_frame;
-mod task;
 
+pub use crossing::stand_crosses;
 pub use heard::{events_of, is_heard, takes};
-pub use made::{Frame, Layer, Made, Round, Top, Turn};
+pub use made::{Frame, Made, SentEvent, Stand, Top};
 pub use running::Running;
-pub use sent::SentEvent;
-pub use shared::SharedDocument;
-pub use shared_frame::SharedFrame;
-pub use task::{TaskRef, Work};

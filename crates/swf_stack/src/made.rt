@@ -1,36 +1,15 @@
 // What an instance is made of, as a stack of the tasks that run inside each other.
-ghost use Rattle.std.specs.Prelude.{◌≡◌, ◌<◌, ◌-◌, ◌^◌, IfOk};
+ghost use Rattle.std.specs.Prelude.{◌≡◌, ◌<◌, ◌-◌, ◌^◌, ◌++◌, [], IfOk, option_to_list};
 
 use crate::running::Running;
-use crate::sent::SentEvent;
-use crate::shared_frame::SharedFrame;
-use crate::task::TaskRef;
 use std::alloc::{AllocError, Global};
-use swf_cloudevents::NamedValues;
-use swf_document::{Flow, Listing, Problem};
+use swf_catalog::{Round, TaskRef};
+use swf_chain::Chain;
+use swf_cloudevents::{Event, NamedValues};
+use swf_document::{Boxed, Flow, Listing, Problem};
 use swf_frames::CopyFrame;
 use swf_meaning::Heard;
-use swf_value::{Json, JsonList};
-
-/// A turn of a `for` over some items.
-#[derive(Drop)]
-pub struct Turn {
-    pub items: JsonList,
-    pub number: u64,
-    ghost few: { number < 2 ^ 53 },
-}
-
-/// For what a task runs its list.
-#[derive(Drop)]
-pub enum Round {
-    /// Once.
-    Seq,
-    Each(Turn),
-    /// The attempt of a `try` after so many retries.
-    Try { retries: u64 },
-    /// To handle an error.
-    Catch(Problem),
-}
+use swf_value::Json;
 
 /// A task that runs, and the place of what runs in its list.
 #[derive(Drop)]
@@ -69,38 +48,24 @@ pub enum Top {
     Forked(Running),
 }
 
-/// What a strand holds: the tasks that run, the outermost first, and at the top what stands innermost.
+/// What a strand holds: the tasks that run on it, the innermost first, and what stands innermost.
 #[derive(Drop)]
-pub enum Layer {
-    Running(SharedFrame),
-    Top(Top),
+pub struct Stand {
+    pub around: Chain<Frame>,
+    pub top: Top,
 }
+
+/// An event that goes out, behind a box, since most steps send none.
+pub type SentEvent = Boxed<Event>;
 
 /// What a step makes of the task that takes it: the task with what runs in it, or what it ended in; the context; and the event
 /// that goes out, where one does.
 #[derive(Drop)]
 pub struct Made {
-    pub frame: Option<SharedFrame>,
+    pub frame: Option<Frame>,
     pub top: Top,
     pub context: Json,
     pub emitted: Option<SentEvent>,
-}
-
-impl Round {
-    /// The same once more. It copies no values.
-    pub fn copy(&self) -> Result<Round, AllocError>
-        ensures { IfOk result (λ r. r ≡ self.now) }
-    {
-        match self {
-            Round::Seq => Ok(Round::Seq),
-            Round::Each(turn) => Ok(Round::Each(Turn {
-                items: turn.items.copy()?,
-                number: turn.number,
-            })),
-            Round::Try { retries } => Ok(Round::Try { retries: *retries }),
-            Round::Catch(problem) => Ok(Round::Catch(problem.copy()?)),
-        }
-    }
 }
 
 impl Top {
@@ -141,11 +106,40 @@ impl Top {
     }
 }
 
-impl CopyFrame for Layer {
-    fn copy(&self, _alloc: Global) -> Result<Layer, AllocError> {
-        match self {
-            Layer::Running(frame) => Ok(Layer::Running(frame.copy()?)),
-            Layer::Top(top) => Ok(Layer::Top(top.copy()?)),
+impl Stand {
+    /// What a strand holds on which no task runs.
+    pub fn alone(top: Top) -> Stand
+        ensures { result ≡ record { around = []; top = top } }
+    {
+        Stand {
+            around: Chain::new(),
+            top,
         }
+    }
+
+    /// What a strand holds with this inside its running tasks.
+    pub fn inside(
+        alloc: Global,
+        around: &Chain<Frame>,
+        frame: Option<Frame>,
+        top: Top,
+    ) -> Result<Stand, AllocError>
+        ensures around { IfOk result (λ s. s.around ≡ option_to_list frame ++ around.now) }
+        ensures top { IfOk result (λ s. s.top ≡ top) }
+    {
+        let mut around = around.copy()?;
+        if let Some(frame) = frame {
+            around = around.with(alloc, frame)?;
+        }
+        Ok(Stand { around, top })
+    }
+}
+
+impl CopyFrame for Stand {
+    fn copy(&self, _alloc: Global) -> Result<Stand, AllocError> {
+        Ok(Stand {
+            around: self.around.copy()?,
+            top: self.top.copy()?,
+        })
     }
 }

@@ -1,9 +1,9 @@
 // A task at work.
 ghost use Rattle.std.specs.Prelude.{◌≡◌, IfOk};
 
-use crate::task::TaskRef;
 use std::alloc::AllocError;
 use std::marker::Model;
+use swf_catalog::TaskRef;
 use swf_value::Json;
 
 /// A task at work, with its raw and its transformed input. A copy shares them. Contracts see it as the `Running` of the definitions.

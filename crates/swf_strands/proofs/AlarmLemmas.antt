@@ -5,14 +5,15 @@ use Rattle.std.specs.List.{fold, reduce}
 use Rattle.swf_frames.specs.Tree.{Tree, Branch, find, numbers}
 use Rattle.swf_frames.specs.Paths.{nth}
 use Rattle.swf_meaning.specs.Node.{Node, Fresh, Live, Done, Fault, Inside, At, Later, Sleep, Hear, Forked, Nodes, no_nodes, branch, Running}
-use Rattle.swf_meaning.specs.Wake.{waits, waits_inside, waits_among}
-use Rattle.swf_stack.specs.Layers.{frames_of, top_of}
+use Rattle.swf_meaning.specs.Wake.{waits}
+use Rattle.swf_meaning.proofs.TopsLemmas.{waits_among, waits_among-branch, waits-at}
+use Rattle.swf_stack.specs.Stands.{frames_of, inward, top_of}
 use Rattle.swf_stack.specs.Stack.{top_node, forked}
-use Rattle.swf_stack.specs.declared.made.Layer.{Layer}
+use Rattle.swf_stack.specs.declared.made.Stand.{Stand}
 use Rattle.swf_stack.specs.declared.made.Top.{Top}
 use Rattle.swf_stack.specs.declared.made.Top.TheVariants as tops
-use Rattle.swf_strands.specs.Alarm.{alarm_of, earlier, until_in, until_in_top}
-use Rattle.swf_strands.specs.Forks.{layers_node}
+use Rattle.swf_strands.specs.Alarm.{alarm_of, earlier, until_in_top}
+use Rattle.swf_strands.specs.Forks.{stand_node}
 use Rattle.swf_strands.specs.Strands.{nodes_of, node_of, root_node, is_fork, IsGrown, IsGrownAt, IsHeld}
 use Rattle.swf_strands.specs.Ways.{at, at_inside, at_among, has_strand, own_until, replaced, replaced_inside, replaced_among}
 use Rattle.swf_strands.proofs.AskLemmas.{nodes_from, from-child, from-end, own_until-plug, own_until-waiting, waits-plug}
@@ -54,6 +55,9 @@ least-append (m ∷ ms) (n ∷ ns) = ap Some (fold-append m ms (n ∷ ns) ∙ fo
 abbrev alarm_among : Nodes → Option ℕ
 alarm_among ns = reduce min (waits_among ns)
 
+alarm_among-branch : (n : Node) (ns : Nodes) → alarm_among (branch n ns) ≡ earlier (alarm_of n) (alarm_among ns)
+alarm_among-branch n ns = ap (reduce min) (waits_among-branch n ns) ∙ least-append (waits n) (waits_among ns)
+
 plain-alarm : (t : Top) → is_fork t ≡ false → alarm_of (top_node t) ≡ own_until (top_node t)
 plain-alarm (tops.Fresh r v) e = refl
 plain-alarm (tops.Done w d) e = refl
@@ -63,7 +67,7 @@ plain-alarm (tops.Waiting r (Some n) m) e = refl
 plain-alarm (tops.Hearing r bound hs) e = refl
 plain-alarm (tops.Forked r) e = cc
 
-alarm-node : (b : Branch Layer) → IsGrownAt b → alarm_of (node_of b) ≡ earlier (own_until (node_of b)) (alarm_among (nodes_of b.below))
+alarm-node : (b : Branch Stand) → IsGrownAt b → alarm_of (node_of b) ≡ earlier (own_until (node_of b)) (alarm_among (nodes_of b.below))
 alarm-node b g = by (is_fork (top_of b.frames)) refl
   where
     ns : Nodes
@@ -82,49 +86,45 @@ alarm-node b g = by (is_fork (top_of b.frames)) refl
         ∙ sym (ap (λ ss. earlier (own_until (node_of b)) (alarm_among (nodes_of ss))) (g.0.1 e) ∙ earlier-none (own_until (node_of b)))
 
 -- the least of those before a branch is known
-abbrev pub IsRung : Tree Layer → ℕ → ℕ → Option ℕ → Type 0
-IsRung t n i a = (b : Branch Layer) → find t.strands n ≡ Some b → alarm_of (node_of b) ≡ earlier a (alarm_among (nodes_from i (nodes_of b.below)))
+abbrev pub IsRung : Tree Stand → ℕ → ℕ → Option ℕ → Type 0
+IsRung t n i a = (b : Branch Stand) → find t.strands n ≡ Some b → alarm_of (node_of b) ≡ earlier a (alarm_among (nodes_from i (nodes_of b.below)))
 
-pub rung-own : (t : Tree Layer) (n : ℕ) (a : Option ℕ) → IsHeld t n → ((b : Branch Layer) → find t.strands n ≡ Some b → a ≡ own_until (node_of b)) → IsRung t n 0 a
+pub rung-own : (t : Tree Stand) (n : ℕ) (a : Option ℕ) → IsHeld t n → ((b : Branch Stand) → find t.strands n ≡ Some b → a ≡ own_until (node_of b)) → IsRung t n 0 a
 rung-own t n a held is b f = alarm-node b (held-is t n b held f) ∙ ap (λ o. earlier o (alarm_among (nodes_of b.below))) (sym (is b f))
 
-pub rung-more : (t : Tree Layer) (n i c : ℕ) (a x : Option ℕ) → IsChild t n i c → IsRung t n i a → ((h : Branch Layer) → find t.strands c ≡ Some h → x ≡ alarm_of (node_of h)) → IsRung t n (i + 1) (earlier a x)
+pub rung-more : (t : Tree Stand) (n i c : ℕ) (a x : Option ℕ) → IsChild t n i c → IsRung t n i a → ((h : Branch Stand) → find t.strands c ≡ Some h → x ≡ alarm_of (node_of h)) → IsRung t n (i + 1) (earlier a x)
 rung-more t n i c a x child left is b f =
     let h = child b f in
     let same : suc i ≡ i + 1 = omega arith in
     let rest = nodes_from (suc i) (nodes_of b.below) in
     left b f
     ∙ ap (λ ns. earlier a (alarm_among ns)) (from-child b i (record { number = c; held = h.0 }) h.1.0)
-    ∙ ap (earlier a) (least-append (waits (node_of h.0)) (waits_among rest) ∙ ap (λ o. earlier o (alarm_among rest)) (sym (is h.0 h.1.1.0)))
+    ∙ ap (earlier a) (alarm_among-branch (node_of h.0) rest ∙ ap (λ o. earlier o (alarm_among rest)) (sym (is h.0 h.1.1.0)))
     ∙ sym (earlier-assoc a x (alarm_among rest))
     ∙ ap (λ j. earlier (earlier a x) (alarm_among (nodes_from j (nodes_of b.below)))) same
 
-pub rung-all : (t : Tree Layer) (n i : ℕ) (a : Option ℕ) → ((b : Branch Layer) → find t.strands n ≡ Some b → nth b.below i ≡ None) → IsRung t n i a → (b : Branch Layer) → find t.strands n ≡ Some b → a ≡ alarm_of (node_of b)
+pub rung-all : (t : Tree Stand) (n i : ℕ) (a : Option ℕ) → ((b : Branch Stand) → find t.strands n ≡ Some b → nth b.below i ≡ None) → IsRung t n i a → (b : Branch Stand) → find t.strands n ≡ Some b → a ≡ alarm_of (node_of b)
 rung-all t n i a none left b f = sym (left b f ∙ ap (λ ns. earlier a (alarm_among ns)) (from-end b i (none b f)) ∙ earlier-none a)
 
 -- ---- what a strand itself waits for
 
-own-top : (b : Branch Layer) (t : Top) → t ≡ top_of b.frames → own_until (node_of b) ≡ own_until (forked (top_node t) (nodes_of b.below))
+own-top : (b : Branch Stand) (t : Top) → t ≡ top_of b.frames → own_until (node_of b) ≡ own_until (forked (top_node t) (nodes_of b.below))
 own-top b t s = own_until-plug (frames_of b.frames) (forked (top_node (top_of b.frames)) (nodes_of b.below)) ∙ ap (λ x. own_until (forked (top_node x) (nodes_of b.below))) (sym s)
 
-pub until-waiting : (b : Branch Layer) (t : Top) (r : Running) (n : Option ℕ) (m : ℕ) → t ≡ top_of b.frames → t ≡ tops.Waiting r n m → Some m ≡ own_until (node_of b)
-until-waiting b t r n m s e =
-    sym (own-top b t s ∙ ap (λ x. own_until (forked (top_node x) (nodes_of b.below))) e ∙ ap own_until (waiting-forked r n m (nodes_of b.below)) ∙ own_until-waiting n m)
-
-pub until-not : (b : Branch Layer) (t : Top) → t ≡ top_of b.frames → ((r : Running) (n : Option ℕ) (m : ℕ) → t ≡ tops.Waiting r n m → ⊥) → None ≡ own_until (node_of b)
-until-not b t s isnt = sym (own-top b t s ∙ by t isnt)
+pub own-is : (b : Branch Stand) (s : Stand) → b.frames ≡ s ∷ [] → until_in_top s.top ≡ own_until (node_of b)
+own-is b s e = sym (own-top b s.top (sym (ap top_of e)) ∙ by s.top)
   where
-    by : (t : Top) → ((r : Running) (n : Option ℕ) (m : ℕ) → t ≡ tops.Waiting r n m → ⊥) → own_until (forked (top_node t) (nodes_of b.below)) ≡ None
-    by (tops.Fresh r v) isnt = refl
-    by (tops.Done w d) isnt = refl
-    by (tops.Fault p) isnt = refl
-    by (tops.Waiting r n m) isnt = absurd (isnt r n m refl)
-    by (tops.Hearing r bound hs) isnt = refl
-    by (tops.Forked r) isnt = refl
+    by : (t : Top) → own_until (forked (top_node t) (nodes_of b.below)) ≡ until_in_top t
+    by (tops.Fresh r v) = refl
+    by (tops.Done w d) = refl
+    by (tops.Fault p) = refl
+    by (tops.Waiting r n m) = ap own_until (waiting-forked r n m (nodes_of b.below)) ∙ own_until-waiting r n m
+    by (tops.Hearing r bound hs) = refl
+    by (tops.Forked r) = refl
 
 -- what a strand waits for that is put anew
-pub alarm-layers : (ls : List Layer) → alarm_of (layers_node ls) ≡ until_in ls
-alarm-layers ls = ap (reduce min) (waits-plug (frames_of ls) (forked (top_node (top_of ls)) no_nodes)) ∙ by (top_of ls)
+pub alarm-stand : (s : Stand) → alarm_of (stand_node s) ≡ until_in_top s.top
+alarm-stand s = ap (reduce min) (waits-plug (inward s.around) (forked (top_node s.top) no_nodes)) ∙ by s.top
   where
     by : (t : Top) → alarm_of (forked (top_node t) no_nodes) ≡ until_in_top t
     by (tops.Fresh r v) = refl
@@ -162,27 +162,27 @@ mutual
   alarm-replaced : (bs : List ℕ) (m n x : Node) → at bs n ≡ Some x → alarm_of (replaced bs m n) ≡ earlier (alarm_of m) (reduce min (beside bs n))
   alarm-replaced [] m n x e = sym (earlier-none (alarm_of m))
   alarm-replaced (b ∷ bs) m (Fresh t v) x e = absurd (nothing x e)
-  alarm-replaced (b ∷ bs) m (Live r k) x e = alarm-inside b bs m k x e
+  alarm-replaced (b ∷ bs) m (Live r k) x e = alarm-inside b bs m r k x e
   alarm-replaced (b ∷ bs) m (Done w f) x e = absurd (nothing x e)
   alarm-replaced (b ∷ bs) m (Fault p) x e = absurd (nothing x e)
 
-  alarm-inside : (b : ℕ) (bs : List ℕ) (m : Node) (k : Inside) (x : Node) → at_inside b bs k ≡ Some x → reduce min (waits_inside (replaced_inside b bs m k)) ≡ earlier (alarm_of m) (reduce min (beside_inside b bs k))
-  alarm-inside b bs m (At round i n) x e = alarm-replaced (b ∷ bs) m n x e
-  alarm-inside b bs m (Later n l) x e = absurd (nothing x e)
-  alarm-inside b bs m (Sleep l) x e = absurd (nothing x e)
-  alarm-inside b bs m (Hear bound hs) x e = absurd (nothing x e)
-  alarm-inside b bs m (Forked ns) x e = alarm-branches b bs m ns x e
+  alarm-inside : (b : ℕ) (bs : List ℕ) (m : Node) (r : Running) (k : Inside) (x : Node) → at_inside b bs k ≡ Some x → alarm_of (Live r (replaced_inside b bs m k)) ≡ earlier (alarm_of m) (reduce min (beside_inside b bs k))
+  alarm-inside b bs m r (At round i n) x e = ap (reduce min) (waits-at r round i (replaced (b ∷ bs) m n)) ∙ alarm-replaced (b ∷ bs) m n x e
+  alarm-inside b bs m r (Later n l) x e = absurd (nothing x e)
+  alarm-inside b bs m r (Sleep l) x e = absurd (nothing x e)
+  alarm-inside b bs m r (Hear bound hs) x e = absurd (nothing x e)
+  alarm-inside b bs m r (Forked ns) x e = alarm-branches b bs m ns x e
 
   alarm-branches : (b : ℕ) (bs : List ℕ) (m : Node) (ns : Nodes) (x : Node) → at_among b bs ns ≡ Some x → alarm_among (replaced_among b bs m ns) ≡ earlier (alarm_of m) (reduce min (beside_among b bs ns))
   alarm-branches b bs m no_nodes x e = absurd (nothing x e)
   alarm-branches zero bs m (branch n ns) x e =
-      least-append (waits (replaced bs m n)) (waits_among ns)
+      alarm_among-branch (replaced bs m n) ns
       ∙ ap (λ o. earlier o (alarm_among ns)) (alarm-replaced bs m n x e)
       ∙ earlier-assoc (alarm_of m) (reduce min (beside bs n)) (alarm_among ns)
       ∙ ap (earlier (alarm_of m)) (sym (least-append (beside bs n) (waits_among ns)))
   alarm-branches (suc b) bs m (branch n ns) x e =
       let others = reduce min (beside_among b bs ns) in
-      least-append (waits n) (waits_among (replaced_among b bs m ns))
+      alarm_among-branch n (replaced_among b bs m ns)
       ∙ ap (earlier (alarm_of n)) (alarm-branches b bs m ns x e)
       ∙ sym (earlier-assoc (alarm_of n) (alarm_of m) others)
       ∙ ap (λ o. earlier o others) (earlier-swap (alarm_of n) (alarm_of m))
@@ -225,11 +225,11 @@ alarm-left n m new bs a d u there old dropped left until is =
     (λ i. earlier (until i) (left others all i)) ∙ sym (ap alarm_of is ∙ alarm-replaced bs m n x t.1)
 
 -- what the root waits for is that of all
-pub alarm-root : (t : Tree Layer) (r : ℕ) (a : Option ℕ) → numbers t.strands ≡ r ∷ [] → IsGrown t.strands → ((b : Branch Layer) → find t.strands r ≡ Some b → a ≡ alarm_of (node_of b)) → a ≡ alarm_of (root_node t.strands)
+pub alarm-root : (t : Tree Stand) (r : ℕ) (a : Option ℕ) → numbers t.strands ≡ r ∷ [] → IsGrown t.strands → ((b : Branch Stand) → find t.strands r ≡ Some b → a ≡ alarm_of (node_of b)) → a ≡ alarm_of (root_node t.strands)
 alarm-root t r a e g is = let h = root-holds t r e g in is h.0 h.1.0 ∙ ap alarm_of (sym h.1.1.1.1)
 
 -- what a way leads to
-pub alarm-way : (t : Tree Layer) (r c : ℕ) (bs : List ℕ) (a : Option ℕ) → numbers t.strands ≡ r ∷ [] → IsGrown t.strands → IsAt t r bs c → ((b : Branch Layer) → find t.strands c ≡ Some b → a ≡ alarm_of (node_of b)) →
+pub alarm-way : (t : Tree Stand) (r c : ℕ) (bs : List ℕ) (a : Option ℕ) → numbers t.strands ≡ r ∷ [] → IsGrown t.strands → IsAt t r bs c → ((b : Branch Stand) → find t.strands c ≡ Some b → a ≡ alarm_of (node_of b)) →
     (n : Node) → at bs (root_node t.strands) ≡ Some n → a ≡ alarm_of n
 alarm-way t r c bs a e g way is n there =
     let h = root-holds t r e g in

@@ -1,10 +1,8 @@
--- What holds of a strand and of those below it.
+-- Which of a strand and those below it can take a step.
 use Rattle.std.proofs.Common.{◌≡◌, ◌∙◌, refl, sym, ap, ℕ, zero, suc, ◌+◌, ◌<◌, ◌≤◌, Bool, true, false, not, List, [], ◌∷◌, length, Option, Some, None, arith}
 use Rattle.std.proofs.Math.Bool.{or-false}
 use Rattle.std.proofs.Math.Dec.{eqb-suc-zero}
-use Rattle.std.proofs.lemmas.List.Folds.{list_any-append}
 use Rattle.std.proofs.lemmas.Option.{same_Some}
-use Rattle.std.specs.List.{list_any}
 use Rattle.std.specs.Prelude.{◌||◌, ◌==◌, nat_le}
 use Rattle.swf_value.specs.Value.{Value, Members}
 use Rattle.swf_document.specs.Task.{Task}
@@ -13,49 +11,48 @@ use Rattle.swf_document.specs.declared.error.Problem.{Problem}
 use Rattle.swf_frames.specs.Tree.{Tree, Strands, no_strands, strand, Branch, find, numbers, count}
 use Rattle.swf_frames.specs.Paths.{Found, nth}
 use Rattle.swf_meaning.specs.Listen.{is_heard}
-use Rattle.swf_meaning.specs.Local.{is_enabled, is_enabled_inside, is_some_enabled}
-use Rattle.swf_meaning.specs.Node.{Node, Live, Done, Fault, Inside, Hear, Forked, Nodes, no_nodes, branch, Running}
+use Rattle.swf_meaning.specs.Local.{is_enabled}
+use Rattle.swf_meaning.specs.Node.{Node, Fresh, Live, Done, Fault, Inside, At, Hear, Forked, Nodes, no_nodes, branch, Round, Running}
 use Rattle.swf_meaning.specs.Strands.{can_go, can_top}
 use Rattle.swf_meaning.specs.Top.{top_is}
-use Rattle.swf_meaning.specs.Wake.{waits, waits_among}
+use Rattle.swf_meaning.specs.Wake.{waits}
 use Rattle.swf_meaning.specs.declared.heard.Heard.{Heard}
-use Rattle.swf_stack.specs.Layers.{frames_of, top_of}
+use Rattle.swf_meaning.proofs.TopsLemmas.{enabled_among, enabled_among-branch, waits-at}
+use Rattle.swf_stack.specs.Stands.{frames_of, top_of}
 use Rattle.swf_stack.specs.Stack.{plug, top_node, forked, waiting}
+use Rattle.swf_catalog.specs.Rounds.{round_of}
 use Rattle.swf_stack.specs.declared.made.Frame.{Frame}
-use Rattle.swf_stack.specs.declared.made.Layer.{Layer}
+use Rattle.swf_stack.specs.declared.made.Stand.{Stand}
 use Rattle.swf_stack.specs.declared.made.Top.{Top}
 use Rattle.swf_stack.specs.declared.made.Top.TheVariants as tops
-use Rattle.swf_strands.specs.Asked.{is_by, holds_here, holds, holds_among}
-use Rattle.swf_strands.specs.declared.ask.Question.{Question}
-use Rattle.swf_strands.specs.declared.ask.Question.TheVariants.{CanGo, IsDue}
 use Rattle.swf_strands.specs.Strands.{nodes_of, node_of, is_fork, IsGrownAt, IsHeld, most_beside}
-use Rattle.swf_strands.specs.Ways.{own_until, own_until_inside}
+use Rattle.swf_strands.specs.Ways.{own_until}
 use Rattle.swf_strands.proofs.TopLemmas.{top-live, top-fresh}
 use Rattle.swf_strands.proofs.TreeLemmas.{nothing, nth_node, nth_node-of, nth_node-none, fork-node, plain-node, waiting-forked, held-is, IsChild}
 
 -- ---- how many strands stand below another
 
-abbrev below_in : Option (Branch Layer) → ℕ
+abbrev below_in : Option (Branch Stand) → ℕ
 below_in None = 0
 below_in (Some b) = count b.below
 
-abbrev pub below_held : Tree Layer → ℕ → ℕ
+abbrev pub below_held : Tree Stand → ℕ → ℕ
 below_held t n = below_in (find t.strands n)
 
-count-nth : (ss : Strands Layer) (i : ℕ) (c : Found Layer) → nth ss i ≡ Some c → count c.held.below < count ss
+count-nth : (ss : Strands Stand) (i : ℕ) (c : Found Stand) → nth ss i ≡ Some c → count c.held.below < count ss
 count-nth no_strands i c e = absurd (nothing c e)
-count-nth (strand m ls below after) zero c e = let k : count below ≡ count c.held.below = ap (λ (d : Found Layer). count d.held.below) (same_Some _ c e) in omega (arith, k)
+count-nth (strand m ls below after) zero c e = let k : count below ≡ count c.held.below = ap (λ (d : Found Stand). count d.held.below) (same_Some _ c e) in omega (arith, k)
 count-nth (strand m ls below after) (suc i) c e = let k = count-nth after i c e in omega (arith, k)
 
 -- a child has fewer, also where another tree holds it as it was
-pub fewer-by : (t u : Tree Layer) (n i c : ℕ) (b h : Branch Layer) → find t.strands n ≡ Some b → nth b.below i ≡ Some (record { number = c; held = h }) → find u.strands c ≡ Some h → below_held u c < below_held t n
+pub fewer-by : (t u : Tree Stand) (n i c : ℕ) (b h : Branch Stand) → find t.strands n ≡ Some b → nth b.below i ≡ Some (record { number = c; held = h }) → find u.strands c ≡ Some h → below_held u c < below_held t n
 fewer-by t u n i c b h f e g =
     let k = count-nth b.below i (record { number = c; held = h }) e in
     let one : below_held t n ≡ count b.below = ap below_in f in
     let two : below_held u c ≡ count h.below = ap below_in g in
     omega (arith, k, one, two)
 
-pub fewer : (t : Tree Layer) (n i c : ℕ) → IsHeld t n → IsChild t n i c → below_held t c < below_held t n
+pub fewer : (t : Tree Stand) (n i c : ℕ) → IsHeld t n → IsChild t n i c → below_held t c < below_held t n
 fewer t n i c held is =
     let b = held.1.0 in
     let f = held.1.1.0 in
@@ -63,12 +60,12 @@ fewer t n i c held is =
     fewer-by t t n i c b h.0 f h.1.0 h.1.1.0
 
 -- the place of a child
-pub nth-place : (ss : Strands Layer) (i : ℕ) (c : Found Layer) → nth ss i ≡ Some c → i < length (numbers ss)
+pub nth-place : (ss : Strands Stand) (i : ℕ) (c : Found Stand) → nth ss i ≡ Some c → i < length (numbers ss)
 nth-place no_strands i c e = absurd (nothing c e)
 nth-place (strand m ls below after) zero c e = omega arith
 nth-place (strand m ls below after) (suc i) c e = let k = nth-place after i c e in omega (arith, k)
 
-pub child-place : (t : Tree Layer) (n i c : ℕ) → IsHeld t n → IsChild t n i c → i < most_beside
+pub child-place : (t : Tree Stand) (n i c : ℕ) → IsHeld t n → IsChild t n i c → i < most_beside
 child-place t n i c held is =
     let b = held.1.0 in
     let h = is b held.1.1.0 in
@@ -95,10 +92,10 @@ nodes_from-none (branch m ns) zero e = absurd (nothing m (sym e))
 nodes_from-none (branch m ns) (suc i) e = nodes_from-none ns i e
 
 -- the branches of a strand from a child on
-pub from-child : (b : Branch Layer) (i : ℕ) (c : Found Layer) → nth b.below i ≡ Some c → nodes_from i (nodes_of b.below) ≡ branch (node_of c.held) (nodes_from (suc i) (nodes_of b.below))
+pub from-child : (b : Branch Stand) (i : ℕ) (c : Found Stand) → nth b.below i ≡ Some c → nodes_from i (nodes_of b.below) ≡ branch (node_of c.held) (nodes_from (suc i) (nodes_of b.below))
 from-child b i c e = nodes_from-some (nodes_of b.below) i (node_of c.held) (nth_node-of b.below i c e)
 
-pub from-end : (b : Branch Layer) (i : ℕ) → nth b.below i ≡ None → nodes_from i (nodes_of b.below) ≡ no_nodes
+pub from-end : (b : Branch Stand) (i : ℕ) → nth b.below i ≡ None → nodes_from i (nodes_of b.below) ≡ no_nodes
 from-end b i e = nodes_from-none (nodes_of b.below) i (nth_node-none b.below i e)
 
 -- ---- what stands innermost decides for the strand
@@ -147,45 +144,29 @@ goes-hearing now fs t ns r bound hs e = goes-is now fs t (tops.Hearing r bound h
 pub goes-forked : (now : ℕ) (fs : List Frame) (t : Top) (ns : Nodes) (r : Running) → t ≡ tops.Forked r → false ≡ goes now fs t ns
 goes-forked now fs t ns r e = goes-is now fs t (tops.Forked r) ns false e (can_go-live now fs r (Forked ns))
 
--- until when it waits
+-- ---- until when a strand waits
+
+own_until-at : (r : Running) (round : Round) (i : ℕ) (n : Node) → own_until (Live r (At round i n)) ≡ own_until n
+own_until-at r round i (Fresh t v) = refl
+own_until-at r round i (Live q k) = refl
+own_until-at r round i (Done w f) = refl
+own_until-at r round i (Fault p) = refl
+
 pub own_until-plug : (fs : List Frame) (n : Node) → own_until (plug fs n) ≡ own_until n
 own_until-plug [] n = refl
-own_until-plug (f ∷ fs) n = own_until-plug fs n
+own_until-plug (f ∷ fs) n = own_until-at f.running (round_of f.round) f.place (plug fs n) ∙ own_until-plug fs n
 
-pub own_until-waiting : (n : Option ℕ) (m : ℕ) → own_until_inside (waiting n m) ≡ Some m
-own_until-waiting None m = refl
-own_until-waiting (Some n) m = refl
+pub own_until-waiting : (r : Running) (n : Option ℕ) (m : ℕ) → own_until (Live r (waiting n m)) ≡ Some m
+own_until-waiting r None m = refl
+own_until-waiting r (Some n) m = refl
 
-abbrev pub due_by : ℕ → List Frame → Top → Nodes → Bool
-due_by moment fs t ns = is_by moment (own_until (plug fs (forked (top_node t) ns)))
-
-pub due-waiting : (moment : ℕ) (fs : List Frame) (t : Top) (ns : Nodes) (r : Running) (n : Option ℕ) (m : ℕ) → t ≡ tops.Waiting r n m → nat_le m moment ≡ due_by moment fs t ns
-due-waiting moment fs t ns r n m e =
-    sym (ap (λ x. due_by moment fs x ns) e ∙ ap (is_by moment) (own_until-plug fs (forked (top_node (tops.Waiting r n m)) ns)
-    ∙ ap own_until (waiting-forked r n m ns) ∙ own_until-waiting n m))
-
-pub due-not : (moment : ℕ) (fs : List Frame) (t : Top) (ns : Nodes) → ((r : Running) (n : Option ℕ) (m : ℕ) → t ≡ tops.Waiting r n m → ⊥) → false ≡ due_by moment fs t ns
-due-not moment fs t ns isnt = sym (ap (is_by moment) (own_until-plug fs (forked (top_node t) ns) ∙ by t isnt))
-  where
-    by : (t : Top) → ((r : Running) (n : Option ℕ) (m : ℕ) → t ≡ tops.Waiting r n m → ⊥) → own_until (forked (top_node t) ns) ≡ None
-    by (tops.Fresh r v) isnt = refl
-    by (tops.Done w d) isnt = refl
-    by (tops.Fault p) isnt = refl
-    by (tops.Waiting r n m) isnt = absurd (isnt r n m refl)
-    by (tops.Hearing r bound hs) isnt = refl
-    by (tops.Forked r) isnt = refl
-
-pub due-here : (q : Question) (moment : ℕ) (b : Branch Layer) (t : Top) (r : Running) (n : Option ℕ) (m : ℕ) → q ≡ IsDue moment → t ≡ top_of b.frames → t ≡ tops.Waiting r n m → nat_le m moment ≡ holds_here q (node_of b)
-due-here q moment b t r n m e s w =
-    due-waiting moment (frames_of b.frames) (top_of b.frames) (nodes_of b.below) r n m (sym s ∙ w) ∙ sym (ap (λ x. holds_here x (node_of b)) e)
-
-pub never-due : (q : Question) (moment : ℕ) (b : Branch Layer) (t : Top) → q ≡ IsDue moment → t ≡ top_of b.frames → ((r : Running) (n : Option ℕ) (m : ℕ) → t ≡ tops.Waiting r n m → ⊥) → false ≡ holds_here q (node_of b)
-never-due q moment b t e s isnt =
-    due-not moment (frames_of b.frames) (top_of b.frames) (nodes_of b.below) (λ r n m w. isnt r n m (s ∙ w)) ∙ sym (ap (λ x. holds_here x (node_of b)) e)
+pub waits-plug : (fs : List Frame) (n : Node) → waits (plug fs n) ≡ waits n
+waits-plug [] n = refl
+waits-plug (f ∷ fs) n = waits-at f.running (round_of f.round) f.place (plug fs n) ∙ waits-plug fs n
 
 -- ---- a strand and those below it
 
-is_enabled-live : (now : ℕ) (fs : List Frame) (r : Running) (k : Inside) → is_enabled now (plug fs (Live r k)) ≡ is_enabled_inside now r.task k
+is_enabled-live : (now : ℕ) (fs : List Frame) (r : Running) (k : Inside) → is_enabled now (plug fs (Live r k)) ≡ is_enabled now (Live r k)
 is_enabled-live now [] r k = refl
 is_enabled-live now (f ∷ []) r k = refl
 is_enabled-live now (f ∷ g ∷ gs) r k = is_enabled-live now (g ∷ gs) r k
@@ -195,104 +176,65 @@ plain-enabled : (now : ℕ) (fs : List Frame) (t : Top) → is_fork t ≡ false 
 plain-enabled now [] (tops.Fresh r v) e = refl
 plain-enabled now [] (tops.Done w d) e = refl
 plain-enabled now [] (tops.Fault p) e = refl
-plain-enabled now [] (tops.Waiting r None m) e = refl
-plain-enabled now [] (tops.Waiting r (Some n) m) e = refl
-plain-enabled now [] (tops.Hearing r bound hs) e = refl
+plain-enabled now [] (tops.Waiting r None m) e = or-false (nat_le m now)
+plain-enabled now [] (tops.Waiting r (Some n) m) e = or-false (nat_le m now)
+plain-enabled now [] (tops.Hearing r bound hs) e = or-false (is_heard r.task hs)
 plain-enabled now [] (tops.Forked r) e = cc
 plain-enabled now (f ∷ g ∷ gs) t e = plain-enabled now (g ∷ gs) t e
 plain-enabled now (f ∷ []) (tops.Fresh r v) e = refl
 plain-enabled now (f ∷ []) (tops.Done w d) e = refl
 plain-enabled now (f ∷ []) (tops.Fault p) e = refl
-plain-enabled now (f ∷ []) (tops.Waiting r None m) e = refl
-plain-enabled now (f ∷ []) (tops.Waiting r (Some n) m) e = refl
-plain-enabled now (f ∷ []) (tops.Hearing r bound hs) e = refl
+plain-enabled now (f ∷ []) (tops.Waiting r None m) e = or-false (nat_le m now)
+plain-enabled now (f ∷ []) (tops.Waiting r (Some n) m) e = or-false (nat_le m now)
+plain-enabled now (f ∷ []) (tops.Hearing r bound hs) e = or-false (is_heard r.task hs)
 plain-enabled now (f ∷ []) (tops.Forked r) e = cc
 
-pub waits-plug : (fs : List Frame) (n : Node) → waits (plug fs n) ≡ waits n
-waits-plug [] n = refl
-waits-plug (f ∷ fs) n = waits-plug fs n
-
--- what holds no `fork` waits where the strand does
-plain-due : (moment : ℕ) (fs : List Frame) (t : Top) → is_fork t ≡ false → list_any (λ m. nat_le m moment) (waits (plug fs (top_node t))) ≡ is_by moment (own_until (plug fs (top_node t)))
-plain-due moment fs t e = ap (list_any (λ m. nat_le m moment)) (waits-plug fs (top_node t)) ∙ by t e ∙ sym (ap (is_by moment) (own_until-plug fs (top_node t)))
+-- a strand itself can, or one below it
+pub enabled-node : (now : ℕ) (b : Branch Stand) → IsGrownAt b → is_enabled now (node_of b) ≡ (can_go now [] (node_of b) || enabled_among now (nodes_of b.below))
+enabled-node now b g = by (is_fork (top_of b.frames)) refl
   where
-    by : (t : Top) → is_fork t ≡ false → list_any (λ m. nat_le m moment) (waits (top_node t)) ≡ is_by moment (own_until (top_node t))
-    by (tops.Fresh r v) e = refl
-    by (tops.Done w d) e = refl
-    by (tops.Fault p) e = refl
-    by (tops.Waiting r None m) e = or-false (nat_le m moment)
-    by (tops.Waiting r (Some n) m) e = or-false (nat_le m moment)
-    by (tops.Hearing r bound hs) e = refl
-    by (tops.Forked r) e = cc
-
-plain-holds : (q : Question) (fs : List Frame) (t : Top) → is_fork t ≡ false → holds q (plug fs (top_node t)) ≡ holds_here q (plug fs (top_node t))
-plain-holds (CanGo now) fs t e = plain-enabled now fs t e
-plain-holds (IsDue moment) fs t e = plain-due moment fs t e
-
-enabled-among : (now : ℕ) (ns : Nodes) → is_some_enabled now ns ≡ holds_among (CanGo now) ns
-enabled-among now no_nodes = refl
-enabled-among now (branch n ns) = ap (λ b. is_enabled now n || b) (enabled-among now ns)
-
-due-among : (moment : ℕ) (ns : Nodes) → list_any (λ m. nat_le m moment) (waits_among ns) ≡ holds_among (IsDue moment) ns
-due-among moment no_nodes = refl
-due-among moment (branch n ns) =
-    list_any-append (λ m. nat_le m moment) (waits n) (waits_among ns) ∙ ap (λ b. list_any (λ m. nat_le m moment) (waits n) || b) (due-among moment ns)
-
--- of a `fork` its branches
-fork-holds : (q : Question) (fs : List Frame) (r : Running) (ns : Nodes) → holds q (plug fs (Live r (Forked ns))) ≡ holds_among q ns
-fork-holds (CanGo now) fs r ns = is_enabled-live now fs r (Forked ns) ∙ enabled-among now ns
-fork-holds (IsDue moment) fs r ns = ap (list_any (λ m. nat_le m moment)) (waits-plug fs (Live r (Forked ns))) ∙ due-among moment ns
-
-fork-here : (q : Question) (fs : List Frame) (r : Running) (ns : Nodes) → holds_here q (plug fs (Live r (Forked ns))) ≡ false
-fork-here (CanGo now) fs r ns = can_go-live now fs r (Forked ns)
-fork-here (IsDue moment) fs r ns = ap (is_by moment) (own_until-plug fs (Live r (Forked ns)))
-
--- of a strand itself, or of one below it
-pub holds-node : (q : Question) (b : Branch Layer) → IsGrownAt b → holds q (node_of b) ≡ (holds_here q (node_of b) || holds_among q (nodes_of b.below))
-holds-node q b g = by (is_fork (top_of b.frames)) refl
-  where
-    by : (x : Bool) → is_fork (top_of b.frames) ≡ x → holds q (node_of b) ≡ (holds_here q (node_of b) || holds_among q (nodes_of b.below))
+    by : (x : Bool) → is_fork (top_of b.frames) ≡ x → is_enabled now (node_of b) ≡ (can_go now [] (node_of b) || enabled_among now (nodes_of b.below))
     by true e =
         let f = fork-node b.frames (nodes_of b.below) e in
         let is = f.1.1 in
-        ap (holds q) is ∙ fork-holds q (frames_of b.frames) f.0 (nodes_of b.below)
-        ∙ sym (ap (λ x. x || holds_among q (nodes_of b.below)) (ap (holds_here q) is ∙ fork-here q (frames_of b.frames) f.0 (nodes_of b.below)))
+        ap (is_enabled now) is ∙ is_enabled-live now (frames_of b.frames) f.0 (Forked (nodes_of b.below))
+        ∙ sym (ap (λ x. x || enabled_among now (nodes_of b.below)) (ap (can_go now []) is ∙ can_go-live now (frames_of b.frames) f.0 (Forked (nodes_of b.below))))
     by false e =
         let is = plain-node b.frames (nodes_of b.below) e in
-        let none : holds_among q (nodes_of b.below) ≡ false = ap (λ ss. holds_among q (nodes_of ss)) (g.0.1 e) in
-        ap (holds q) is ∙ plain-holds q (frames_of b.frames) (top_of b.frames) e ∙ sym (ap (holds_here q) is)
-        ∙ sym (ap (λ x. holds_here q (node_of b) || x) none ∙ or-false (holds_here q (node_of b)))
+        let none : enabled_among now (nodes_of b.below) ≡ false = ap (λ ss. enabled_among now (nodes_of ss)) (g.0.1 e) in
+        ap (is_enabled now) is ∙ plain-enabled now (frames_of b.frames) (top_of b.frames) e ∙ sym (ap (can_go now []) is)
+        ∙ sym (ap (λ x. can_go now [] (node_of b) || x) none ∙ or-false (can_go now [] (node_of b)))
 
 -- ---- one branch after another
 
--- those before this one do not hold
-abbrev pub IsLeft : Question → Tree Layer → ℕ → ℕ → Type 0
-IsLeft q t n i = (b : Branch Layer) → find t.strands n ≡ Some b → holds q (node_of b) ≡ holds_among q (nodes_from i (nodes_of b.below))
+-- those before this one can take no step
+abbrev pub IsLeft : ℕ → Tree Stand → ℕ → ℕ → Type 0
+IsLeft now t n i = (b : Branch Stand) → find t.strands n ≡ Some b → is_enabled now (node_of b) ≡ enabled_among now (nodes_from i (nodes_of b.below))
 
-pub left-all : (q : Question) (t : Tree Layer) (n : ℕ) (here : Bool) → IsHeld t n → ((b : Branch Layer) → find t.strands n ≡ Some b → here ≡ holds_here q (node_of b)) → here ≡ false → IsLeft q t n 0
-left-all q t n here held is isnt b f = holds-node q b (held-is t n b held f) ∙ ap (λ x. x || holds_among q (nodes_of b.below)) (sym (is b f) ∙ isnt)
+pub left-all : (now : ℕ) (t : Tree Stand) (n : ℕ) (here : Bool) → IsHeld t n → ((b : Branch Stand) → find t.strands n ≡ Some b → here ≡ can_go now [] (node_of b)) → here ≡ false → IsLeft now t n 0
+left-all now t n here held is isnt b f = enabled-node now b (held-is t n b held f) ∙ ap (λ x. x || enabled_among now (nodes_of b.below)) (sym (is b f) ∙ isnt)
 
-pub left-here : (q : Question) (t : Tree Layer) (n : ℕ) (here : Bool) → IsHeld t n → ((b : Branch Layer) → find t.strands n ≡ Some b → here ≡ holds_here q (node_of b)) → here ≡ true → (b : Branch Layer) → find t.strands n ≡ Some b → true ≡ holds q (node_of b)
-left-here q t n here held is so b f = sym (holds-node q b (held-is t n b held f) ∙ ap (λ x. x || holds_among q (nodes_of b.below)) (sym (is b f) ∙ so))
+pub left-here : (now : ℕ) (t : Tree Stand) (n : ℕ) (here : Bool) → IsHeld t n → ((b : Branch Stand) → find t.strands n ≡ Some b → here ≡ can_go now [] (node_of b)) → here ≡ true → (b : Branch Stand) → find t.strands n ≡ Some b → true ≡ is_enabled now (node_of b)
+left-here now t n here held is so b f = sym (enabled-node now b (held-is t n b held f) ∙ ap (λ x. x || enabled_among now (nodes_of b.below)) (sym (is b f) ∙ so))
 
--- of a child whether it holds is known
-abbrev pub IsOf : Question → Tree Layer → ℕ → Bool → Type 0
-IsOf q t c x = (h : Branch Layer) → find t.strands c ≡ Some h → x ≡ holds q (node_of h)
+-- of a child it is known
+abbrev pub IsOf : ℕ → Tree Stand → ℕ → Bool → Type 0
+IsOf now t c x = (h : Branch Stand) → find t.strands c ≡ Some h → x ≡ is_enabled now (node_of h)
 
-left-child : (q : Question) (t : Tree Layer) (n i c : ℕ) (x : Bool) → IsChild t n i c → IsLeft q t n i → IsOf q t c x → (b : Branch Layer) → find t.strands n ≡ Some b → holds q (node_of b) ≡ (x || holds_among q (nodes_from (suc i) (nodes_of b.below)))
-left-child q t n i c x child left of b f =
+left-child : (now : ℕ) (t : Tree Stand) (n i c : ℕ) (x : Bool) → IsChild t n i c → IsLeft now t n i → IsOf now t c x → (b : Branch Stand) → find t.strands n ≡ Some b → is_enabled now (node_of b) ≡ (x || enabled_among now (nodes_from (suc i) (nodes_of b.below)))
+left-child now t n i c x child left of b f =
     let h = child b f in
-    left b f ∙ ap (holds_among q) (from-child b i (record { number = c; held = h.0 }) h.1.0)
-    ∙ ap (λ y. y || holds_among q (nodes_from (suc i) (nodes_of b.below))) (sym (of h.0 h.1.1.0))
+    left b f ∙ ap (enabled_among now) (from-child b i (record { number = c; held = h.0 }) h.1.0) ∙ enabled_among-branch now (node_of h.0) (nodes_from (suc i) (nodes_of b.below))
+    ∙ ap (λ y. y || enabled_among now (nodes_from (suc i) (nodes_of b.below))) (sym (of h.0 h.1.1.0))
 
-pub left-more : (q : Question) (t : Tree Layer) (n i c : ℕ) (x : Bool) → IsChild t n i c → IsLeft q t n i → IsOf q t c x → x ≡ false → IsLeft q t n (i + 1)
-left-more q t n i c x child left of isnt b f =
+pub left-more : (now : ℕ) (t : Tree Stand) (n i c : ℕ) (x : Bool) → IsChild t n i c → IsLeft now t n i → IsOf now t c x → x ≡ false → IsLeft now t n (i + 1)
+left-more now t n i c x child left of isnt b f =
     let same : suc i ≡ i + 1 = omega arith in
-    left-child q t n i c x child left of b f ∙ ap (λ y. y || holds_among q (nodes_from (suc i) (nodes_of b.below))) isnt ∙ ap (λ j. holds_among q (nodes_from j (nodes_of b.below))) same
+    left-child now t n i c x child left of b f ∙ ap (λ y. y || enabled_among now (nodes_from (suc i) (nodes_of b.below))) isnt ∙ ap (λ j. enabled_among now (nodes_from j (nodes_of b.below))) same
 
-pub left-found : (q : Question) (t : Tree Layer) (n i c : ℕ) (x : Bool) → IsChild t n i c → IsLeft q t n i → IsOf q t c x → x ≡ true → (b : Branch Layer) → find t.strands n ≡ Some b → true ≡ holds q (node_of b)
-left-found q t n i c x child left of so b f =
-    sym (left-child q t n i c x child left of b f ∙ ap (λ y. y || holds_among q (nodes_from (suc i) (nodes_of b.below))) so)
+pub left-found : (now : ℕ) (t : Tree Stand) (n i c : ℕ) (x : Bool) → IsChild t n i c → IsLeft now t n i → IsOf now t c x → x ≡ true → (b : Branch Stand) → find t.strands n ≡ Some b → true ≡ is_enabled now (node_of b)
+left-found now t n i c x child left of so b f =
+    sym (left-child now t n i c x child left of b f ∙ ap (λ y. y || enabled_among now (nodes_from (suc i) (nodes_of b.below))) so)
 
-pub left-none : (q : Question) (t : Tree Layer) (n i : ℕ) → ((b : Branch Layer) → find t.strands n ≡ Some b → nth b.below i ≡ None) → IsLeft q t n i → (b : Branch Layer) → find t.strands n ≡ Some b → false ≡ holds q (node_of b)
-left-none q t n i none left b f = sym (left b f ∙ ap (holds_among q) (from-end b i (none b f)))
+pub left-none : (now : ℕ) (t : Tree Stand) (n i : ℕ) → ((b : Branch Stand) → find t.strands n ≡ Some b → nth b.below i ≡ None) → IsLeft now t n i → (b : Branch Stand) → find t.strands n ≡ Some b → false ≡ is_enabled now (node_of b)
+left-none now t n i none left b f = sym (left b f ∙ ap (enabled_among now) (from-end b i (none b f)))

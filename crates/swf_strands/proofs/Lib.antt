@@ -6,3 +6,4 @@ pub mod NameLemmas
 pub mod OrderLemmas
 pub mod ForkLemmas
 pub mod AlarmLemmas
+pub mod StrandSends

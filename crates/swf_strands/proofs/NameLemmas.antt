@@ -4,40 +4,42 @@ use Rattle.std.proofs.Math.Seq.{take-append_seam}
 use Rattle.swf_frames.specs.Tree.{Tree, Branch, find}
 use Rattle.swf_frames.specs.Paths.{nth}
 use Rattle.swf_meaning.specs.Node.{Node, Live, Forked}
-use Rattle.swf_meaning.specs.Strands.{strands, strands_below, strands_from}
-use Rattle.swf_stack.specs.Layers.{frames_of, top_of}
+use Rattle.swf_meaning.specs.Strands.{strands}
+use Rattle.swf_meaning.proofs.TopsLemmas.{strands_from, strands_from-branch, strands-at}
+use Rattle.swf_stack.specs.Stands.{frames_of, top_of}
 use Rattle.swf_stack.specs.Stack.{plug, top_node}
+use Rattle.swf_catalog.specs.Rounds.{round_of}
 use Rattle.swf_stack.specs.declared.made.Frame.{Frame}
-use Rattle.swf_stack.specs.declared.made.Layer.{Layer}
+use Rattle.swf_stack.specs.declared.made.Stand.{Stand}
 use Rattle.swf_stack.specs.declared.made.Top.{Top}
 use Rattle.swf_stack.specs.declared.made.Top.TheVariants as tops
 use Rattle.swf_strands.specs.Strands.{nodes_of, node_of, is_fork, IsGrownAt, IsHeld}
 use Rattle.swf_strands.proofs.AskLemmas.{nodes_from, from-child, from-end}
 use Rattle.swf_strands.proofs.TreeLemmas.{fork-node, plain-node, held-is, IsChild}
 
-below-plug : (fs : List Frame) (n : Node) → strands_below (plug fs n) ≡ strands_below n
-below-plug [] n = refl
-below-plug (f ∷ fs) n = below-plug fs n
+strands-plug : (fs : List Frame) (n : Node) → strands (plug fs n) ≡ strands n
+strands-plug [] n = refl
+strands-plug (f ∷ fs) n = strands-at f.running (round_of f.round) f.place (plug fs n) ∙ strands-plug fs n
 
-plain-below : (t : Top) → is_fork t ≡ false → strands_below (top_node t) ≡ []
-plain-below (tops.Fresh r v) e = refl
-plain-below (tops.Done w d) e = refl
-plain-below (tops.Fault p) e = refl
-plain-below (tops.Waiting r None m) e = refl
-plain-below (tops.Waiting r (Some n) m) e = refl
-plain-below (tops.Hearing r bound hs) e = refl
-plain-below (tops.Forked r) e = cc
+plain-strands : (t : Top) → is_fork t ≡ false → strands (top_node t) ≡ [] ∷ []
+plain-strands (tops.Fresh r v) e = refl
+plain-strands (tops.Done w f) e = refl
+plain-strands (tops.Fault p) e = refl
+plain-strands (tops.Waiting r None m) e = refl
+plain-strands (tops.Waiting r (Some n) m) e = refl
+plain-strands (tops.Hearing r bound hs) e = refl
+plain-strands (tops.Forked r) e = cc
 
-pub strands-node : (b : Branch Layer) → IsGrownAt b → strands (node_of b) ≡ [] ∷ strands_from 0 (nodes_of b.below)
+pub strands-node : (b : Branch Stand) → IsGrownAt b → strands (node_of b) ≡ [] ∷ strands_from 0 (nodes_of b.below)
 strands-node b g = by (is_fork (top_of b.frames)) refl
   where
     by : (x : Bool) → is_fork (top_of b.frames) ≡ x → strands (node_of b) ≡ [] ∷ strands_from 0 (nodes_of b.below)
     by true e =
         let f = fork-node b.frames (nodes_of b.below) e in
-        ap (λ n. [] ∷ strands_below n) f.1.1 ∙ ap (λ ss. [] ∷ ss) (below-plug (frames_of b.frames) (Live f.0 (Forked (nodes_of b.below))))
+        ap strands f.1.1 ∙ strands-plug (frames_of b.frames) (Live f.0 (Forked (nodes_of b.below)))
     by false e =
-        ap (λ n. [] ∷ strands_below n) (plain-node b.frames (nodes_of b.below) e)
-        ∙ ap (λ ss. [] ∷ ss) (below-plug (frames_of b.frames) (top_node (top_of b.frames)) ∙ plain-below (top_of b.frames) e)
+        ap strands (plain-node b.frames (nodes_of b.below) e)
+        ∙ strands-plug (frames_of b.frames) (top_node (top_of b.frames)) ∙ plain-strands (top_of b.frames) e
         ∙ sym (ap (λ ss. [] ∷ strands_from 0 (nodes_of ss)) (g.0.1 e))
 
 -- ---- a list that grows by one branch after another
@@ -55,10 +57,10 @@ behind-one path i [] = refl
 behind-one path i (x ∷ xs) = (λ j. append_assoc path (i ∷ []) x j ∷ behind-one path i xs j)
 
 -- the names in a list, with those from a branch on, are all
-abbrev pub IsListed : Tree Layer → ℕ → List ℕ → List (List ℕ) → ℕ → List (List ℕ) → Type 0
-IsListed t n path old i new = (b : Branch Layer) → find t.strands n ≡ Some b → new ++ behind path (strands_from i (nodes_from i (nodes_of b.below))) ≡ old ++ behind path (strands (node_of b))
+abbrev pub IsListed : Tree Stand → ℕ → List ℕ → List (List ℕ) → ℕ → List (List ℕ) → Type 0
+IsListed t n path old i new = (b : Branch Stand) → find t.strands n ≡ Some b → new ++ behind path (strands_from i (nodes_from i (nodes_of b.below))) ≡ old ++ behind path (strands (node_of b))
 
-pub listed-first : (t : Tree Layer) (n : ℕ) (name given path : List ℕ) (old new : List (List ℕ)) → IsHeld t n → name ≡ given → given ≡ path → new ≡ old ++ name ∷ [] → IsListed t n path old 0 new
+pub listed-first : (t : Tree Stand) (n : ℕ) (name given path : List ℕ) (old new : List (List ℕ)) → IsHeld t n → name ≡ given → given ≡ path → new ≡ old ++ name ∷ [] → IsListed t n path old 0 new
 listed-first t n name given path old new held same is e b f =
     let rest = behind path (strands_from 0 (nodes_of b.below)) in
     let one : name ≡ path = same ∙ is in
@@ -66,22 +68,23 @@ listed-first t n name given path old new held same is e b f =
     ∙ ap (λ p. old ++ p ∷ rest) (sym (append-nil path))
     ∙ sym (ap (λ ss. old ++ behind path ss) (strands-node b (held-is t n b held f)))
 
-pub listed-more : (t : Tree Layer) (n i c : ℕ) (path inner : List ℕ) (old new more : List (List ℕ)) → IsChild t n i c → inner ≡ path ++ i ∷ [] → IsListed t n path old i new →
-    ((h : Branch Layer) → find t.strands c ≡ Some h → more ≡ new ++ behind inner (strands (node_of h))) → IsListed t n path old (i + 1) more
+pub listed-more : (t : Tree Stand) (n i c : ℕ) (path inner : List ℕ) (old new more : List (List ℕ)) → IsChild t n i c → inner ≡ path ++ i ∷ [] → IsListed t n path old i new →
+    ((h : Branch Stand) → find t.strands c ≡ Some h → more ≡ new ++ behind inner (strands (node_of h))) → IsListed t n path old (i + 1) more
 listed-more t n i c path inner old new more child way is of b f =
     let h = child b f in
     let same : suc i ≡ i + 1 = omega arith in
     let rest = strands_from (i + 1) (nodes_from (suc i) (nodes_of b.below)) in
     let names = map (λ bs. i ∷ bs) (strands (node_of h.0)) in
-    let from : strands_from i (nodes_from i (nodes_of b.below)) ≡ names ++ rest = ap (strands_from i) (from-child b i (record { number = c; held = h.0 }) h.1.0) in
+    let from : strands_from i (nodes_from i (nodes_of b.below)) ≡ names ++ rest =
+    ap (strands_from i) (from-child b i (record { number = c; held = h.0 }) h.1.0) ∙ strands_from-branch i (node_of h.0) (nodes_from (suc i) (nodes_of b.below)) in
     ap (λ j. more ++ behind path (strands_from (i + 1) (nodes_from j (nodes_of b.below)))) (sym same)
     ∙ ap (λ xs. xs ++ behind path rest) (of h.0 h.1.1.0 ∙ ap (λ p. new ++ behind p (strands (node_of h.0))) way ∙ ap (λ xs. new ++ xs) (behind-one path i (strands (node_of h.0))))
     ∙ append_assoc new (behind path names) (behind path rest)
     ∙ ap (λ xs. new ++ xs) (sym (behind-append path names rest) ∙ ap (behind path) (sym from))
     ∙ is b f
 
-pub listed-all : (t : Tree Layer) (n i : ℕ) (path : List ℕ) (old new : List (List ℕ)) → ((b : Branch Layer) → find t.strands n ≡ Some b → nth b.below i ≡ None) → IsListed t n path old i new →
-    (b : Branch Layer) → find t.strands n ≡ Some b → new ≡ old ++ behind path (strands (node_of b))
+pub listed-all : (t : Tree Stand) (n i : ℕ) (path : List ℕ) (old new : List (List ℕ)) → ((b : Branch Stand) → find t.strands n ≡ Some b → nth b.below i ≡ None) → IsListed t n path old i new →
+    (b : Branch Stand) → find t.strands n ≡ Some b → new ≡ old ++ behind path (strands (node_of b))
 listed-all t n i path old new none is b f =
     sym (append-nil new) ∙ ap (λ ns. new ++ behind path (strands_from i ns)) (sym (from-end b i (none b f))) ∙ is b f
 

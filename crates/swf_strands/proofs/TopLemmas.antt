@@ -7,11 +7,12 @@ use Rattle.swf_frames.specs.Tree.{Branch}
 use Rattle.swf_frames.specs.Paths.{Found, nth}
 use Rattle.swf_meaning.specs.Node.{Node, Fresh, Live, Done, Fault, Inside, At, Later, Sleep, Hear, Forked, Nodes, no_nodes, branch, Running}
 use Rattle.swf_meaning.specs.Top.{Top, top_at, top_inside, top_branch, top_is}
+use Rattle.swf_meaning.specs.Wake.{until_top}
 use Rattle.swf_stack.specs.Stack.{plug}
 use Rattle.swf_stack.specs.declared.made.Frame.{Frame}
-use Rattle.swf_stack.specs.declared.made.Layer.{Layer}
+use Rattle.swf_stack.specs.declared.made.Stand.{Stand}
 use Rattle.swf_strands.specs.Strands.{node_of, IsGrownAt}
-use Rattle.swf_strands.specs.Ways.{at, at_inside, at_among}
+use Rattle.swf_strands.specs.Ways.{at, at_inside, at_among, until_at, own_until}
 use Rattle.swf_strands.proofs.TreeLemmas.{at-child, at-no-child}
 
 -- tasks that run around what has not ended leave its top
@@ -51,10 +52,10 @@ mutual
   top-among (suc b) bs (branch n ns) = top-among b bs ns
 
 -- of a branch
-pub top-child : (b : Branch Layer) (i : ℕ) (is : List ℕ) (c : Found Layer) → IsGrownAt b → nth b.below i ≡ Some c → top_at (i ∷ is) (node_of b) ≡ top_at is (node_of c.held)
+pub top-child : (b : Branch Stand) (i : ℕ) (is : List ℕ) (c : Found Stand) → IsGrownAt b → nth b.below i ≡ Some c → top_at (i ∷ is) (node_of b) ≡ top_at is (node_of c.held)
 top-child b i is c g e = top-at (i ∷ is) (node_of b) ∙ ap (option_and_then (top_at [])) (at-child b i is c g e) ∙ sym (top-at is (node_of c.held))
 
-pub top-no-child : (b : Branch Layer) (i : ℕ) (is : List ℕ) → nth b.below i ≡ None → top_at (i ∷ is) (node_of b) ≡ None
+pub top-no-child : (b : Branch Stand) (i : ℕ) (is : List ℕ) → nth b.below i ≡ None → top_at (i ∷ is) (node_of b) ≡ None
 top-no-child b i is e = top-at (i ∷ is) (node_of b) ∙ ap (option_and_then (top_at [])) (at-no-child b i is e)
 
 -- what holds of it
@@ -66,5 +67,13 @@ pub top_is-at : (p : Top → Bool) (bs : List ℕ) (n : Node) → top_is p (top_
 top_is-at p bs n = ap (top_is p) (top-at bs n) ∙ by (at bs n)
   where
     by : (o : Option Node) → top_is p (option_and_then (top_at []) o) ≡ top_there p o
+    by None = refl
+    by (Some m) = refl
+
+-- the moment that a strand waits for is that of what stands on it
+pub until-at : (bs : List ℕ) (n : Node) → until_at bs n ≡ option_and_then own_until (at bs n)
+until-at bs n = ap (option_and_then until_top) (top-at bs n) ∙ by (at bs n)
+  where
+    by : (o : Option Node) → option_and_then until_top (option_and_then (top_at []) o) ≡ option_and_then own_until o
     by None = refl
     by (Some m) = refl

@@ -3,8 +3,6 @@ use Rattle.std.specs.List.{reduce}
 use Rattle.std.specs.Prelude.{ℕ, List, Option, Some, None, min}
 use Rattle.swf_meaning.specs.Node.{Node}
 use Rattle.swf_meaning.specs.Wake.{waits}
-use Rattle.swf_stack.specs.Layers.{top_of}
-use Rattle.swf_stack.specs.declared.made.Layer.{Layer}
 use Rattle.swf_stack.specs.declared.made.Top.{Top}
 use Rattle.swf_stack.specs.declared.made.Top.TheVariants as tops
 
@@ -18,10 +16,7 @@ earlier None o = o
 earlier (Some m) None = Some m
 earlier (Some m) (Some n) = Some (min m n)
 
--- the moment that a strand waits for that holds these
+-- the moment that a strand waits for on which this stands innermost
 abbrev pub until_in_top : Top → Option ℕ
 until_in_top (tops.Waiting r n m) = Some m
 until_in_top t = None
-
-abbrev pub until_in : List Layer → Option ℕ
-until_in ls = until_in_top (top_of ls)

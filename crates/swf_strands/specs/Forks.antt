@@ -6,28 +6,27 @@ use Rattle.swf_frames.specs.Paths.{edit}
 use Rattle.swf_frames.specs.Tree.{Tree, no_strands}
 use Rattle.swf_meaning.specs.Fork.{branches_of}
 use Rattle.swf_meaning.specs.Node.{Node, no_nodes}
-use Rattle.swf_stack.specs.declared.made.Layer.{Layer}
-use Rattle.swf_stack.specs.declared.made.Layer.TheVariants as layers
+use Rattle.swf_stack.specs.declared.made.Stand.{Stand}
 use Rattle.swf_stack.specs.declared.made.Top.{Top}
 use Rattle.swf_stack.specs.declared.made.Top.TheVariants as tops
 use Rattle.swf_strands.specs.Strands.{strand_node}
 
 -- with none below it
-abbrev pub layers_node : List Layer → Node
-layers_node ls = strand_node ls no_nodes
+abbrev pub stand_node : Stand → Node
+stand_node s = strand_node (s ∷ []) no_nodes
 
 -- one branch for each task, none of which has begun
-abbrev pub fresh_layers : Tasks → Value → List Layer
-fresh_layers no_tasks u = []
-fresh_layers (named k t ts) u = layers.Top (tops.Fresh t u) ∷ fresh_layers ts u
+abbrev pub fresh_stands : Tasks → Value → List Stand
+fresh_stands no_tasks u = []
+fresh_stands (named k t ts) u = (record { around = []; top = tops.Fresh t u }) ∷ fresh_stands ts u
 
-abbrev pub branches_in : Top → Option (List Layer)
+abbrev pub branches_in : Top → Option (List Stand)
 branches_in (tops.Fresh t v) = None
 branches_in (tops.Done w f) = None
 branches_in (tops.Fault p) = None
 branches_in (tops.Waiting r n m) = None
 branches_in (tops.Hearing r bound hs) = None
-branches_in (tops.Forked r) = Some (fresh_layers (branches_of r.task) r.input)
+branches_in (tops.Forked r) = Some (fresh_stands (branches_of r.task) r.input)
 
-abbrev pub IsPutAnew : ℕ → List Layer → Tree Layer → Tree Layer → Type 0
-IsPutAnew n ls old new = new.strands ≡ edit (λ b. record { frames = ls; below = no_strands }) old.strands n
+abbrev pub IsPutAnew : ℕ → Stand → Tree Stand → Tree Stand → Type 0
+IsPutAnew n s old new = new.strands ≡ edit (λ b. record { frames = s ∷ []; below = no_strands }) old.strands n

@@ -1,8 +1,9 @@
 -- The strand that branch numbers lead to in the tree of an instance.
-use Rattle.std.specs.Prelude.{ℕ, zero, suc, List, [], ◌∷◌, Bool, false, not, Option, Some, None, is_some, option_and_then}
-use Rattle.swf_document.specs.Task.{Task}
-use Rattle.swf_meaning.specs.Listen.{is_heard}
+use Rattle.std.specs.Prelude.{ℕ, zero, suc, List, [], ◌∷◌, Bool, Option, Some, None, is_some, option_and_then}
 use Rattle.swf_meaning.specs.Node.{Node, Fresh, Live, Done, Fault, Inside, At, Later, Sleep, Hear, Forked, Nodes, no_nodes, branch}
+use Rattle.swf_meaning.specs.Pending.{is_listening}
+use Rattle.swf_meaning.specs.Top.{top_at, top_is}
+use Rattle.swf_meaning.specs.Wake.{until_top}
 
 -- what stands on the strand
 abbrev mutual
@@ -49,42 +50,14 @@ abbrev mutual
   replaced_among zero bs m (branch n ns) = branch (replaced bs m n) ns
   replaced_among (suc b) bs m (branch n ns) = branch n (replaced_among b bs m ns)
 
--- the moment that the outermost strand of a node waits for
-abbrev mutual
-  pub own_until : Node → Option ℕ
-  own_until (Fresh t v) = None
-  own_until (Live r k) = own_until_inside k
-  own_until (Done w f) = None
-  own_until (Fault p) = None
-
-  pub own_until_inside : Inside → Option ℕ
-  own_until_inside (At round i n) = own_until n
-  own_until_inside (Later n m) = Some m
-  own_until_inside (Sleep m) = Some m
-  own_until_inside (Hear bound hs) = None
-  own_until_inside (Forked ns) = None
-
--- whether it listens, and has not heard all
-abbrev mutual
-  pub own_listens : Node → Bool
-  own_listens (Fresh t v) = false
-  own_listens (Live r k) = own_listens_inside r.task k
-  own_listens (Done w f) = false
-  own_listens (Fault p) = false
-
-  pub own_listens_inside : Task → Inside → Bool
-  own_listens_inside t (At round i n) = own_listens n
-  own_listens_inside t (Later n m) = false
-  own_listens_inside t (Sleep m) = false
-  own_listens_inside t (Hear bound hs) = not (is_heard t hs)
-  own_listens_inside t (Forked ns) = false
-
+-- the moment that the strand waits for
 abbrev pub until_at : List ℕ → Node → Option ℕ
-until_at bs n = option_and_then own_until (at bs n)
+until_at bs n = option_and_then until_top (top_at bs n)
 
-abbrev pub listens_here : Option Node → Bool
-listens_here None = false
-listens_here (Some n) = own_listens n
+-- that of the outermost one
+abbrev pub own_until : Node → Option ℕ
+own_until n = until_at [] n
 
+-- the strand listens, and has not heard all
 abbrev pub listens_at : List ℕ → Node → Bool
-listens_at bs n = listens_here (at bs n)
+listens_at bs n = top_is is_listening (top_at bs n)

@@ -1,54 +1,46 @@
-// Which strand has the next turn: they take turns in the order of their names.
-ghost use Rattle.std.specs.Prelude.{◌≡◌, OnOk, IfOk, Some, true, false};
+// Which strand takes the next step: they take turns in the order of their names.
+ghost use Rattle.std.specs.Prelude.{◌≡◌, IfOk, Some};
 ghost use Rattle.swf_frames.specs.Tree.{Branch, find};
-ghost use Rattle.swf_meaning.specs.Local.{is_enabled};
-ghost use Rattle.swf_stack.specs.declared.made.Layer.{Layer as TheLayer};
-ghost use Rattle.swf_strands.specs.Order.{LeadsOn, Leads};
+ghost use Rattle.swf_stack.specs.declared.made.Stand.{Stand as TheStand};
+ghost use Rattle.swf_strands.specs.Order.{LeadsFrom, LeadsIn, LeadsOn};
 ghost use Rattle.swf_strands.specs.Strands.{IsHeld, node_of};
 
-use crate::ask::{Question, holds_here, holds_in};
-use crate::stack::child_of;
+use crate::ask::enabled_here;
+use crate::stand::child_of;
 use std::alloc::{AllocError, Global};
 use swf_duration::Moment;
 use swf_frames::{Forest, StrandId};
-use swf_stack::Layer;
+use swf_stack::Stand;
 
-/// Leads to the first strand, of that one and those below it, that can take a step.
+/// Leads to the first strand, of that one and those below it, that can take a step. Answers whether there is one. It asks each strand
+/// once.
+#[cycle(lead)]
 pub fn lead_in(
-    forest: &Forest<Layer>,
+    forest: &Forest<Stand>,
     strand: StrandId,
     now: Moment,
     path: &mut Vec<u16>,
-) -> Result<(), AllocError>
+) -> Result<bool, AllocError>
     requires held { IsHeld forest.now strand }
-    requires enabled { (b : Branch TheLayer) → find forest.now.strands strand ≡ Some b → is_enabled now (node_of b) ≡ true }
-    ensures { OnOk result ((b : Branch TheLayer) → find forest.now.strands strand ≡ Some b → Leads now (node_of b) path.old.items path.new.items) }
+    ensures { IfOk result (λ there. (b : Branch TheStand) → find forest.now.strands strand ≡ Some b → LeadsIn now (node_of b) path.old.items path.new.items there) }
 {
-    if holds_here(forest, strand, &Question::CanGo(now)) {
-        return Ok(());
+    if enabled_here(forest, strand, now) {
+        return Ok(true);
     }
-    let mut number = 0;
-    while let Some(child) = child_of(forest, strand, number) {
-        if holds_in(forest, child, &Question::CanGo(now)) {
-            path.push(number as u16)?;
-            return lead_in(forest, child, now, path);
-        }
-        number += 1;
-    }
-    unreachable!()
+    lead_from(forest, strand, 0, now, path)
 }
 
 /// Leads to the first strand below that one, behind the one that branch numbers lead to, that can take a step. Answers whether there
 /// is one.
 pub fn lead_on(
-    forest: &Forest<Layer>,
+    forest: &Forest<Stand>,
     strand: StrandId,
     behind: &[u16],
     now: Moment,
     path: &mut Vec<u16>,
 ) -> Result<bool, AllocError>
     requires held { IsHeld forest.now strand }
-    ensures { IfOk result (λ there. (b : Branch TheLayer) → find forest.now.strands strand ≡ Some b → LeadsOn now (node_of b) path.old.items path.new.items there) }
+    ensures { IfOk result (λ there. (b : Branch TheStand) → find forest.now.strands strand ≡ Some b → LeadsOn now (node_of b) path.old.items path.new.items there) }
 {
     let mut number = 0;
     if let Some((branch, inner)) = behind.split_first() {
@@ -65,23 +57,24 @@ pub fn lead_on(
 }
 
 // Leads to the first strand that can take a step in the branches of another from a number on.
+#[cycle(lead)]
 fn lead_from(
-    forest: &Forest<Layer>,
+    forest: &Forest<Stand>,
     strand: StrandId,
     first: usize,
     now: Moment,
     path: &mut Vec<u16>,
 ) -> Result<bool, AllocError>
     requires held { IsHeld forest.now strand }
-    ensures { IfOk result (λ there. (b : Branch TheLayer) → find forest.now.strands strand ≡ Some b → LeadsOn now (node_of b) path.old.items path.new.items there) }
+    ensures { IfOk result (λ there. (b : Branch TheStand) → find forest.now.strands strand ≡ Some b → LeadsFrom now first b path.old.items path.new.items there) }
 {
     let mut number = first;
     while let Some(child) = child_of(forest, strand, number) {
-        if holds_in(forest, child, &Question::CanGo(now)) {
-            path.push(number as u16)?;
-            lead_in(forest, child, now, path)?;
+        path.push(number as u16)?;
+        if lead_in(forest, child, now, path)? {
             return Ok(true);
         }
+        path.pop();
         number += 1;
     }
     Ok(false)

@@ -1,8 +1,8 @@
 pub mod WayLemmas
-pub mod HearLemmas
-pub mod OfferLemmas
 pub mod StepLemmas
 pub mod ChangeLemmas
 pub mod OutputLemmas
 pub mod PrepareLemmas
 pub mod AdvanceLemmas
+pub mod MachineSends
+pub mod ListenLemmas

@@ -1,5 +1,5 @@
 -- The outputs of the branches of a `fork`, one after another.
-use Rattle.std.proofs.Common.{◌≡◌, ◌∙◌, refl, sym, ap, subst, ℕ, zero, suc, ◌<◌, Bool, true, false, List, [], ◌∷◌, ◌++◌, length, Option, Some, None, append_assoc, append-nil, arith}
+use Rattle.std.proofs.Common.{◌≡◌, ◌∙◌, refl, sym, ap, subst, ℕ, zero, suc, ◌<◌, List, [], ◌∷◌, ◌++◌, length, Option, Some, None, append_assoc, append-nil, arith}
 use Rattle.std.specs.Prelude.{option_map}
 use Rattle.std.proofs.lemmas.Option.{same_Some}
 use Rattle.swf_value.specs.Value.{Value}
@@ -7,27 +7,27 @@ use Rattle.swf_frames.specs.Tree.{Branch, numbers}
 use Rattle.swf_frames.specs.Paths.{Found, nth}
 use Rattle.swf_meaning.specs.Fork.{outputs, put}
 use Rattle.swf_meaning.specs.Node.{Node, Fresh, Live, Done, Fault, Nodes, no_nodes, branch}
-use Rattle.swf_stack.specs.Layers.{frames_of, top_of, running}
+use Rattle.swf_stack.specs.Stands.{inward}
 use Rattle.swf_stack.specs.Stack.{plug, top_node, forked}
 use Rattle.swf_stack.specs.declared.made.Frame.{Frame}
-use Rattle.swf_stack.specs.declared.made.Layer.{Layer}
+use Rattle.swf_stack.specs.declared.made.Stand.{Stand}
 use Rattle.swf_stack.specs.declared.made.Top.{Top}
 use Rattle.swf_stack.specs.declared.made.Top.TheVariants as tops
 use Rattle.swf_tasks.specs.Installed.{output_in}
 use Rattle.swf_tasks.specs.Stepped.{listed, output_on}
-use Rattle.swf_strands.specs.Strands.{node_of, nodes_of, IsGrownAt}
+use Rattle.swf_strands.specs.Strands.{node_of, nodes_of, strand_node, IsGrownAt}
 use Rattle.swf_strands.proofs.TreeLemmas.{nth_node, nth_node-of, nth_node-none, nothing}
 use Rattle.swf_strands.proofs.AskLemmas.{nodes_from, nodes_from-some, nodes_from-none, nth-place}
 
 -- how many strands stand below
-abbrev pub beside : Option (Branch Layer) → ℕ
+abbrev pub beside : Option (Branch Stand) → ℕ
 beside None = 0
 beside (Some b) = length (numbers b.below)
 
-pub below-beside : (o : Option (Branch Layer)) (b : Branch Layer) (i : ℕ) (c : Found Layer) → o ≡ Some b → nth b.below i ≡ Some c → i < beside o
+pub below-beside : (o : Option (Branch Stand)) (b : Branch Stand) (i : ℕ) (c : Found Stand) → o ≡ Some b → nth b.below i ≡ Some c → i < beside o
 below-beside o b i c f e = subst (λ x. i < beside x) (sym f) (nth-place b.below i c e)
 
-pub few-below : (b : Branch Layer) (i : ℕ) (c : Found Layer) → IsGrownAt b → nth b.below i ≡ Some c → i < 65536
+pub few-below : (b : Branch Stand) (i : ℕ) (c : Found Stand) → IsGrownAt b → nth b.below i ≡ Some c → i < 65536
 few-below b i c g e = let h = nth-place b.below i c e in let few = g.0.2 in omega (arith, h, few)
 
 put-here : (ns : Nodes) (i : ℕ) (m n : Node) → nth_node ns i ≡ Some n → nth_node (put ns i m) i ≡ Some m
@@ -57,9 +57,13 @@ output-top (tops.Waiting r n m) ns = refl
 output-top (tops.Hearing r b hs) ns = refl
 output-top (tops.Forked r) ns = refl
 
-pub output-plug : (fs : List Frame) (t : Top) (ns : Nodes) → output_on (running fs) t ≡ output_in (plug fs (forked (top_node t) ns))
+pub output-plug : (fs : List Frame) (t : Top) (ns : Nodes) → output_on fs t ≡ output_in (plug (inward fs) (forked (top_node t) ns))
 output-plug [] t ns = output-top t ns
-output-plug (f ∷ fs) t ns = refl
+output-plug (f ∷ fs) t ns = by (inward fs)
+  where
+    by : (gs : List Frame) → None ≡ output_in (plug (gs ++ f ∷ []) (forked (top_node t) ns))
+    by [] = refl
+    by (g ∷ gs) = refl
 
 output-ended : (t : Top) → output_on [] t ≡ output_in (top_node t)
 output-ended (tops.Fresh r v) = refl
@@ -108,18 +112,21 @@ pub all-done : (ms : Nodes) (k : ℕ) (ws : List Value) → AreUpTo ms k ws → 
 all-done ms k ws up e =
     sym (ap (option_map listed) (up ∙ ap (λ x. option_map (λ (rest : List Value). ws ++ rest) (outputs x)) (nodes_from-none ms k e)) ∙ ap (λ xs. Some (listed xs)) (append-nil ws))
 
--- of a branch, where that one has just ended
-abbrev pub by_case : Bool → Found Layer → Top → Option Value
-by_case true c t = output_on [] t
-by_case false c t = output_on (running (frames_of c.held.frames)) (top_of c.held.frames)
+-- of the branch that has just ended
+pub output-of-ended : (b : Branch Stand) (number k : ℕ) (c : Found Stand) (t : Top) → nth b.below k ≡ Some c → k ≡ number → (n : Node) × ((nth_node (put (nodes_of b.below) number (top_node t)) k ≡ Some n) × (output_in n ≡ output_on [] t))
+output-of-ended b number k c t g same =
+    (top_node t, (ap (λ i. nth_node (put (nodes_of b.below) i (top_node t)) k) (sym same) ∙ put-here (nodes_of b.below) k (top_node t) (node_of c.held) (nth_node-of b.below k c g), sym (output-ended t)))
 
-pub output-of-branch : (b : Branch Layer) (number k : ℕ) (c : Found Layer) (t : Top) → nth b.below k ≡ Some c → (same : Bool) → (same ≡ true → k ≡ number) → (same ≡ false → number ≡ k → ⊥) →
-    (n : Node) × ((nth_node (put (nodes_of b.below) number (top_node t)) k ≡ Some n) × (output_in n ≡ by_case same c t))
-output-of-branch b number k c t g true p q =
-    let e : number ≡ k = sym (p refl) in
-    (top_node t, (ap (λ i. nth_node (put (nodes_of b.below) i (top_node t)) k) e ∙ put-here (nodes_of b.below) k (top_node t) (node_of c.held) (nth_node-of b.below k c g), sym (output-ended t)))
-output-of-branch b number k c t g false p q =
-    (node_of c.held, (put-past (nodes_of b.below) number k (top_node t) (q refl) ∙ nth_node-of b.below k c g, sym (output-plug (frames_of c.held.frames) (top_of c.held.frames) (nodes_of c.held.below))))
+-- of another one, which holds this
+pub output-of-other : (b : Branch Stand) (number k : ℕ) (c : Found Stand) (h : Stand) (t : Top) → nth b.below k ≡ Some c → c.held.frames ≡ h ∷ [] → (number ≡ k → ⊥) →
+    (n : Node) × ((nth_node (put (nodes_of b.below) number (top_node t)) k ≡ Some n) × (output_in n ≡ output_on h.around h.top))
+output-of-other b number k c h t g on apart = (
+  node_of c.held,
+  (
+    put-past (nodes_of b.below) number k (top_node t) apart ∙ nth_node-of b.below k c g,
+    ap (λ ls. output_in (strand_node ls (nodes_of c.held.below))) on ∙ sym (output-plug h.around h.top (nodes_of c.held.below)),
+  ),
+)
 
-pub none-left : (b : Branch Layer) (number k : ℕ) (m : Node) → nth b.below k ≡ None → nth_node (put (nodes_of b.below) number m) k ≡ None
+pub none-left : (b : Branch Stand) (number k : ℕ) (m : Node) → nth b.below k ≡ None → nth_node (put (nodes_of b.below) number m) k ≡ None
 none-left b number k m e = put-none (nodes_of b.below) number k m (nth_node-none b.below k e)

@@ -1,45 +1,41 @@
 -- What the step of a strand makes of an instance.
-use Rattle.std.proofs.Common.{◌≡◌, ◌∙◌, refl, sym, ap, subst, ℕ, zero, suc, ◌+◌, ◌-◌, Bool, true, false, List, [], ◌∷◌, take, Some, None, arith}
-use Rattle.std.proofs.Math.Bool.{or-false}
+use Rattle.std.proofs.Common.{◌≡◌, ◌∙◌, refl, sym, ap, subst, ℕ, ◌+◌, ◌-◌, ◌≤◌, Bool, true, false, List, [], ◌∷◌, length, take, Some, None, arith}
 use Rattle.std.proofs.lemmas.Option.{same_Some}
-use Rattle.std.proofs.lemmas.List.Folds.{list_any-append}
-use Rattle.std.specs.List.{list_any}
-use Rattle.std.specs.Prelude.{◌||◌, ◌==◌, option_map}
-use Rattle.swf_value.specs.Value.{Value}
-use Rattle.swf_document.specs.Task.{Tasks, no_tasks, named}
-use Rattle.swf_frames.specs.Tree.{Tree, Strands, no_strands, strand, Branch, find, numbers, count}
-use Rattle.swf_meaning.specs.Fork.{branches_in, branches_among, branches_of, fresh, count as count_nodes}
-use Rattle.swf_meaning.specs.Node.{Node, Fresh, Live, Done, Fault, Inside, At, Later, Sleep, Hear, Forked, Nodes, no_nodes, branch}
+use Rattle.std.specs.Prelude.{option_map}
+use Rattle.swf_cloudevents.specs.declared.event.Event.{Event}
+use Rattle.swf_frames.specs.Tree.{Tree, Strands as Below, no_strands, strand, Branch, find, numbers, count}
+use Rattle.swf_meaning.specs.Node.{Node, Live, Forked}
+use Rattle.swf_meaning.specs.Documents.{Loaded}
 use Rattle.swf_meaning.specs.Line.{Line, Site}
-use Rattle.swf_meaning.specs.Strands.{can_go}
-use Rattle.swf_meaning.specs.Wake.{waits, waits_inside, waits_among}
-use Rattle.swf_meaning.specs.World.{Instance, line_of, site_of, with_step}
-use Rattle.swf_stack.specs.Layers.{frames_of, top_of}
-use Rattle.swf_stack.specs.Stack.{plug, top_node, made_node, used_by}
+use Rattle.swf_meaning.specs.Offer.{offered}
+use Rattle.swf_meaning.specs.Strands.{branches_in, can_go}
+use Rattle.swf_meaning.specs.World.{Instance, line_of, site_of}
+use Rattle.swf_meaning.proofs.TopsLemmas.{strands_among, strands_among-branch, branches_in-at, branches_in-fork}
+use Rattle.swf_stack.specs.Stands.{frames_of, top_of}
+use Rattle.swf_stack.specs.Stack.{plug, top_node}
+use Rattle.swf_catalog.specs.Rounds.{round_of}
 use Rattle.swf_scene.specs.Setting.{setting_line, instance_of}
 use Rattle.swf_stack.specs.declared.made.Frame.{Frame}
-use Rattle.swf_stack.specs.declared.made.Layer.{Layer}
+use Rattle.swf_stack.specs.declared.made.Stand.{Stand}
 use Rattle.swf_stack.specs.declared.made.Top.{Top}
 use Rattle.swf_stack.specs.declared.made.Top.TheVariants as tops
 use Rattle.swf_scene.specs.declared.setting.Setting.{Setting}
-use Rattle.swf_tasks.specs.Prepares.{applied, changed, Fits, IsPrepared, Puts, waits_for, is_at}
-use Rattle.swf_tasks.specs.Stepped.{IsChange, change_at}
-use Rattle.swf_strands.specs.Alarm.{until_in, until_in_top}
-use Rattle.swf_strands.specs.Strands.{strand_node, nodes_of, node_of, root_node, is_fork, made_layers, Stands, IsGrown}
-use Rattle.swf_tasks.specs.Taken.{taken}
-use Rattle.swf_strands.specs.Ways.{replaced, replaced_inside, replaced_among}
-use Rattle.swf_tasks.specs.declared.machine.Part.{Part}
-use Rattle.swf_tasks.specs.declared.machine.Prepared.{Prepared}
-use Rattle.swf_tasks.specs.declared.machine.Step.TheVariants as steps
-use Rattle.swf_tasks.specs.declared.step.Change.{Change}
-use Rattle.swf_strands.proofs.AskLemmas.{waits-plug}
-use Rattle.swf_strands.proofs.TreeLemmas.{yes-no, fork-node, plain-node, root-holds}
+use Rattle.swf_tasks.specs.Prepares.{applied, begun_after, fits, Fits, IsBegun, IsPrepared, node_after}
+use Rattle.swf_tasks.specs.Stepped.{IsChange}
+use Rattle.swf_strands.specs.Strands.{strand_node, nodes_of, node_of, root_node, is_fork, made_stand, IsStrand, IsGrown}
+use Rattle.swf_tasks.specs.Taken.{offered_own, taken}
+use Rattle.swf_strands.specs.Ways.{has_strand, replaced}
+use Rattle.swf_tasks.specs.declared.prepared.Prepared.{Prepared}
+use Rattle.swf_tasks.specs.declared.prepared.Strands.{Strands}
+use Rattle.swf_tasks.specs.declared.prepared.Strands.TheVariants as strands
+use Rattle.swf_offers.proofs.OfferLemmas.{AreOffered}
+use Rattle.swf_strands.proofs.TreeLemmas.{fork-node, plain-node, root-holds}
 
 -- ---- how many branches run
 
 branches-plug : (fs : List Frame) (n : Node) → branches_in (plug fs n) ≡ branches_in n
 branches-plug [] n = refl
-branches-plug (f ∷ fs) n = branches-plug fs n
+branches-plug (f ∷ fs) n = branches_in-at f.running (round_of f.round) f.place (plug fs n) ∙ branches-plug fs n
 
 plain-branches : (t : Top) → is_fork t ≡ false → branches_in (top_node t) ≡ 0
 plain-branches (tops.Fresh r v) e = refl
@@ -50,27 +46,28 @@ plain-branches (tops.Waiting r (Some n) m) e = refl
 plain-branches (tops.Hearing r bound hs) e = refl
 plain-branches (tops.Forked r) e = cc
 
-branches-node : (ls : List Layer) (below : Strands Layer) → Stands ls below → branches_in (strand_node ls (nodes_of below)) ≡ count_nodes (nodes_of below) + branches_among (nodes_of below)
+branches-node : (ls : List Stand) (below : Below Stand) → IsStrand ls below → branches_in (strand_node ls (nodes_of below)) ≡ strands_among (nodes_of below)
 branches-node ls below s = by (is_fork (top_of ls)) refl
   where
-    by : (x : Bool) → is_fork (top_of ls) ≡ x → branches_in (strand_node ls (nodes_of below)) ≡ count_nodes (nodes_of below) + branches_among (nodes_of below)
+    by : (x : Bool) → is_fork (top_of ls) ≡ x → branches_in (strand_node ls (nodes_of below)) ≡ strands_among (nodes_of below)
     by true e =
         let f = fork-node ls (nodes_of below) e in
-        ap branches_in f.1.1 ∙ branches-plug (frames_of ls) (Live f.0 (Forked (nodes_of below)))
+        ap branches_in f.1.1 ∙ branches-plug (frames_of ls) (Live f.0 (Forked (nodes_of below))) ∙ branches_in-fork f.0 (nodes_of below)
     by false e =
         ap branches_in (plain-node ls (nodes_of below) e) ∙ branches-plug (frames_of ls) (top_node (top_of ls)) ∙ plain-branches (top_of ls) e
-        ∙ sym (ap (λ ss. count_nodes (nodes_of ss) + branches_among (nodes_of ss)) (s.1 e))
+        ∙ sym (ap (λ ss. strands_among (nodes_of ss)) (s.1 e))
 
-count-strands : (ss : Strands Layer) → IsGrown ss → count ss ≡ count_nodes (nodes_of ss) + branches_among (nodes_of ss)
+count-strands : (ss : Below Stand) → IsGrown ss → count ss ≡ strands_among (nodes_of ss)
 count-strands no_strands g = refl
 count-strands (strand m ls below after) g =
     let here = branches-node ls below g.0 in
     let inner = count-strands below g.1 in
     let others = count-strands after g.2 in
-    omega (arith, here, inner, others)
+    let all = strands_among-branch (strand_node ls (nodes_of below)) (nodes_of after) in
+    omega (arith, here, inner, others, all)
 
 -- all strands but the root
-pub count-branches : (t : Tree Layer) (r : ℕ) → numbers t.strands ≡ r ∷ [] → IsGrown t.strands → count t.strands ≡ branches_in (root_node t.strands) + 1
+pub count-branches : (t : Tree Stand) (r : ℕ) → numbers t.strands ≡ r ∷ [] → IsGrown t.strands → count t.strands ≡ branches_in (root_node t.strands) + 1
 count-branches t r e g =
     let b = root-holds t r e g in
     let all : count t.strands ≡ count (strand r b.0.frames b.0.below no_strands) = ap count b.1.1.1.0 in
@@ -80,125 +77,84 @@ count-branches t r e g =
     omega (arith, all, inner, here, root)
 
 -- the change that the root tells is that of the instance
-pub root-change : (t : Tree Layer) (r k now : ℕ) (s : Setting) (i : Instance) (at : Site) (l : Line) (bs : List ℕ) (c : Change) → instance_of s (root_node t.strands) ≡ i → numbers t.strands ≡ r ∷ [] → IsGrown t.strands → k ≡ count t.strands →
-    at ≡ record { number = s.number; branches = k - 1; now = now } → l ≡ setting_line s → ((b : Branch Layer) → find t.strands r ≡ Some b → IsChange at l bs (node_of b) c) → IsChange (site_of now i) (line_of i) bs i.node c
-root-change t r k now s i at l bs c view e g many place line change =
+pub root-change : (t : Tree Stand) (r k now : ℕ) (ds : List Loaded) (s : Setting) (i : Instance) (at : Site) (l : Line) (bs ws : List ℕ) (p : Prepared) → instance_of s (root_node t.strands) ≡ i → numbers t.strands ≡ r ∷ [] → IsGrown t.strands → k ≡ count t.strands →
+    at ≡ record { number = s.number; branches = k - 1; now = now; documents = ds } → l ≡ setting_line s → ws ≡ bs → ((b : Branch Stand) → find t.strands r ≡ Some b → IsChange at l bs 0 ws (node_of b) p) → IsChange (site_of now ds i) (line_of i) bs 0 bs i.node p
+root-change t r k now ds s i at l bs ws p view e g many place line same change =
     let b = root-holds t r e g in
     let n = root_node t.strands in
     let all = count-branches t r e g in
     let few : k - 1 ≡ branches_in n = omega (arith, many, all) in
-    let here : at ≡ site_of now (instance_of s n) = place ∙ (λ j. record { number = s.number; branches = few j; now = now }) in
-    let root : IsChange at l bs n c = subst (λ m. IsChange at l bs m c) (sym b.1.1.1.1) (change b.0 b.1.0) in
-    let seen : IsChange (site_of now (instance_of s n)) (setting_line s) bs n c = subst (λ x. IsChange x (setting_line s) bs n c) here (subst (λ x. IsChange at x bs n c) line root) in
-    subst (λ (j : Instance). IsChange (site_of now j) (line_of j) bs j.node c) view seen
+    let here : at ≡ site_of now ds (instance_of s n) = place ∙ (λ j. record { number = s.number; branches = few j; now = now; documents = ds }) in
+    let root : IsChange at l bs 0 bs n p = subst (λ m. IsChange at l bs 0 bs m p) (sym b.1.1.1.1) (subst (λ w. IsChange at l bs 0 w (node_of b.0) p) same (change b.0 b.1.0)) in
+    let seen : IsChange (site_of now ds (instance_of s n)) (setting_line s) bs 0 bs n p = subst (λ x. IsChange x (setting_line s) bs 0 bs n p) here (subst (λ x. IsChange at x bs 0 bs n p) line root) in
+    subst (λ (j : Instance). IsChange (site_of now ds j) (line_of j) bs 0 bs j.node p) view seen
 
 -- what the root is told: the strand of the instance can take a step
-pub root-can : (t : Tree Layer) (r now then : ℕ) (s : Setting) (i : Instance) (bs ws : List ℕ) → instance_of s (root_node t.strands) ≡ i → numbers t.strands ≡ r ∷ [] → IsGrown t.strands → then ≡ now → ws ≡ bs → can_go now bs i.node ≡ true →
-    (b : Branch Layer) → find t.strands r ≡ Some b → can_go then ws (node_of b) ≡ true
+pub root-can : (t : Tree Stand) (r now then : ℕ) (s : Setting) (i : Instance) (bs ws : List ℕ) → instance_of s (root_node t.strands) ≡ i → numbers t.strands ≡ r ∷ [] → IsGrown t.strands → then ≡ now → ws ≡ bs → can_go now bs i.node ≡ true →
+    (b : Branch Stand) → find t.strands r ≡ Some b → can_go then ws (node_of b) ≡ true
 root-can t r now then s i bs ws view e g moment same can b f =
     let x = root-holds t r e g in
     ap (λ k. can_go k ws (node_of b)) moment
     ∙ ap (λ w. can_go now w (node_of b)) same
-    ∙ ap (λ (y : Branch Layer). can_go now bs (node_of y)) (sym (same_Some x.0 b (sym x.1.0 ∙ f)))
+    ∙ ap (λ (y : Branch Stand). can_go now bs (node_of y)) (sym (same_Some x.0 b (sym x.1.0 ∙ f)))
     ∙ ap (can_go now bs) (sym x.1.1.1.1)
     ∙ ap (λ (j : Instance). can_go now bs j.node) view
     ∙ can
 
--- ---- a strand that is put anew
-
--- with all branches of a `fork` that begins on it
-pub puts-whole : (s : Setting) (old new : Strands Layer) (i m : Instance) (p : Part) (ws : List ℕ) → instance_of s (root_node old) ≡ i → ws ≡ p.strand → root_node new ≡ replaced (take p.depth ws) (made_layers p.layers.items) (root_node old) →
-    m ≡ record i { node = root_node new; context = p.context; number = p.number } → Puts (steps.Whole m) p i
-puts-whole s old new i m p ws view same node is =
-    let x = made_layers p.layers.items in
-    record {
-      fits = ap (λ (j : Instance). j.id) is;
-      becomes = is ∙ ap (λ n. record i { node = n; context = p.context; number = p.number }) (node ∙ ap (λ w. replaced (take p.depth w) x (root_node old)) same ∙ ap (λ (j : Instance). replaced (changed p) x j.node) view);
-    }
-
--- ---- the moments that are waited for
-
-either-first : (a x b c : Bool) → (a ≡ true → (x || b) ≡ true) → (a || c) ≡ true → (x || (b || c)) ≡ true
-either-first a true b c f h = refl
-either-first a false true c f h = refl
-either-first true false false c f h = absurd (yes-no (sym (f refl)))
-either-first false false false c f h = h
-
-either-rest : (a x c d : Bool) → (c ≡ true → (x || d) ≡ true) → (a || c) ≡ true → (x || (a || d)) ≡ true
-either-rest a true c d f h = refl
-either-rest true false c d f h = refl
-either-rest false false c d f h = f h
-
-or-right : (x b : Bool) → b ≡ true → (x || b) ≡ true
-or-right true b h = refl
-or-right false b h = h
-
-or-left : (x b : Bool) → x ≡ true → (x || b) ≡ true
-or-left true b h = refl
-or-left false b h = absurd (yes-no (sym h))
-
-abbrev is_among : ℕ → List ℕ → Bool
-is_among m ms = list_any (λ k. m == k) ms
-
--- those of the strands that stay, and those of the new one
-mutual
-  waits-replaced : (m : ℕ) (bs : List ℕ) (x n : Node) → waits_for m (replaced bs x n) ≡ true → (waits_for m x || waits_for m n) ≡ true
-  waits-replaced m [] x n h = or-left (waits_for m x) (waits_for m n) h
-  waits-replaced m (b ∷ bs) x (Fresh t v) h = or-right (waits_for m x) false h
-  waits-replaced m (b ∷ bs) x (Live t k) h = waits-inside m b bs x k h
-  waits-replaced m (b ∷ bs) x (Done w f) h = or-right (waits_for m x) false h
-  waits-replaced m (b ∷ bs) x (Fault p) h = or-right (waits_for m x) false h
-
-  waits-inside : (m b : ℕ) (bs : List ℕ) (x : Node) (k : Inside) → is_among m (waits_inside (replaced_inside b bs x k)) ≡ true → (waits_for m x || is_among m (waits_inside k)) ≡ true
-  waits-inside m b bs x (At round i n) h = waits-replaced m (b ∷ bs) x n h
-  waits-inside m b bs x (Later n k) h = or-right (waits_for m x) (is_among m (k ∷ [])) h
-  waits-inside m b bs x (Sleep k) h = or-right (waits_for m x) (is_among m (k ∷ [])) h
-  waits-inside m b bs x (Hear bound hs) h = or-right (waits_for m x) false h
-  waits-inside m b bs x (Forked ns) h = waits-beside m b bs x ns h
-
-  waits-beside : (m b : ℕ) (bs : List ℕ) (x : Node) (ns : Nodes) → is_among m (waits_among (replaced_among b bs x ns)) ≡ true → (waits_for m x || is_among m (waits_among ns)) ≡ true
-  waits-beside m b bs x no_nodes h = or-right (waits_for m x) false h
-  waits-beside m zero bs x (branch n ns) h =
-      ap (λ y. waits_for m x || y) (list_any-append (λ k. m == k) (waits n) (waits_among ns))
-      ∙ either-first (waits_for m (replaced bs x n)) (waits_for m x) (waits_for m n) (is_among m (waits_among ns)) (waits-replaced m bs x n) (sym (list_any-append (λ k. m == k) (waits (replaced bs x n)) (waits_among ns)) ∙ h)
-  waits-beside m (suc b) bs x (branch n ns) h =
-      ap (λ y. waits_for m x || y) (list_any-append (λ k. m == k) (waits n) (waits_among ns))
-      ∙ either-rest (waits_for m n) (waits_for m x) (is_among m (waits_among (replaced_among b bs x ns))) (is_among m (waits_among ns)) (waits-beside m b bs x ns) (sym (list_any-append (λ k. m == k) (waits n) (waits_among (replaced_among b bs x ns))) ∙ h)
-
-waits-fresh : (ts : Tasks) (u : Value) → waits_among (fresh ts u) ≡ []
-waits-fresh no_tasks u = refl
-waits-fresh (named k t ts) u = waits-fresh ts u
-
-waits-top : (m : ℕ) (t : Top) → waits_for m (made_node t) ≡ is_at m (until_in_top t)
-waits-top m (tops.Fresh r v) = refl
-waits-top m (tops.Done w d) = refl
-waits-top m (tops.Fault p) = refl
-waits-top m (tops.Waiting r None k) = or-false (m == k)
-waits-top m (tops.Waiting r (Some n) k) = or-false (m == k)
-waits-top m (tops.Hearing r bound hs) = refl
-waits-top m (tops.Forked r) = ap (is_among m) (waits-fresh (branches_of r.task) r.input)
-
-waits-made : (m : ℕ) (ls : List Layer) → waits_for m (made_layers ls) ≡ is_at m (until_in ls)
-waits-made m ls = ap (is_among m) (waits-plug (frames_of ls) (made_node (top_of ls))) ∙ waits-top m (top_of ls)
-
 -- ---- the step that was prepared
 
--- the instance after a change
-abbrev pub instance_after : Instance → List ℕ → Change → Instance
-instance_after i bs c = with_step i (change_at c bs i.node)
+-- the strand that the change puts anew
+puts-at : (s : Site) (l : Line) (bs : List ℕ) (n : Node) (p : Prepared) → (change : IsChange s l bs 0 bs n p) → p.strands ≡ strands.One change.depth change.stand
+puts-at s l bs n p change = change.puts ∙ ap (λ k. strands.One k change.stand) (omega arith)
 
-pub becomes-after : (s : Setting) (n : Node) (i j : Instance) (bs ws : List ℕ) (c : Change) (k : ℕ) → instance_of s n ≡ i → ws ≡ bs → k ≡ s.number + used_by c.emitted →
-    j ≡ record i { node = replaced (take c.depth ws) (made_layers c.layers.items) i.node; context = c.context; number = k } → j ≡ instance_after i bs c
-becomes-after s n i j bs ws c k view same next is =
-    let number : k ≡ i.number + used_by c.emitted = next ∙ ap (λ (x : Instance). x.number + used_by c.emitted) view in
-    is ∙ λ a. record i { node = replaced (take c.depth (same a)) (made_layers c.layers.items) i.node; context = c.context; number = number a }
+-- the tree has the strand that the change puts anew
+pub change-fits : (s : Site) (l : Line) (bs ws : List ℕ) (i : Instance) (p : Prepared) → ws ≡ p.strand → IsChange s l bs 0 bs i.node p → fits p.strands ws i.node
+change-fits s l bs ws i p same change =
+    subst (λ x. fits x ws i.node) (sym (puts-at s l bs i.node p change))
+    (subst (λ (w : List ℕ). (change.depth ≤ length w) × (has_strand (take change.depth w) i.node ≡ true)) (sym (same ∙ change.named)) (change.deep, change.there))
 
-pub prepared-by : (now : ℕ) (bs : List ℕ) (i : Instance) (c : Change) (p : Prepared) → IsChange (site_of now i) (line_of i) bs i.node c → Fits p.step i → applied p.step i ≡ instance_after i bs c → p.emitted ≡ c.emitted → p.until ≡ until_in c.layers.items → IsPrepared now bs i p
-prepared-by now bs i c p change fits is same until = record {
-  fits = fits;
-  step = ap (option_map (taken i)) change.step ∙ λ j. Some (sym is j, sym same j);
-  waits = λ m w.
-      let x = made_layers c.layers.items in
-      let new : waits_for m (replaced (take c.depth bs) x i.node) ≡ true = sym (ap (λ (y : Instance). waits_for m y.node) is) ∙ w in
-      sym (ap (λ y. y || waits_for m i.node) (waits-made m c.layers.items ∙ ap (is_at m) (sym until))) ∙ waits-replaced m (take c.depth bs) x i.node new;
-}
+-- the instance after a change, with the branches of a `fork` that begins
+pub prepared-by : (now : ℕ) (ds : List Loaded) (bs ws : List ℕ) (i : Instance) (c p : Prepared) (new : Strands) → ws ≡ c.strand → IsChange (site_of now ds i) (line_of i) bs 0 bs i.node c → IsBegun c.strands ws i.node new → p ≡ record c { strands = new } → IsPrepared now ds bs i p
+prepared-by now ds bs ws i c p new same change begun is = subst (IsPrepared now ds bs i) (sym is) (record {
+  fits = subst (λ w. fits new w i.node) same begun.fits;
+  step = ap (option_map (taken i)) change.step ∙ λ j. Some (record i { node = node j; context = c.context; number = sym change.number j }, c.emitted);
+})
+  where
+    d : ℕ
+    d = change.depth
+
+    node : replaced (take d bs) (made_stand change.stand) i.node ≡ node_after new c.strand i.node
+    node =
+        ap (λ w. replaced (take d w) (made_stand change.stand) i.node) (sym change.named)
+        ∙ sym (ap (λ x. begun_after x c.strand i.node) (puts-at (site_of now ds i) (line_of i) bs i.node c change))
+        ∙ sym (subst (λ w. node_after new w i.node ≡ begun_after c.strands w i.node) same begun.node)
+
+-- ---- the branches of a `fork` that begins
+
+-- where the strands are all told, none begins
+pub begun-all : (s : Strands) (bs : List ℕ) (n : Node) → ((d : ℕ) (h : Stand) → s ≡ strands.One d h → ⊥) → fits s bs n → IsBegun s bs n s
+begun-all (strands.One d h) bs n isnt f = absurd (isnt d h refl)
+begun-all (strands.All t) bs n isnt f = record { fits = f; node = refl }
+
+-- ---- the event that goes out is offered to the instance as well
+
+abbrev pub IsOffered : Prepared → Prepared → Instance → Type 0
+IsOffered p q i = Fits q i × (applied q i ≡ offered_own p.emitted (applied p i)) × (q.emitted ≡ p.emitted)
+
+pub offered-some : (p q : Prepared) (i : Instance) (e : Event) (all : Below Stand) (new : Tree Stand) (k : ℕ) → p.emitted ≡ Some e → root_node all ≡ node_after p.strands p.strand i.node → AreOffered e all new.strands k → q ≡ record p { strands = strands.All new } → IsOffered p q i
+offered-some p q i e all new k sent node off is = subst (λ (x : Prepared). IsOffered p x i) (sym is) (
+  off.grown,
+  ap (λ n. record (applied p i) { node = n }) (off.node ∙ ap (λ n. (offered e n).0) node) ∙ sym (ap (λ o. offered_own o (applied p i)) sent),
+  refl,
+)
+
+-- ---- the strands after a step
+
+-- the tree of the strands of an instance has it
+pub fits-root : (s : Strands) (ws bs : List ℕ) (t : Setting) (old : Below Stand) (i : Instance) → instance_of t (root_node old) ≡ i → ws ≡ bs → fits s bs i.node → fits s ws (root_node old)
+fits-root s ws bs t old i view same f = subst (λ w. fits s w (root_node old)) (sym same) (subst (λ (j : Instance). fits s bs j.node) (sym view) f)
+
+-- the instance after a step
+pub applied-by : (s : Setting) (old new : Below Stand) (p : Prepared) (i : Instance) (ws : List ℕ) → instance_of s (root_node old) ≡ i → ws ≡ p.strand → root_node new ≡ node_after p.strands ws (root_node old) → record (instance_of s (root_node new)) { context = p.context; number = p.number } ≡ applied p i
+applied-by s old new p i ws view same node =
+    ap (λ n. record (instance_of s n) { context = p.context; number = p.number }) (node ∙ ap (λ w. node_after p.strands w (root_node old)) same) ∙ ap (applied p) view

@@ -1,30 +1,31 @@
 -- What stands on the strand that branch numbers lead to decides for it.
-use Rattle.std.proofs.Common.{◌≡◌, ◌∙◌, refl, sym, ap, subst, ℕ, Bool, true, false, not, List, [], ◌∷◌, ◌++◌, length, Option, Some, None, Ok, Err}
-use Rattle.std.proofs.Math.Dec.{eqb-suc-zero}
-use Rattle.std.specs.Prelude.{◌==◌, Result, IfOk}
+use Rattle.std.proofs.Common.{◌≡◌, ◌∙◌, refl, sym, ap, subst, ℕ, Bool, true, false, not, List, [], ◌∷◌, ◌++◌, Option, Some, None, Ok, Err}
+use Rattle.swf_chain.specs.Ends.{is_empty, split_first}
+use Rattle.std.specs.Prelude.{Result, IfOk}
 use Rattle.swf_value.specs.Value.{Value, Members}
 use Rattle.swf_document.specs.Task.{Task}
 use Rattle.swf_document.specs.declared.common.Flow.{Flow}
 use Rattle.swf_document.specs.declared.error.Problem.{Problem}
 use Rattle.swf_frames.specs.Tree.{Tree, Branch, find, numbers}
 use Rattle.swf_meaning.specs.Listen.{is_heard}
-use Rattle.swf_meaning.specs.Node.{Node, Live, Done, Fault, Inside, At, Hear, Forked, Nodes, Running}
+use Rattle.swf_meaning.specs.Node.{Node, Fresh, Live, Done, Fault, Inside, At, Hear, Forked, Nodes, Round, Running}
 use Rattle.swf_meaning.specs.Parts.{kind_of}
 use Rattle.swf_meaning.specs.Shared.{is_shared, is_shared_top, is_shared_kind, is_shared_error}
 use Rattle.swf_meaning.specs.Top.{top_is}
 use Rattle.swf_meaning.specs.World.{Instance}
 use Rattle.swf_meaning.specs.declared.heard.Heard.{Heard}
-use Rattle.swf_stack.specs.Layers.{frames_of, top_of}
-use Rattle.swf_stack.specs.Stack.{plug, top_node, forked, waiting, round_of}
+use Rattle.swf_stack.specs.Stands.{frames_of, inward, top_of}
+use Rattle.swf_stack.specs.Stack.{plug, top_node, forked, waiting}
+use Rattle.swf_catalog.specs.Rounds.{round_of}
 use Rattle.swf_scene.specs.Setting.{instance_of}
 use Rattle.swf_stack.specs.declared.made.Frame.{Frame}
-use Rattle.swf_stack.specs.declared.made.Layer.{Layer}
+use Rattle.swf_stack.specs.declared.made.Stand.{Stand}
 use Rattle.swf_stack.specs.declared.made.Top.{Top}
 use Rattle.swf_stack.specs.declared.made.Top.TheVariants as tops
 use Rattle.swf_scene.specs.declared.setting.Setting.{Setting}
 use Rattle.swf_tasks.specs.Installed.{output_in, problem_in}
 use Rattle.swf_strands.specs.Strands.{nodes_of, node_of, root_node, IsGrown, IsHeld}
-use Rattle.swf_strands.specs.Ways.{at, own_listens}
+use Rattle.swf_strands.specs.Ways.{at, listens_at}
 use Rattle.swf_tasks.proofs.StepLemmas.{plug-append}
 use Rattle.swf_strands.proofs.TopLemmas.{top-live, top-fresh}
 use Rattle.swf_strands.proofs.TreeLemmas.{root-holds, at-walk, at-nowhere, waiting-forked, IsAt, IsNowhere}
@@ -32,7 +33,7 @@ use Rattle.swf_strands.proofs.TreeLemmas.{root-holds, at-walk, at-nowhere, waiti
 -- ---- the tree of an instance
 
 -- what holds of what the root holds, holds of it
-pub of-root : (P : Node → Type 0) (s : Setting) (t : Tree Layer) (r : ℕ) (i : Instance) → instance_of s (root_node t.strands) ≡ i → numbers t.strands ≡ r ∷ [] → IsGrown t.strands → ((b : Branch Layer) → find t.strands r ≡ Some b → P (node_of b)) → P i.node
+pub of-root : (P : Node → Type 0) (s : Setting) (t : Tree Stand) (r : ℕ) (i : Instance) → instance_of s (root_node t.strands) ≡ i → numbers t.strands ≡ r ∷ [] → IsGrown t.strands → ((b : Branch Stand) → find t.strands r ≡ Some b → P (node_of b)) → P i.node
 of-root P s t r i view e g h =
     let x = root-holds t r e g in
     subst (λ (j : Instance). P j.node) view (subst P (sym x.1.1.1.1) (h x.0 x.1.0))
@@ -43,8 +44,8 @@ all-told Q P (Ok x) a q h = h a q
 all-told Q P (Err e) a q h = tt
 
 -- where the way leads
-pub on-strand : (P : Option Node → Type 0) (s : Setting) (t : Tree Layer) (r c : ℕ) (way bs : List ℕ) (i : Instance) → instance_of s (root_node t.strands) ≡ i → numbers t.strands ≡ r ∷ [] → IsGrown t.strands → way ≡ bs → IsAt t r way c →
-    ((b : Branch Layer) → find t.strands c ≡ Some b → P (Some (node_of b))) → P (at bs i.node)
+pub on-strand : (P : Option Node → Type 0) (s : Setting) (t : Tree Stand) (r c : ℕ) (way bs : List ℕ) (i : Instance) → instance_of s (root_node t.strands) ≡ i → numbers t.strands ≡ r ∷ [] → IsGrown t.strands → way ≡ bs → IsAt t r way c →
+    ((b : Branch Stand) → find t.strands c ≡ Some b → P (Some (node_of b))) → P (at bs i.node)
 on-strand P s t r c way bs i view e g same is h =
     let x = root-holds t r e g in
     let y = is x.0 x.1.0 in
@@ -52,7 +53,7 @@ on-strand P s t r c way bs i view e g same is h =
     let found : P (at way (root_node t.strands)) = subst P (sym (ap (at way) x.1.1.1.1 ∙ there)) (h y.0 y.1.1.0) in
     subst (λ (j : Instance). P (at bs j.node)) view (subst (λ w. P (at w (root_node t.strands))) same found)
 
-pub no-strand : (P : Option Node → Type 0) (s : Setting) (t : Tree Layer) (r : ℕ) (way bs : List ℕ) (i : Instance) → instance_of s (root_node t.strands) ≡ i → numbers t.strands ≡ r ∷ [] → IsGrown t.strands → way ≡ bs → IsNowhere t r way → P None → P (at bs i.node)
+pub no-strand : (P : Option Node → Type 0) (s : Setting) (t : Tree Stand) (r : ℕ) (way bs : List ℕ) (i : Instance) → instance_of s (root_node t.strands) ≡ i → numbers t.strands ≡ r ∷ [] → IsGrown t.strands → way ≡ bs → IsNowhere t r way → P None → P (at bs i.node)
 no-strand P s t r way bs i view e g same is h =
     let x = root-holds t r e g in
     let none : at way (node_of x.0) ≡ None = at-nowhere way (record { number = r; held = x.0 }) x.1.1.0 (is x.0 x.1.0) in
@@ -60,7 +61,7 @@ no-strand P s t r way bs i view e g same is h =
     subst (λ (j : Instance). P (at bs j.node)) view (subst (λ w. P (at w (root_node t.strands))) same left)
 
 -- the strand that a way leads to is held
-pub way-held : (t : Tree Layer) (r c : ℕ) (bs : List ℕ) → IsHeld t r → IsAt t r bs c → IsHeld t c
+pub way-held : (t : Tree Stand) (r c : ℕ) (bs : List ℕ) → IsHeld t r → IsAt t r bs c → IsHeld t c
 way-held t r c bs held is = let y = is held.1.0 held.1.1.0 in (held.0, (y.0, y.1.1))
 
 -- ---- its next step is shared
@@ -78,20 +79,20 @@ waiting-alone r None m = refl
 waiting-alone r (Some n) m = refl
 
 -- what stands innermost decides
-abbrev pub shares_with : Branch Layer → Top → Bool
+abbrev pub shares_with : Branch Stand → Top → Bool
 shares_with b t = is_shared [] (plug (frames_of b.frames) (forked (top_node t) (nodes_of b.below)))
 
-shares-is : (b : Branch Layer) (t x : Top) (y : Bool) → t ≡ top_of b.frames → t ≡ x → shares_with b x ≡ y → y ≡ is_shared [] (node_of b)
+shares-is : (b : Branch Stand) (t x : Top) (y : Bool) → t ≡ top_of b.frames → t ≡ x → shares_with b x ≡ y → y ≡ is_shared [] (node_of b)
 shares-is b t x y s e h = sym (ap (shares_with b) (sym s ∙ e) ∙ h)
 
-pub shared-fresh : (b : Branch Layer) (t : Top) (r : Task) (v : Value) → t ≡ top_of b.frames → t ≡ tops.Fresh r v → is_shared_kind (kind_of r) ≡ is_shared [] (node_of b)
+pub shared-fresh : (b : Branch Stand) (t : Top) (r : Task) (v : Value) → t ≡ top_of b.frames → t ≡ tops.Fresh r v → is_shared_kind (kind_of r) ≡ is_shared [] (node_of b)
 shared-fresh b t r v s e = shares-is b t (tops.Fresh r v) (is_shared_kind (kind_of r)) s e (ap (top_is is_shared_top) (top-fresh [] (frames_of b.frames) r v))
 
-pub shared-fault : (b : Branch Layer) (t : Top) (p : Problem) (y : Bool) → t ≡ top_of b.frames → t ≡ tops.Fault p → y ≡ is_shared [] (plug (frames_of b.frames) (Fault p)) → y ≡ is_shared [] (node_of b)
+pub shared-fault : (b : Branch Stand) (t : Top) (p : Problem) (y : Bool) → t ≡ top_of b.frames → t ≡ tops.Fault p → y ≡ is_shared [] (plug (frames_of b.frames) (Fault p)) → y ≡ is_shared [] (node_of b)
 shared-fault b t p y s e h = shares-is b t (tops.Fault p) y s e (sym h)
 
 -- what has begun and is no error shares nothing
-pub shared-not : (b : Branch Layer) (t : Top) → t ≡ top_of b.frames → ((r : Task) (v : Value) → t ≡ tops.Fresh r v → ⊥) → ((p : Problem) → t ≡ tops.Fault p → ⊥) → false ≡ is_shared [] (node_of b)
+pub shared-not : (b : Branch Stand) (t : Top) → t ≡ top_of b.frames → ((r : Task) (v : Value) → t ≡ tops.Fresh r v → ⊥) → ((p : Problem) → t ≡ tops.Fault p → ⊥) → false ≡ is_shared [] (node_of b)
 shared-not b t s fresh fault = shares-is b t t false s refl (by t fresh fault)
   where
     fs : List Frame
@@ -105,28 +106,38 @@ shared-not b t s fresh fault = shares-is b t t false s refl (by t fresh fault)
     by (tops.Hearing r bound hs) fresh fault = is_shared-live fs r (Hear bound hs)
     by (tops.Forked r) fresh fault = is_shared-live fs r (Forked (nodes_of b.below))
 
--- an error inside the last of some tasks
-pub error-last : (fs os : List Frame) (f : Frame) (p : Problem) → fs ≡ os ++ f ∷ [] → is_shared_error (round_of f.round) (kind_of f.running.task) ≡ is_shared [] (plug fs (Fault p))
-error-last fs os f p e =
-    sym (ap (λ hs. is_shared [] (plug hs (Fault p))) e ∙ ap (is_shared []) (plug-append os (f ∷ []) (Fault p))
-    ∙ is_shared-live os f.running (At (round_of f.round) f.place (Fault p)))
+-- an error inside the innermost of some tasks
+pub error-last : (fs : List Frame) (f : Frame) (gs : List Frame) (p : Problem) → fs ≡ f ∷ gs → is_shared_error (round_of f.round) (kind_of f.running.task) ≡ is_shared [] (plug (inward fs) (Fault p))
+error-last fs f gs p e =
+    sym (ap (λ hs. is_shared [] (plug (inward hs) (Fault p))) e ∙ ap (is_shared []) (plug-append (inward gs) (f ∷ []) (Fault p))
+    ∙ is_shared-live (inward gs) f.running (At (round_of f.round) f.place (Fault p)))
 
-pub error-none : (fs : List Frame) (p : Problem) → fs ≡ [] → false ≡ is_shared [] (plug fs (Fault p))
-error-none fs p e = sym (ap (λ gs. is_shared [] (plug gs (Fault p))) e)
+pub error-none : (fs : List Frame) (p : Problem) → None ≡ split_first fs → false ≡ is_shared [] (plug (inward fs) (Fault p))
+error-none [] p e = refl
+error-none (f ∷ fs) p e = cc
 
 -- ---- it listens
 
+abbrev own_listens : Node → Bool
+own_listens n = listens_at [] n
+
+own_listens-at : (r : Running) (round : Round) (i : ℕ) (n : Node) → own_listens (Live r (At round i n)) ≡ own_listens n
+own_listens-at r round i (Fresh t v) = refl
+own_listens-at r round i (Live q k) = refl
+own_listens-at r round i (Done w d) = refl
+own_listens-at r round i (Fault p) = refl
+
 own_listens-plug : (fs : List Frame) (n : Node) → own_listens (plug fs n) ≡ own_listens n
 own_listens-plug [] n = refl
-own_listens-plug (f ∷ fs) n = own_listens-plug fs n
+own_listens-plug (f ∷ fs) n = own_listens-at f.running (round_of f.round) f.place (plug fs n) ∙ own_listens-plug fs n
 
-own_listens-top : (b : Branch Layer) (t : Top) → t ≡ top_of b.frames → own_listens (node_of b) ≡ own_listens (forked (top_node t) (nodes_of b.below))
+own_listens-top : (b : Branch Stand) (t : Top) → t ≡ top_of b.frames → own_listens (node_of b) ≡ own_listens (forked (top_node t) (nodes_of b.below))
 own_listens-top b t s = own_listens-plug (frames_of b.frames) (forked (top_node (top_of b.frames)) (nodes_of b.below)) ∙ ap (λ x. own_listens (forked (top_node x) (nodes_of b.below))) (sym s)
 
-pub listens-hearing : (b : Branch Layer) (t : Top) (r : Running) (bound : Members) (hs : List Heard) → t ≡ top_of b.frames → t ≡ tops.Hearing r bound hs → not (is_heard r.task hs) ≡ own_listens (node_of b)
+pub listens-hearing : (b : Branch Stand) (t : Top) (r : Running) (bound : Members) (hs : List Heard) → t ≡ top_of b.frames → t ≡ tops.Hearing r bound hs → not (is_heard r.task hs) ≡ listens_at [] (node_of b)
 listens-hearing b t r bound hs s e = sym (own_listens-top b t s ∙ ap (λ x. own_listens (forked (top_node x) (nodes_of b.below))) e)
 
-pub listens-not : (b : Branch Layer) (t : Top) → t ≡ top_of b.frames → ((r : Running) (bound : Members) (hs : List Heard) → t ≡ tops.Hearing r bound hs → ⊥) → false ≡ own_listens (node_of b)
+pub listens-not : (b : Branch Stand) (t : Top) → t ≡ top_of b.frames → ((r : Running) (bound : Members) (hs : List Heard) → t ≡ tops.Hearing r bound hs → ⊥) → false ≡ listens_at [] (node_of b)
 listens-not b t s isnt = sym (own_listens-top b t s ∙ by t isnt)
   where
     by : (t : Top) → ((r : Running) (bound : Members) (hs : List Heard) → t ≡ tops.Hearing r bound hs → ⊥) → own_listens (forked (top_node t) (nodes_of b.below)) ≡ false
@@ -140,34 +151,36 @@ listens-not b t s isnt = sym (own_listens-top b t s ∙ by t isnt)
 
 -- ---- what an instance ended in
 
--- whether a task stands around it
-none-around : (n : ℕ) (x : Bool) (f : Frame) (fs : List Frame) → n ≡ length (f ∷ fs) → x ≡ (n == 0) → x ≡ true → ⊥
-none-around n x f fs l e is = let no : x ≡ false = e ∙ ap (λ m. m == 0) l ∙ eqb-suc-zero (length fs) in cc
-
-some-around : (n : ℕ) (x : Bool) → n ≡ 0 → x ≡ (n == 0) → x ≡ false → ⊥
-some-around n x l e isnt = let yes : x ≡ true = e ∙ ap (λ m. m == 0) l in cc
-
 abbrev ended_as : List Frame → Top → Nodes → Node
 ended_as fs t ns = plug fs (forked (top_node t) ns)
 
-ended-at : (b : Branch Layer) (t : Top) → t ≡ top_of b.frames → node_of b ≡ ended_as (frames_of b.frames) t (nodes_of b.below)
+ended-at : (b : Branch Stand) (t : Top) → t ≡ top_of b.frames → node_of b ≡ ended_as (frames_of b.frames) t (nodes_of b.below)
 ended-at b t s = ap (λ x. ended_as (frames_of b.frames) x (nodes_of b.below)) (sym s)
 
-pub output-some : (b : Branch Layer) (t : Top) (w : Value) (d : Flow) (n : ℕ) (x : Bool) → t ≡ top_of b.frames → t ≡ tops.Done w d → n ≡ length (frames_of b.frames) → x ≡ (n == 0) → x ≡ true → Some w ≡ output_in (node_of b)
-output-some b t w d n x s e l h is = sym (ap output_in (ended-at b t s ∙ ap (λ y. ended_as (frames_of b.frames) y (nodes_of b.below)) e) ∙ by (frames_of b.frames) l)
-  where
-    by : (fs : List Frame) → n ≡ length fs → output_in (ended_as fs (tops.Done w d) (nodes_of b.below)) ≡ Some w
-    by [] l = refl
-    by (f ∷ fs) l = absurd (none-around n x f fs l h is)
+-- a strand that holds this
+ended-on : (b : Branch Stand) (h : Stand) → b.frames ≡ h ∷ [] → node_of b ≡ ended_as (inward h.around) h.top (nodes_of b.below)
+ended-on b h e = ap (λ ls. ended_as (frames_of ls) (top_of ls) (nodes_of b.below)) e
 
-pub output-around : (b : Branch Layer) (n : ℕ) (x : Bool) → n ≡ length (frames_of b.frames) → x ≡ (n == 0) → x ≡ false → None ≡ output_in (node_of b)
-output-around b n x l h isnt = by (frames_of b.frames) l
+-- with a task around it
+some-around : (fs : List Frame) → is_empty fs ≡ false → (f : Frame) × ((gs : List Frame) × (inward fs ≡ f ∷ gs))
+some-around [] e = cc
+some-around (f ∷ fs) e = by (inward fs)
   where
-    by : (fs : List Frame) → n ≡ length fs → None ≡ output_in (ended_as fs (top_of b.frames) (nodes_of b.below))
-    by [] l = absurd (some-around n x l h isnt)
-    by (f ∷ fs) l = refl
+    by : (gs : List Frame) → (g : Frame) × ((hs : List Frame) × (gs ++ f ∷ [] ≡ g ∷ hs))
+    by [] = (f, ([], refl))
+    by (g ∷ gs) = (g, (gs ++ f ∷ [], refl))
 
-pub output-none : (b : Branch Layer) (t : Top) → t ≡ top_of b.frames → ((w : Value) (d : Flow) → t ≡ tops.Done w d → ⊥) → None ≡ output_in (node_of b)
+none-around : (fs : List Frame) → is_empty fs ≡ true → inward fs ≡ []
+none-around [] e = refl
+none-around (f ∷ fs) e = cc
+
+pub output-some : (b : Branch Stand) (h : Stand) (w : Value) (d : Flow) (x : Bool) → b.frames ≡ h ∷ [] → h.top ≡ tops.Done w d → x ≡ is_empty h.around → x ≡ true → Some w ≡ output_in (node_of b)
+output-some b h w d x on e l is = sym (ap output_in (ended-on b h on ∙ (λ i. ended_as (none-around h.around (sym l ∙ is) i) (e i) (nodes_of b.below))))
+
+pub output-around : (b : Branch Stand) (h : Stand) (x : Bool) → b.frames ≡ h ∷ [] → x ≡ is_empty h.around → x ≡ false → None ≡ output_in (node_of b)
+output-around b h x on l isnt = let s = some-around h.around (sym l ∙ isnt) in sym (ap output_in (ended-on b h on ∙ ap (λ fs. ended_as fs h.top (nodes_of b.below)) s.1.1))
+
+pub output-none : (b : Branch Stand) (t : Top) → t ≡ top_of b.frames → ((w : Value) (d : Flow) → t ≡ tops.Done w d → ⊥) → None ≡ output_in (node_of b)
 output-none b t s isnt = sym (ap output_in (ended-at b t s) ∙ by (frames_of b.frames) t isnt)
   where
     by : (fs : List Frame) (t : Top) → ((w : Value) (d : Flow) → t ≡ tops.Done w d → ⊥) → output_in (ended_as fs t (nodes_of b.below)) ≡ None
@@ -179,21 +192,13 @@ output-none b t s isnt = sym (ap output_in (ended-at b t s) ∙ by (frames_of b.
     by [] (tops.Hearing r bound hs) isnt = refl
     by [] (tops.Forked r) isnt = refl
 
-pub problem-some : (b : Branch Layer) (t : Top) (p : Problem) (n : ℕ) (x : Bool) → t ≡ top_of b.frames → t ≡ tops.Fault p → n ≡ length (frames_of b.frames) → x ≡ (n == 0) → x ≡ true → Some p ≡ problem_in (node_of b)
-problem-some b t p n x s e l h is = sym (ap problem_in (ended-at b t s ∙ ap (λ y. ended_as (frames_of b.frames) y (nodes_of b.below)) e) ∙ by (frames_of b.frames) l)
-  where
-    by : (fs : List Frame) → n ≡ length fs → problem_in (ended_as fs (tops.Fault p) (nodes_of b.below)) ≡ Some p
-    by [] l = refl
-    by (f ∷ fs) l = absurd (none-around n x f fs l h is)
+pub problem-some : (b : Branch Stand) (h : Stand) (p : Problem) (x : Bool) → b.frames ≡ h ∷ [] → h.top ≡ tops.Fault p → x ≡ is_empty h.around → x ≡ true → Some p ≡ problem_in (node_of b)
+problem-some b h p x on e l is = sym (ap problem_in (ended-on b h on ∙ (λ i. ended_as (none-around h.around (sym l ∙ is) i) (e i) (nodes_of b.below))))
 
-pub problem-around : (b : Branch Layer) (n : ℕ) (x : Bool) → n ≡ length (frames_of b.frames) → x ≡ (n == 0) → x ≡ false → None ≡ problem_in (node_of b)
-problem-around b n x l h isnt = by (frames_of b.frames) l
-  where
-    by : (fs : List Frame) → n ≡ length fs → None ≡ problem_in (ended_as fs (top_of b.frames) (nodes_of b.below))
-    by [] l = absurd (some-around n x l h isnt)
-    by (f ∷ fs) l = refl
+pub problem-around : (b : Branch Stand) (h : Stand) (x : Bool) → b.frames ≡ h ∷ [] → x ≡ is_empty h.around → x ≡ false → None ≡ problem_in (node_of b)
+problem-around b h x on l isnt = let s = some-around h.around (sym l ∙ isnt) in sym (ap problem_in (ended-on b h on ∙ ap (λ fs. ended_as fs h.top (nodes_of b.below)) s.1.1))
 
-pub problem-none : (b : Branch Layer) (t : Top) → t ≡ top_of b.frames → ((p : Problem) → t ≡ tops.Fault p → ⊥) → None ≡ problem_in (node_of b)
+pub problem-none : (b : Branch Stand) (t : Top) → t ≡ top_of b.frames → ((p : Problem) → t ≡ tops.Fault p → ⊥) → None ≡ problem_in (node_of b)
 problem-none b t s isnt = sym (ap problem_in (ended-at b t s) ∙ by (frames_of b.frames) t isnt)
   where
     by : (fs : List Frame) (t : Top) → ((p : Problem) → t ≡ tops.Fault p → ⊥) → problem_in (ended_as fs t (nodes_of b.below)) ≡ None

@@ -1,28 +1,54 @@
 -- Which tasks stand around the part that takes a step, and what they become.
-use Rattle.std.specs.Prelude.{◌≡◌, List, [], ◌∷◌, ◌++◌, Option, Some, None}
+use Rattle.std.specs.Prelude.{◌≡◌, List, [], ◌∷◌, Option, Some, None, Result}
 use Rattle.swf_value.specs.Value.{Value}
 use Rattle.swf_document.specs.declared.error.Problem.{Problem}
-use Rattle.swf_meaning.specs.Complete.{Stepped}
+use Rattle.swf_meaning.specs.Complete.{Stepped, step_of}
 use Rattle.swf_meaning.specs.Local.{local}
 use Rattle.swf_meaning.specs.Node.{Node, Fresh, Live, Done, Fault}
 use Rattle.swf_meaning.specs.Line.{Line, Site}
-use Rattle.swf_stack.specs.Stack.{plug, top_node}
+use Rattle.swf_scene.specs.Halts.{Makes}
+use Rattle.swf_scene.specs.declared.halt.Halt.{Halt}
+use Rattle.swf_stack.specs.Stack.{plug, seen_in, top_node}
+use Rattle.swf_stack.specs.Stands.{inward}
 use Rattle.swf_stack.specs.declared.made.Frame.{Frame}
+use Rattle.swf_stack.specs.declared.made.Made.{Made}
+use Rattle.swf_stack.specs.declared.made.Stand.{Stand}
 use Rattle.swf_stack.specs.declared.made.Top.{Top}
 use Rattle.swf_stack.specs.declared.made.Top.TheVariants as tops
 
--- the tasks around: all where the innermost has not begun or waits, and else all but the last
-abbrev pub AreAround : List Frame → Top → List Frame → Type 0
-AreAround fs (tops.Done w g) os = (f : Frame) × (fs ≡ os ++ f ∷ [])
-AreAround fs (tops.Fault p) os = (f : Frame) × (fs ≡ os ++ f ∷ [])
-AreAround fs t os = fs ≡ os
+-- those behind the innermost
+abbrev pub behind : List Frame → List Frame
+behind [] = []
+behind (f ∷ fs) = fs
+
+-- of running tasks, the innermost first, those around the part that takes a step: all where that has not begun or waits, and else all
+-- but the innermost
+abbrev pub outer : Top → List Frame → List Frame
+outer (tops.Fresh t v) fs = fs
+outer (tops.Done w g) fs = behind fs
+outer (tops.Fault p) fs = behind fs
+outer (tops.Waiting r n m) fs = fs
+outer (tops.Hearing r bound hs) fs = fs
+outer (tops.Forked r) fs = fs
 
 -- a step with these tasks around it
 abbrev pub put_in : List Frame → Stepped → Stepped
 put_in os m = record m { node = plug os m.node }
 
-abbrev pub IsStep : Site → Line → List Frame → Top → Stepped → Type 0
-IsStep s l fs t m = (os : List Frame) → AreAround fs t os → local s l [] (plug fs (top_node t)) ≡ Some (put_in os m)
+-- what stands on a strand alone
+abbrev pub own_node : Stand → Node
+own_node h = plug (inward h.around) (top_node h.top)
+
+abbrev pub IsStep : Site → Line → Stand → Stepped → Type 0
+IsStep s l h m = local s l [] (own_node h) ≡ Some (put_in (inward (outer h.top h.around)) m)
+
+-- what stands innermost goes by that line, where the strand goes by this one
+abbrev pub IsSeen : Line → Line → Stand → Type 0
+IsSeen l z h = z ≡ seen_in l (inward (outer h.top h.around))
+
+-- a rule gives this by that line, and makes the step
+abbrev pub IsRuled : Site → Line → Line → Stand → Result Made Halt → Type 0
+IsRuled s l z h given = (g : Result Stepped Problem) × (Makes g given × (local s l [] (own_node h) ≡ Some (put_in (inward (outer h.top h.around)) (step_of z g))))
 
 -- the output of an instance that is done
 abbrev pub output_in : Node → Option Value

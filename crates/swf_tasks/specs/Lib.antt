@@ -1,6 +1,5 @@
 pub mod Installed
 pub mod Stepped
-pub mod Offers
 pub mod Views
 pub mod Taken
 pub mod Prepares

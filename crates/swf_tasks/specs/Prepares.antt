@@ -1,45 +1,59 @@
 -- A step that was prepared, and what it makes of the instance.
-use Rattle.std.specs.Prelude.{◌≡◌, ◌||◌, ◌==◌, ◌≤◌, ℕ, List, Bool, true, false, length, take, Option, Some, None, option_map}
-use Rattle.std.specs.List.{list_any}
+use Rattle.std.specs.Prelude.{◌≡◌, ◌≤◌, ℕ, List, Bool, true, false, length, take, Some, option_map}
+use Rattle.swf_meaning.specs.Documents.{Loaded}
 use Rattle.swf_meaning.specs.Node.{Node}
-use Rattle.swf_meaning.specs.Wake.{waits}
 use Rattle.swf_meaning.specs.World.{Instance, step_at}
-use Rattle.swf_strands.specs.Forks.{layers_node}
-use Rattle.swf_strands.specs.Strands.{IsStack, made_layers}
-use Rattle.swf_tasks.specs.Taken.{taken}
+use Rattle.swf_stack.specs.declared.made.Top.{Top}
+use Rattle.swf_stack.specs.declared.made.Top.TheVariants as tops
+use Rattle.swf_strands.specs.Forks.{stand_node}
+use Rattle.swf_strands.specs.Strands.{IsGrown, made_stand, root_node}
 use Rattle.swf_strands.specs.Ways.{has_strand, replaced}
-use Rattle.swf_tasks.specs.declared.machine.Part.{Part}
-use Rattle.swf_tasks.specs.declared.machine.Prepared.{Prepared}
-use Rattle.swf_tasks.specs.declared.machine.Step.{Step}
-use Rattle.swf_tasks.specs.declared.machine.Step.TheVariants as steps
+use Rattle.swf_tasks.specs.Taken.{taken}
+use Rattle.swf_tasks.specs.declared.prepared.Prepared.{Prepared}
+use Rattle.swf_tasks.specs.declared.prepared.Strands.{Strands}
+use Rattle.swf_tasks.specs.declared.prepared.Strands.TheVariants as strands
 
--- the strand that a part puts anew
-abbrev pub changed : Part → List ℕ
-changed p = take p.depth p.strand
+-- the tree after the step of that strand
+abbrev pub node_after : Strands → List ℕ → Node → Node
+node_after (strands.One d h) bs n = replaced (take d bs) (stand_node h) n
+node_after (strands.All f) bs n = root_node f.strands
 
-abbrev pub applied : Step → Instance → Instance
-applied (steps.Whole m) i = m
-applied (steps.Part p) i = record i { node = replaced (changed p) (layers_node p.layers.items) i.node; context = p.context; number = p.number }
+-- the same, with all branches of a `fork` that begins on a strand that is put anew
+abbrev pub begun_after : Strands → List ℕ → Node → Node
+begun_after (strands.One d h) bs n = replaced (take d bs) (made_stand h) n
+begun_after (strands.All f) bs n = root_node f.strands
 
--- the instance is the one that the step was prepared for, or has that strand
-abbrev pub Fits : Step → Instance → Type 0
-Fits (steps.Whole m) i = m.id ≡ i.id
-Fits (steps.Part p) i = (p.depth ≤ length p.strand) × IsStack p.layers.items × (has_strand (changed p) i.node ≡ true)
+abbrev pub applied : Prepared → Instance → Instance
+applied p i = record i { node = node_after p.strands p.strand i.node; context = p.context; number = p.number }
 
--- the step puts the strand of a part anew, with all branches of a `fork` that begins there
-pub record Puts (s : Step) (p : Part) (i : Instance) : Type 0 where
-  pub fits : Fits s i
-  pub becomes : applied s i ≡ record i { node = replaced (changed p) (made_layers p.layers.items) i.node; context = p.context; number = p.number }
+-- a task that listens stands innermost
+abbrev pub listens : Top → Bool
+listens (tops.Fresh t v) = false
+listens (tops.Done w f) = false
+listens (tops.Fault p) = false
+listens (tops.Waiting r n until) = false
+listens (tops.Hearing r bound hs) = true
+listens (tops.Forked r) = false
 
-abbrev pub waits_for : ℕ → Node → Bool
-waits_for m n = list_any (λ k. m == k) (waits n)
+-- a strand may listen that is put anew
+abbrev pub may_listen : Strands → Bool
+may_listen (strands.One d h) = listens h.top
+may_listen (strands.All f) = true
 
-abbrev pub is_at : ℕ → Option ℕ → Bool
-is_at m None = false
-is_at m (Some k) = m == k
+-- the tree has the strand that is put anew
+abbrev pub fits : Strands → List ℕ → Node → Type 0
+fits (strands.One d h) bs n = (d ≤ length bs) × (has_strand (take d bs) n ≡ true)
+fits (strands.All f) bs n = IsGrown f.strands
 
--- the step is that of the strand, and no other moment is waited for than before and the new one
-pub record IsPrepared (now : ℕ) (bs : List ℕ) (i : Instance) (p : Prepared) : Type 0 where
-  pub fits : Fits p.step i
-  pub step : option_map (taken i) (step_at now bs i) ≡ Some (applied p.step i, p.emitted)
-  pub waits : (m : ℕ) → waits_for m (applied p.step i).node ≡ true → (is_at m p.until || waits_for m i.node) ≡ true
+abbrev pub Fits : Prepared → Instance → Type 0
+Fits p i = fits p.strands p.strand i.node
+
+-- the branches of a `fork` that begins are among the strands
+pub record IsBegun (old : Strands) (bs : List ℕ) (n : Node) (new : Strands) : Type 0 where
+  pub fits : fits new bs n
+  pub node : node_after new bs n ≡ begun_after old bs n
+
+-- the step is that of the strand
+pub record IsPrepared (now : ℕ) (ds : List Loaded) (bs : List ℕ) (i : Instance) (p : Prepared) : Type 0 where
+  pub fits : Fits p i
+  pub step : option_map (taken i) (step_at now ds bs i) ≡ Some (applied p i, p.emitted)

@@ -11,10 +11,11 @@ ghost use Rattle.swf_scene.specs.Halts.{Makes};
 ghost use Rattle.swf_scene.specs.Setting.{line_of, site_of};
 
 use std::alloc::Global;
+use swf_catalog::{Round, TaskRef, Work};
 use swf_document::{Flow, Template};
 use swf_rules::{Rule, input_of};
 use swf_scene::{Halt, Scene, within};
-use swf_stack::{Made, Round, Running, TaskRef, Top, Work};
+use swf_stack::{Made, Running, Top};
 use swf_value::Json;
 
 // A `set` gives what its template is filled to.
@@ -68,12 +69,44 @@ fn guarded(rule: &Rule) -> Result<Made, Halt>
     let Some(condition) = running.task().cond() else {
         return begun(rule);
     };
-    let vars = within(rule.alloc, rule.scene, running)?;
-    if rule.asked(&vars, running.input(), condition)? {
+    let sight = rule.within()?;
+    if rule.asked(sight.vars(), running.input(), condition)? {
         begun(rule)
     } else {
         skipped(rule)
     }
+}
+
+// Whether a task that begins asks for variables, for its `if` or for what it does.
+fn asks(task: &TaskRef) -> bool {
+    if task.cond().is_some() {
+        return true;
+    }
+    matches!(
+        task.work(),
+        Work::Emit(_) | Work::For(_) | Work::Set(_) | Work::Switch(_)
+    )
+}
+
+// A task begins, unless its `if` is not true. Its variables are made at most once.
+fn entered<'s>(alloc: Global, scene: &'s Scene<'s>, running: &'s Running) -> Result<Made, Halt>
+    ensures { Makes (guarded (site_of scene.entry.now) (line_of scene.entry.now) running.now (common_of running.now.task).cond) result }
+{
+    if !asks(running.task()) {
+        return guarded(&Rule {
+            alloc,
+            scene,
+            running,
+            vars: None,
+        });
+    }
+    let vars = within(alloc, scene, running)?;
+    guarded(&Rule {
+        alloc,
+        scene,
+        running,
+        vars: Some(&vars),
+    })
 }
 
 /// A task that has not begun takes its step.
@@ -82,9 +115,5 @@ pub fn enter(alloc: Global, scene: &Scene, task: &TaskRef, raw: &Json) -> Result
 {
     let input = input_of(alloc, scene, task, raw)?;
     let running = Running::new(task.copy()?, raw.copy()?, input);
-    guarded(&Rule {
-        alloc,
-        scene,
-        running: &running,
-    })
+    entered(alloc, scene, &running)
 }

@@ -1,16 +1,22 @@
 //! One instance at work: its strands, which take one step after another.
 #![tactic(auto)]
 
-mod boxed;
+mod ask;
+mod crossing;
 mod enter;
 mod hear;
 mod machine;
 mod offer;
+mod prepare;
+mod prepared;
 mod step;
+mod take;
 mod view;
 
-pub use boxed::BoxedMachine;
-pub use machine::{Machine, Part, Prepared, Step, StepFault, StepResult};
-pub use swf_scene::{Site, Words};
+pub use crossing::machine_crosses;
+pub use machine::{BoxedMachine, Machine};
+pub use prepared::{Prepared, Strands};
+pub use swf_scene::Site;
 pub use swf_stack::SentEvent;
+pub use take::{StepFault, StepResult};
 pub use view::{InstanceView, Node};

@@ -1,122 +1,132 @@
 // What a step of a strand leads to, and what becomes of the forks that it ends.
-ghost use Rattle.std.specs.Prelude.{◌≡◌, ◌<◌, ◌+◌, ◌∷◌, [], ℕ, List, IfOk, Result, Some, option_map, true};
+ghost use Rattle.std.specs.Prelude.{◌≡◌, ◌<◌, ◌+◌, ◌-◌, ◌^◌, ◌∷◌, [], ℕ, List, IfOk, Result, Some, drop, option_map, true};
 ghost use Rattle.swf_frames.specs.Tree.{Branch, find};
-ghost use Rattle.swf_document.specs.declared.error.Problem.{Problem as TheProblem};
-ghost use Rattle.swf_meaning.specs.Complete.{Stepped, step_of};
-ghost use Rattle.swf_meaning.specs.Fork.{outputs, put};
+ghost use Rattle.swf_meaning.specs.Fork.{competes, outputs, put};
 ghost use Rattle.swf_meaning.specs.Line.{Line};
 ghost use Rattle.swf_meaning.specs.Strands.{can_go};
+ghost use Rattle.swf_rules.specs.Settles.{MakesSome, ending};
 ghost use Rattle.swf_scene.specs.Halts.{Makes};
-ghost use Rattle.swf_stack.specs.Layers.{frames_of, running};
-ghost use Rattle.swf_stack.specs.Stack.{plug, seen_in, stepped_of, top_node};
+ghost use Rattle.swf_stack.specs.Stands.{frames_of};
+ghost use Rattle.swf_stack.specs.Stack.{seen_in, stepped_of, top_node, used_by};
 ghost use Rattle.swf_scene.specs.Setting.{line_of, site_of};
-ghost use Rattle.swf_stack.specs.declared.made.Frame.{Frame as TheFrame};
-ghost use Rattle.swf_stack.specs.declared.made.Layer.{Layer as TheLayer};
-ghost use Rattle.swf_tasks.specs.Installed.{AreAround, IsStep};
-ghost use Rattle.swf_tasks.specs.Stepped.{IsChange, IsChangeOf, IsForkOf, ended_of, has_ended, listed, output_on};
+ghost use Rattle.swf_stack.specs.declared.made.Stand.{Stand as TheStand};
+ghost use Rattle.swf_tasks.specs.Installed.{IsRuled, IsSeen, IsStep, behind, outer, own_node};
+ghost use Rattle.swf_tasks.specs.Stepped.{IsChange, IsChangeOf, IsForkOf, ended_at, ended_in, has_ended, listed, output_of_top, output_on};
 ghost use Rattle.swf_strands.specs.Strands.{IsHeld, node_of, nodes_of};
 
 use crate::enter::enter;
 use crate::hear::listened;
+use crate::prepared::{Prepared, Strands};
 use std::alloc::{AllocError, Global};
+use swf_chain::Chain;
 use swf_frames::{Forest, StrandId};
 use swf_rules::{Rule, failed, moved_on};
 use swf_scene::{Halt, Scene};
-use swf_stack::{Layer, Made, SentEvent, Top};
-use swf_strands::{Standing, child_of, innermost, layers_of, stack_of};
+use swf_stack::{Frame, Made, Running, SentEvent, Stand, Top};
+use swf_strands::{child_of, named, stand_of};
+use swf_text::Strand;
 use swf_value::Json;
 
-/// What a step changes: what the strand holds then that so many branch numbers lead to, below which no others stand but those of
-/// a `fork` that begins; the context; and the event that goes out, where one does.
-#[derive(Drop)]
-pub struct Change {
-    pub depth: usize,
-    pub layers: Vec<Layer>,
-    pub context: Json,
-    pub emitted: Option<SentEvent>,
-}
-
-/// The step of the strand that these branch numbers lead to from this one.
-pub fn step_of(
+/// The step of a strand, told from the one that so many of its branch numbers lead to.
+pub fn step_of<'s>(
     alloc: Global,
-    forest: &Forest<Layer>,
-    strand: StrandId,
-    branches: &[u16],
-    scene: Scene,
-) -> Result<Change, AllocError>
-    requires held { IsHeld forest.now strand }
-    requires can { (b : Branch TheLayer) → find forest.now.strands strand ≡ Some b → can_go scene.now branches.now (node_of b) ≡ true }
-    ensures { IfOk result (λ c. (b : Branch TheLayer) → find forest.now.strands strand ≡ Some b → IsChange (site_of scene.entry) (line_of scene.entry) branches.now (node_of b) c) }
+    forest: &'s Forest<Stand>,
+    above: StrandId,
+    strand: &Strand,
+    depth: usize,
+    scene: Scene<'s>,
+) -> Result<Prepared, AllocError>
+    requires held { IsHeld forest.now above }
+    requires can { (b : Branch TheStand) → find forest.now.strands above ≡ Some b → can_go scene.site.now (drop depth strand.now) (node_of b) ≡ true }
+    ensures { IfOk result (λ p. (b : Branch TheStand) → find forest.now.strands above ≡ Some b → IsChange (site_of scene.entry) (line_of scene.entry) strand.now depth (drop depth strand.now) (node_of b) p) }
 {
-    let Standing { around, top } = stack_of(forest, strand);
-    let Some((number, inner)) = branches.split_first() else {
-        return own_step(alloc, scene, around, top);
-    };
-    let number = *number as usize;
-    let Some(child) = child_of(forest, strand, number) else {
+    let stand = stand_of(forest, above);
+    let numbers = strand.as_slice();
+    if depth >= numbers.len() {
+        return own_step(alloc, scene, stand, strand, depth);
+    }
+    let number = numbers[depth] as usize;
+    let Some(branch) = child_of(forest, above, number) else {
         unreachable!();
     };
-    let scene = scene.inside(alloc, around)?;
-    let change = step_of(alloc, forest, child, inner, scene.copy(alloc)?)?;
-    settle(alloc, forest, strand, number, scene, change)
+    let scene = scene.inside(alloc, &stand.around)?;
+    let prepared = step_of(alloc, forest, branch, strand, depth + 1, scene.copy(alloc)?)?;
+    settle(alloc, forest, above, depth, number, scene, prepared)
 }
 
-// The step of a branch, with what becomes of its `fork`.
-fn settle(
+// The step of a branch, with what becomes of its `fork`. A branch leaves the context as it was.
+fn settle<'s>(
     alloc: Global,
-    forest: &Forest<Layer>,
-    strand: StrandId,
+    forest: &'s Forest<Stand>,
+    above: StrandId,
+    depth: usize,
     number: usize,
-    scene: Scene,
-    change: Change,
-) -> Result<Change, AllocError>
-    requires held { IsHeld forest.now strand }
-    requires fork { (b : Branch TheLayer) → find forest.now.strands strand ≡ Some b → IsForkOf b number }
-    ensures { IfOk result (λ c. (b : Branch TheLayer) (l : Line) (inner : List ℕ) → find forest.now.strands strand ≡ Some b → line_of scene.entry ≡ seen_in l (frames_of b.frames) → IsChangeOf (site_of scene.entry) (line_of scene.entry) inner b number change → IsChange (site_of scene.entry) l (number ∷ inner) (node_of b) c) }
+    scene: Scene<'s>,
+    mut prepared: Prepared,
+) -> Result<Prepared, AllocError>
+    requires held { IsHeld forest.now above }
+    requires fork { (b : Branch TheStand) → find forest.now.strands above ≡ Some b → IsForkOf b number }
+    requires inner { depth < 2 ^ 64 - 1 }
+    ensures { IfOk result (λ p. (b : Branch TheStand) (l : Line) (way inner : List ℕ) → find forest.now.strands above ≡ Some b → line_of scene.entry ≡ seen_in l (frames_of b.frames) → IsChangeOf (site_of scene.entry) (line_of scene.entry) way (depth + 1) inner b number prepared → IsChange (site_of scene.entry) l way depth (number ∷ inner) (node_of b) p) }
 {
-    let Some(ended) = ended(&change) else {
-        return deeper(change);
+    prepared.context = scene.context.copy()?;
+    let Some(ended) = ended(&prepared.strands, depth + 1) else {
+        return Ok(prepared);
     };
-    let Standing { around, top } = stack_of(forest, strand);
+    let Stand { around, top } = stand_of(forest, above);
     let Top::Forked(running) = top else {
         unreachable!();
     };
-    let outputs = outputs_of(alloc, forest, strand, number, ended)?;
-    let scene = scene.with_context(change.context.copy()?);
+    let outputs = outputs_of(alloc, forest, above, number, ended)?;
+    let given = settled(alloc, &scene, running, ended, outputs);
+    let made = match given {
+        Ok(None) => return Ok(prepared),
+        Ok(Some(made)) => made,
+        Err(halt) => swf_rules::step_of(&scene, Err(halt))?,
+    };
+    let stand = Stand::inside(alloc, around, made.frame, made.top)?;
+    prepared.strands = Strands::One { depth, stand };
+    prepared.context = made.context;
+    Ok(prepared)
+}
+
+// What a `fork` comes to of which a branch has just ended so, and all branches have these outputs.
+fn settled<'s>(
+    alloc: Global,
+    scene: &'s Scene<'s>,
+    running: &'s Running,
+    ended: &Top,
+    all: Option<Json>,
+) -> Result<Option<Made>, Halt>
+    ensures { MakesSome (ending (line_of scene.entry.now) running.now (competes running.now.task) all ended.now) result }
+{
     let rule = Rule {
         alloc,
-        scene: &scene,
+        scene,
         running,
+        vars: None,
     };
-    let given = rule.settled(running.task().competes(), ended, outputs);
-    let made = match given {
-        Ok(None) => return deeper(change),
-        Ok(Some(made)) => made,
-        Err(halt) => made_of(&scene, Err(halt))?,
-    };
-    Ok(Change {
-        depth: 0,
-        layers: layers_of(alloc, around, made.frame, made.top)?,
-        context: made.context,
-        emitted: change.emitted,
-    })
+    rule.settled(running.task().competes(), ended, all)
 }
 
-// The same change, told from the strand above.
-fn deeper(mut change: Change) -> Result<Change, AllocError>
-    ensures { IfOk result (λ c. c ≡ record change { depth = change.depth + 1 }) }
+// What the strand ended in that so many branch numbers lead to, where it is the one that is put anew and it ended.
+fn ended(strands: &Strands, depth: usize) -> Option<&Top>
+    ensures { option_map (λ t. t.now) result ≡ ended_at depth strands.now }
 {
-    change.depth = change.depth.checked_add(1).ok_or(AllocError)?;
-    Ok(change)
-}
-
-// What the outermost strand ended in, where it did.
-fn ended(change: &Change) -> Option<&Top>
-    ensures { option_map (λ t. t.now) result ≡ ended_of change.now.depth change.now.layers.items }
-{
-    match change.layers.first() {
-        Some(Layer::Top(top)) if change.depth == 0 && has_ended(top) => Some(top),
+    match strands {
+        Strands::One { depth: at, stand } if *at == depth => ended_in(stand),
         _ => None,
+    }
+}
+
+// What a strand ended in, where it did.
+fn ended_in(stand: &Stand) -> Option<&Top>
+    ensures { option_map (λ t. t.now) result ≡ ended_in stand.now.around stand.now.top }
+{
+    if stand.around.is_empty() && has_ended(&stand.top) {
+        Some(&stand.top)
+    } else {
+        None
     }
 }
 
@@ -126,35 +136,45 @@ fn has_ended(top: &Top) -> bool
     matches!(top, Top::Done { .. } | Top::Fault(_))
 }
 
-// The output of what ended on a strand, where nothing stands around it.
-fn output_of<'a>(around: &[Layer], top: &'a Top) -> Option<&'a Json>
-    ensures { option_map (λ w. w.now) result ≡ output_on around.now top.now }
+// The output of what ended.
+fn output_of(top: &Top) -> Option<&Json>
+    ensures { option_map (λ w. w.now) result ≡ output_of_top top.now }
 {
     match top {
-        Top::Done { output, .. } if around.is_empty() => Some(output),
+        Top::Done { output, .. } => Some(output),
         _ => None,
+    }
+}
+
+// The output of what ended on a strand, where nothing stands around it.
+fn output_on(stand: &Stand) -> Option<&Json>
+    ensures { option_map (λ w. w.now) result ≡ output_on stand.now.around stand.now.top }
+{
+    if stand.around.is_empty() {
+        output_of(&stand.top)
+    } else {
+        None
     }
 }
 
 // The outputs of all branches of a strand, of which that one has just ended, once all are done.
 fn outputs_of(
     alloc: Global,
-    forest: &Forest<Layer>,
+    forest: &Forest<Stand>,
     strand: StrandId,
     number: usize,
     ended: &Top,
 ) -> Result<Option<Json>, AllocError>
     requires held { IsHeld forest.now strand }
-    ensures { IfOk result (λ o. (b : Branch TheLayer) → find forest.now.strands strand ≡ Some b → o ≡ option_map listed (outputs (put (nodes_of b.below) number (top_node ended.now)))) }
+    ensures { IfOk result (λ o. (b : Branch TheStand) → find forest.now.strands strand ≡ Some b → o ≡ option_map listed (outputs (put (nodes_of b.below) number (top_node ended.now)))) }
 {
     let mut outputs = Vec::new(alloc);
     let mut next = 0;
     while let Some(branch) = child_of(forest, strand, next) {
-        let Standing { around, top } = stack_of(forest, branch);
         let output = if next == number {
-            output_of(&[], ended)
+            output_of(ended)
         } else {
-            output_of(around, top)
+            output_on(stand_of(forest, branch))
         };
         let Some(output) = output else {
             return Ok(None);
@@ -165,38 +185,68 @@ fn outputs_of(
     Ok(Some(Json::list(alloc, outputs)?))
 }
 
-// What stands innermost on a strand takes its step.
-fn own_step(alloc: Global, scene: Scene, around: &[Layer], top: &Top) -> Result<Change, AllocError>
-    requires { (fs : List TheFrame) × ((around.now ≡ running fs) × (can_go scene.now [] (plug fs (top_node top.now)) ≡ true)) }
-    ensures { IfOk result (λ c. (fs : List TheFrame) → around.now ≡ running fs → IsChange (site_of scene.entry) (line_of scene.entry) [] (plug fs (top_node top.now)) c) }
+// What stands innermost on a strand takes its step, to which so many of these branch numbers lead.
+fn own_step<'s>(
+    alloc: Global,
+    scene: Scene<'s>,
+    stand: &'s Stand,
+    strand: &Strand,
+    depth: usize,
+) -> Result<Prepared, AllocError>
+    requires { can_go scene.site.now [] (own_node stand.now) ≡ true }
+    ensures { IfOk result (λ p. IsChange (site_of scene.entry) (line_of scene.entry) strand.now depth [] (own_node stand.now) p) }
 {
-    let made = next_of(alloc, scene, around, top)?;
-    Ok(Change {
-        depth: 0,
-        layers: layers_of(alloc, outer_of(around, top), made.frame, made.top)?,
+    let number = scene.setting.number;
+    let made = next_of(alloc, scene, stand)?;
+    let number = number_after(number, &made.emitted)?;
+    let strand = named(alloc, strand.as_slice())?;
+    let stand = Stand::inside(alloc, outer_of(stand), made.frame, made.top)?;
+    Ok(Prepared {
+        strand,
+        strands: Strands::One { depth, stand },
         context: made.context,
+        number,
         emitted: made.emitted,
     })
 }
 
-// The tasks that still run around what a step puts anew.
-fn outer_of<'a>(around: &'a [Layer], top: &Top) -> &'a [Layer]
-    ensures { (fs os : List TheFrame) → around.now ≡ running fs → AreAround fs top.now os → result.now ≡ running os }
+// The number of the next event, where this one goes out. There is none behind the greatest.
+fn number_after(number: u64, emitted: &Option<SentEvent>) -> Result<u64, AllocError>
+    ensures { IfOk result (λ n. n ≡ number + used_by emitted.now) }
 {
-    match around.split_last() {
-        Some((_, outer)) if has_ended(top) => outer,
-        _ => around,
+    match emitted {
+        None => Ok(number),
+        Some(_) => number.checked_add(1).ok_or(AllocError),
+    }
+}
+
+// The tasks that still run around what a step puts anew.
+fn outer_of(stand: &Stand) -> &Chain<Frame>
+    ensures { result.now ≡ outer stand.now.top stand.now.around }
+{
+    match stand.around.split_first() {
+        Some((_, outer)) if has_ended(&stand.top) => outer,
+        _ => &stand.around,
     }
 }
 
 // What the step makes of what stands innermost.
-fn next_of(alloc: Global, scene: Scene, around: &[Layer], top: &Top) -> Result<Made, AllocError>
-    requires { (fs : List TheFrame) × ((around.now ≡ running fs) × (can_go scene.now [] (plug fs (top_node top.now)) ≡ true)) }
-    ensures { IfOk result (λ m. (fs : List TheFrame) → around.now ≡ running fs → IsStep (site_of scene.entry) (line_of scene.entry) fs top.now (stepped_of m)) }
+fn next_of<'s>(alloc: Global, scene: Scene<'s>, stand: &'s Stand) -> Result<Made, AllocError>
+    requires { can_go scene.site.now [] (own_node stand.now) ≡ true }
+    ensures { IfOk result (λ m. IsStep (site_of scene.entry) (line_of scene.entry) stand.now (stepped_of m)) }
 {
-    let scene = scene.inside(alloc, outer_of(around, top))?;
-    let given = match top {
-        Top::Fresh { task, raw } => enter(alloc, &scene, task, raw),
+    let scene = scene.inside(alloc, outer_of(stand))?;
+    let given = ruled(alloc, &scene, stand);
+    swf_rules::step_of(&scene, given)
+}
+
+// What the rule gives that applies to what stands innermost.
+fn ruled<'s>(alloc: Global, scene: &'s Scene<'s>, stand: &'s Stand) -> Result<Made, Halt>
+    requires { can_go scene.now.site.now [] (own_node stand.now) ≡ true }
+    ensures { (l : Line) → IsSeen l (line_of scene.entry.now) stand.now → IsRuled (site_of scene.entry.now) l (line_of scene.entry.now) stand.now result }
+{
+    match &stand.top {
+        Top::Fresh { task, raw } => enter(alloc, scene, task, raw),
         Top::Waiting {
             running,
             retries,
@@ -204,44 +254,34 @@ fn next_of(alloc: Global, scene: Scene, around: &[Layer], top: &Top) -> Result<M
         } => {
             let rule = Rule {
                 alloc,
-                scene: &scene,
+                scene,
                 running,
+                vars: None,
             };
             rule.woken(*retries)
         }
         Top::Hearing { running, heard, .. } => {
             let rule = Rule {
                 alloc,
-                scene: &scene,
+                scene,
                 running,
+                vars: None,
             };
             listened(&rule, heard.as_slice())
         }
         Top::Forked(_) => unreachable!(),
-        Top::Done { output, flow } => {
-            let (frame, _) = innermost(around);
-            moved_on(alloc, &scene, frame, output, flow)
-        }
-        Top::Fault(problem) => {
-            let (frame, _) = innermost(around);
-            failed(alloc, &scene, frame, problem)
-        }
-    };
-    made_of(&scene, given)
+        Top::Done { output, flow } => moved_on(alloc, scene, innermost(stand), output, flow),
+        Top::Fault(problem) => failed(alloc, scene, innermost(stand), problem),
+    }
 }
 
-// What a rule gives, an error included.
-fn made_of(scene: &Scene, given: Result<Made, Halt>) -> Result<Made, AllocError>
-    ensures { IfOk result (λ m. (g : Result Stepped TheProblem) → Makes g given → stepped_of m ≡ step_of (line_of scene.entry.now) g) }
+// The task that runs innermost.
+fn innermost(stand: &Stand) -> &Frame
+    requires { stand.now.around ≡ [] → ⊥ }
+    ensures { stand.now.around ≡ result.now ∷ behind stand.now.around }
 {
-    match given {
-        Ok(made) => Ok(made),
-        Err(Halt::Fault(problem)) => Ok(Made {
-            frame: None,
-            top: Top::Fault(problem),
-            context: scene.context.copy()?,
-            emitted: None,
-        }),
-        Err(Halt::OutOfMemory) => Err(AllocError),
-    }
+    let Some((frame, _)) = stand.around.split_first() else {
+        unreachable!();
+    };
+    frame
 }

@@ -6,14 +6,14 @@ use std::marker::Model;
 use swf_document::DocKey;
 use swf_duration::Moment;
 use swf_frames::Forest;
-use swf_stack::Layer;
+use swf_stack::Stand;
 use swf_text::Text;
 use swf_value::Json;
 
 /// The tree of an instance, as its strands. Contracts see it as the node of the definitions.
 #[derive(Drop)]
 pub struct Node {
-    strands: Forest<Layer>,
+    strands: Forest<Stand>,
 }
 
 /// What an instance is, with the key of its document.
@@ -43,7 +43,7 @@ impl Model for Node {
 
 impl Node {
     /// The tree of these strands.
-    pub fn of(strands: Forest<Layer>) -> Node
+    pub fn of(strands: Forest<Stand>) -> Node
         ensures { result ≡ root_node strands.strands }
     {
         Node { strands }
@@ -51,7 +51,7 @@ impl Node {
 
     /// On each strand the tasks that run, and at the top what stands innermost; the branches of a `fork` are the strands below its
     /// own.
-    pub fn strands(&self) -> &Forest<Layer>
+    pub fn strands(&self) -> &Forest<Stand>
         ensures { root_node result.now.strands ≡ self.now }
     {
         &self.strands

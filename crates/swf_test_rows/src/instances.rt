@@ -2,9 +2,10 @@
 use crate::{orders, values};
 use std::alloc::{AllocError, Global};
 use std::io;
+use swf_catalog::Documents;
 use swf_duration::Moment;
 use swf_frames::{CopyFrame, Forest, StrandId};
-use swf_tasks::{InstanceView, Machine, Site, Words};
+use swf_tasks::{InstanceView, Machine, Site};
 use swf_test_tables::{no_meaning, number_of, split};
 use swf_text::Strand;
 
@@ -79,7 +80,7 @@ fn seen(alloc: Global, view: &InstanceView) -> io::Result<String> {
 }
 
 // How many steps an instance takes on its root strand with that fuel, and its output.
-fn advanced(alloc: Global, machine: &mut Machine, fuel: u32, site: &Site) -> io::Result<String> {
+fn advanced(alloc: Global, machine: &mut Machine, fuel: u32, site: Site<'_>) -> io::Result<String> {
     let steps = machine.advance(alloc, &Strand::root(alloc), fuel, site)?;
     let output = orders::output_of(alloc, machine)?;
     Ok(format!(in alloc; "{steps} steps, output {output}")?)
@@ -92,7 +93,7 @@ fn viewed(alloc: Global, machine: &Machine) -> io::Result<String> {
 }
 
 // Both, in this order.
-fn told_of(alloc: Global, machine: &mut Machine, fuel: u32, site: &Site) -> io::Result<String> {
+fn told_of(alloc: Global, machine: &mut Machine, fuel: u32, site: Site<'_>) -> io::Result<String> {
     let advanced = advanced(alloc, machine, fuel, site)?;
     let seen = viewed(alloc, machine)?;
     Ok(format!(in alloc; "{advanced}; {seen}")?)
@@ -100,13 +101,14 @@ fn told_of(alloc: Global, machine: &mut Machine, fuel: u32, site: &Site) -> io::
 
 // What an instance of these tasks comes to with that fuel.
 fn advance_by(alloc: Global, fuel: u32, tasks: &str) -> io::Result<String> {
-    let words = Words::new(alloc)?;
+    let now = Moment::new(7);
+    let mut machine = orders::begun(alloc, tasks, now)?;
+    let documents = Documents::new(alloc);
     let site = Site {
-        now: Moment::new(7),
-        words: &words,
+        now,
+        documents: &documents,
     };
-    let mut machine = orders::begun(alloc, tasks, &site)?;
-    told_of(alloc, &mut machine, fuel, &site)
+    told_of(alloc, &mut machine, fuel, site)
 }
 
 // A row has the fuel, and the tasks of a workflow.

@@ -3,11 +3,12 @@
 use crate::values;
 use std::alloc::Global;
 use std::io;
+use swf_catalog::{Documents, SharedDocument, share_document};
 use swf_duration::Moment;
-use swf_tasks::{Machine, Site, Words};
+use swf_tasks::{Machine, Site};
 use swf_test_tables::{add_line, add_outcome, no_meaning, split};
 use swf_text::{Strand, Text};
-use swf_validate::{Accepted, accept};
+use swf_validate::accept;
 use swf_value::{Json, read_json};
 
 /// How many steps an order may have.
@@ -34,14 +35,14 @@ impl Outcome {
 }
 
 // The workflow of these tasks.
-fn document_of(alloc: Global, tasks: &str) -> io::Result<Accepted> {
+fn document_of(alloc: Global, tasks: &str) -> io::Result<SharedDocument> {
     let head = "{\"dsl\":\"1.0.0\",\"namespace\":\"t\",\"name\":\"a\",\"version\":\"1.0.0\"}";
     let text = format!(in alloc; "{{\"document\":{head},\"do\":{tasks}}}")?;
     let Ok(value) = read_json(alloc, text.as_str().as_bytes()) else {
         return Err(no_meaning());
     };
     match accept(alloc, &value) {
-        Ok(document) => Ok(document),
+        Ok(document) => Ok(share_document(alloc, document.shared()?)?),
         Err(_) => Err(no_meaning()),
     }
 }
@@ -55,7 +56,12 @@ pub(crate) fn output_of(alloc: Global, machine: &Machine) -> io::Result<String> 
 }
 
 // What an instance is after the step of a strand.
-fn stepped(alloc: Global, machine: &Machine, strand: &Strand, site: &Site) -> io::Result<Machine> {
+fn stepped(
+    alloc: Global,
+    machine: &Machine,
+    strand: &Strand,
+    site: Site<'_>,
+) -> io::Result<Machine> {
     let mut next = machine.copy(alloc)?;
     match next.step(alloc, strand, site) {
         Ok(_) => Ok(next),
@@ -67,7 +73,7 @@ fn stepped(alloc: Global, machine: &Machine, strand: &Strand, site: &Site) -> io
 fn push_steps(
     alloc: Global,
     machine: &Machine,
-    site: &Site,
+    site: Site<'_>,
     next: &mut Vec<Machine>,
 ) -> io::Result<()> {
     let strands = machine.strands(alloc)?;
@@ -83,7 +89,7 @@ fn push_steps(
 fn stepped_all(
     alloc: Global,
     machines: &[Machine],
-    site: &Site,
+    site: Site<'_>,
     outcome: &mut Outcome,
 ) -> io::Result<Vec<Machine>> {
     let mut next = Vec::new(alloc);
@@ -98,7 +104,7 @@ fn stepped_all(
 }
 
 // Takes the steps of an instance in every order.
-fn explored(alloc: Global, machine: Machine, site: &Site) -> io::Result<Outcome> {
+fn explored(alloc: Global, machine: Machine, site: Site<'_>) -> io::Result<Outcome> {
     let mut outcome = Outcome {
         orders: 0,
         outputs: Vec::new(alloc),
@@ -116,10 +122,10 @@ fn explored(alloc: Global, machine: Machine, site: &Site) -> io::Result<Outcome>
 }
 
 /// An instance of the workflow of these tasks, which has not begun.
-pub(crate) fn begun(alloc: Global, tasks: &str, site: &Site) -> io::Result<Machine> {
+pub(crate) fn begun(alloc: Global, tasks: &str, now: Moment) -> io::Result<Machine> {
     let id = Text::copy_of(alloc, "i")?;
     let document = document_of(alloc, tasks)?;
-    Ok(Machine::begin(alloc, id, document, Json::null(), site)?)
+    Ok(Machine::begin(alloc, id, document, Json::null(), now)?)
 }
 
 // The orders and the outputs in words.
@@ -132,19 +138,24 @@ fn text_of(alloc: Global, outcome: &Outcome) -> io::Result<String> {
 }
 
 // What every order of the steps of these tasks comes to.
-fn told(alloc: Global, tasks: &str, site: &Site) -> io::Result<String> {
-    let machine = begun(alloc, tasks, site)?;
+fn told(alloc: Global, tasks: &str, now: Moment) -> io::Result<String> {
+    let machine = begun(alloc, tasks, now)?;
+    let documents = Documents::new(alloc);
+    let site = Site {
+        now,
+        documents: &documents,
+    };
     let outcome = explored(alloc, machine, site)?;
     text_of(alloc, &outcome)
 }
 
-fn add_rows(alloc: Global, transcript: &mut Vec<u8>, rows: &str, site: &Site) -> io::Result<()> {
+fn add_rows(alloc: Global, transcript: &mut Vec<u8>, rows: &str, now: Moment) -> io::Result<()> {
     for row in rows.lines() {
         if row.starts_with('#') {
             add_line(transcript, "", row)?;
         } else {
             let (name, tasks) = split(row)?;
-            let told = told(alloc, tasks, site)?;
+            let told = told(alloc, tasks, now)?;
             add_outcome(transcript, name, told.as_str())?;
         }
     }
@@ -153,10 +164,5 @@ fn add_rows(alloc: Global, transcript: &mut Vec<u8>, rows: &str, site: &Site) ->
 
 /// Adds what comes of each row, which has a name and the tasks of a workflow. A row that begins with `#` stands as it is.
 pub(crate) fn add_orders(alloc: Global, transcript: &mut Vec<u8>, rows: &str) -> io::Result<()> {
-    let words = Words::new(alloc)?;
-    let site = Site {
-        now: Moment::new(0),
-        words: &words,
-    };
-    add_rows(alloc, transcript, rows, &site)
+    add_rows(alloc, transcript, rows, Moment::new(0))
 }

@@ -1,9 +1,8 @@
 // What comes of a whole session in which one call fails, and of a stop at any moment of it.
 use crate::session::fail;
-use crate::{Failing, Ran, run, script};
+use crate::{Failing, Ran, TestHost, run, script};
 use std::alloc::{AllocError, Global};
 use std::io;
-use swf_host::MemoryHost;
 use swf_store::{Image, MemoryStore};
 use swf_test_tables::{add_line, add_outcome};
 
@@ -58,7 +57,7 @@ fn run_whole(alloc: Global, failing: Failing) -> Result<Ran, AllocError> {
 
 // How many replies were said whole, where they are the first of these, each said to the connection that asked before the next
 // line was taken, and behind them at most a part of the next one.
-fn replies(host: &MemoryHost, wanted: &[&str]) -> usize {
+fn replies(host: &TestHost, wanted: &[&str]) -> usize {
     for (place, piece) in host.said().iter().enumerate() {
         let Some(reply) = wanted.get(place) else {
             return OTHER;
@@ -90,7 +89,7 @@ fn reached(alloc: Global, image: &Image) -> Result<usize, AllocError> {
 }
 
 // The place of the replies that were said.
-fn place_of(host: &MemoryHost) -> usize {
+fn place_of(host: &TestHost) -> usize {
     let cases = [
         [UNKNOWN, LOADED, QUIT],
         [UNKNOWN, DUPLICATE, QUIT],
@@ -149,7 +148,7 @@ fn try_stop(
 }
 
 // How many pieces had been said when so many calls were made.
-fn said_by(host: &MemoryHost, calls: u64) -> usize {
+fn said_by(host: &TestHost, calls: u64) -> usize {
     let mut count = 0usize;
     for piece in host.said() {
         if piece.calls <= calls {

@@ -16,13 +16,16 @@ use std::alloc::{AllocError, Global};
 use std::fs;
 use std::io::{self, ErrorKind};
 use swf_cli::swf_run;
-use swf_host::{Input, MemoryHost, Turn};
+use swf_host::{Input, MemoryHost, NoWork, Turn};
 use swf_store::{Image, MemoryStore};
 use swf_test_tables::add_line;
 use swf_text::Bytes;
 
 /// A line of a session that stops it and opens it again.
 const REOPEN: &str = "! reopen\n";
+
+/// A host of a program that gives no work.
+type TestHost = MemoryHost<NoWork, NoWork>;
 
 /// The numbers of the calls that fail.
 #[derive(Drop)]
@@ -46,7 +49,7 @@ impl Failing {
 #[derive(Drop)]
 struct Ran {
     status: u8,
-    host: MemoryHost,
+    host: TestHost,
 }
 
 // The words of a command line, which have commas between them.
@@ -61,7 +64,7 @@ fn words_of(alloc: Global, text: &str) -> Result<Vec<String>, AllocError> {
 }
 
 // Runs the program with these words, and answers its status.
-fn status_of(alloc: Global, words: &str, host: &mut MemoryHost) -> Result<u8, AllocError> {
+fn status_of(alloc: Global, words: &str, host: &mut TestHost) -> Result<u8, AllocError> {
     let words = words_of(alloc, words)?;
     Ok(swf_run(alloc, &words, host))
 }
@@ -72,21 +75,21 @@ fn run(
     words: &str,
     image: Image,
     failing: Failing,
-    script: Vec<Turn>,
+    script: Vec<Turn<NoWork>>,
 ) -> Result<Ran, AllocError> {
     let store = MemoryStore::new(alloc, image, failing.store);
-    let mut host = MemoryHost::new(alloc, store, script, failing.next, failing.say);
+    let mut host = TestHost::new(alloc, store, script, failing.next, failing.say);
     let status = status_of(alloc, words, &mut host)?;
     Ok(Ran { status, host })
 }
 
 // An input of a connection.
-fn ask(conn: u64, line: Vec<u8>) -> Turn {
+fn ask(conn: u64, line: Vec<u8>) -> Turn<NoWork> {
     Turn::In(Input::Ask(conn, Bytes::of(line)))
 }
 
 // A script of lines, each from a connection of its own, whose number is the line's place.
-fn script(alloc: Global, lines: &[&str]) -> Result<Vec<Turn>, AllocError> {
+fn script(alloc: Global, lines: &[&str]) -> Result<Vec<Turn<NoWork>>, AllocError> {
     let mut script = Vec::new(alloc);
     for (place, line) in lines.iter().enumerate() {
         script.push(ask(place as u64, line.as_bytes().to_vec(alloc)?))?;
@@ -109,7 +112,7 @@ fn add_status(
 }
 
 // All that a host was given to say.
-fn printed(alloc: Global, host: &MemoryHost) -> Result<Vec<u8>, AllocError> {
+fn printed(alloc: Global, host: &TestHost) -> Result<Vec<u8>, AllocError> {
     let mut printed = Vec::new(alloc);
     for piece in host.said() {
         printed.extend_from_slice(piece.bytes.as_slice())?;

@@ -10,7 +10,7 @@ use crate::{Failing, REOPEN, Ran, add_status, ask, run};
 use std::alloc::{AllocError, Global};
 use std::io;
 use swf_engine::Engine;
-use swf_host::{Input, Said, Turn};
+use swf_host::{Input, NoWork, Said, Turn};
 use swf_store::{File, Image, MemoryStore};
 use swf_test_tables::{add_line, bytes_of, no_meaning, number_of, split};
 use swf_text::Bytes;
@@ -31,7 +31,7 @@ struct Part<'a> {
     words: &'a str,
     image: Image,
     failing: Failing,
-    script: Vec<Turn>,
+    script: Vec<Turn<NoWork>>,
     shown: Vec<Shown<'a>>,
 }
 
@@ -93,7 +93,7 @@ pub(crate) fn fail(failing: &mut Failing, order: &str) -> io::Result<()> {
 }
 
 // A line of so many equal pieces.
-fn add_bytes(alloc: Global, script: &mut Vec<Turn>, order: &str) -> io::Result<()> {
+fn add_bytes(alloc: Global, script: &mut Vec<Turn<NoWork>>, order: &str) -> io::Result<()> {
     let (count, piece) = split(order)?;
     let piece = bytes_of(alloc, piece)?;
     let mut line = Vec::new(alloc);
@@ -105,7 +105,7 @@ fn add_bytes(alloc: Global, script: &mut Vec<Turn>, order: &str) -> io::Result<(
 }
 
 // A line with so many `a` in the place of an `@`.
-fn add_long(alloc: Global, script: &mut Vec<Turn>, order: &str) -> io::Result<()> {
+fn add_long(alloc: Global, script: &mut Vec<Turn<NoWork>>, order: &str) -> io::Result<()> {
     let (count, text) = split(order)?;
     let (before, after) = text.split_once('@').ok_or(no_meaning())?;
     let mut line = before.as_bytes().to_vec(alloc)?;
@@ -118,7 +118,7 @@ fn add_long(alloc: Global, script: &mut Vec<Turn>, order: &str) -> io::Result<()
 }
 
 // So many lines, each with its number in the place of an `@`.
-fn add_many(alloc: Global, script: &mut Vec<Turn>, order: &str) -> io::Result<()> {
+fn add_many(alloc: Global, script: &mut Vec<Turn<NoWork>>, order: &str) -> io::Result<()> {
     let (count, line) = split(order)?;
     let (before, after) = line.split_once('@').ok_or(no_meaning())?;
     for number in 0..number_of(count)? {

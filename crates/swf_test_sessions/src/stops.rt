@@ -1,8 +1,7 @@
 // What comes of a stop of a session at any moment: the session is given once more, over the files that were left.
-use crate::{Failing, Ran, run, script};
+use crate::{Failing, Ran, TestHost, run, script};
 use std::alloc::{AllocError, Global};
 use std::io;
-use swf_host::MemoryHost;
 use swf_store::Image;
 use swf_test_tables::add_line;
 
@@ -26,7 +25,7 @@ impl<'a> Session<'a> {
     }
 
     // Runs it over these files.
-    fn run(&self, alloc: Global, image: Image) -> Result<MemoryHost, AllocError> {
+    fn run(&self, alloc: Global, image: Image) -> Result<TestHost, AllocError> {
         Ok(run_lines(alloc, &self.lines, image)?.host)
     }
 
@@ -42,7 +41,7 @@ impl<'a> Session<'a> {
     }
 
     // Whether each status is told the same.
-    fn is_same(&self, one: &MemoryHost, other: &MemoryHost) -> bool {
+    fn is_same(&self, one: &TestHost, other: &TestHost) -> bool {
         for (place, line) in self.lines.iter().enumerate() {
             if line.starts_with("status ") && !has_same_reply(one, other, place) {
                 return false;
@@ -56,7 +55,7 @@ impl<'a> Session<'a> {
         &self,
         alloc: Global,
         image: &Image,
-        whole: &MemoryHost,
+        whole: &TestHost,
     ) -> Result<bool, AllocError> {
         let again = self.run(alloc, image.copy(alloc)?)?;
         if !self.is_same(&again, whole) {
@@ -84,7 +83,7 @@ impl<'a> Session<'a> {
     fn count_wrong(
         &self,
         alloc: Global,
-        whole: &MemoryHost,
+        whole: &TestHost,
         calls: u64,
         wrong: &mut u64,
     ) -> Result<(), AllocError> {
@@ -107,13 +106,13 @@ fn run_lines(alloc: Global, lines: &[&str], image: Image) -> Result<Ran, AllocEr
 }
 
 // A session that tells the first hundred labels of the journal that another one left.
-fn history(alloc: Global, host: &MemoryHost) -> Result<MemoryHost, AllocError> {
+fn history(alloc: Global, host: &TestHost) -> Result<TestHost, AllocError> {
     let image = host.store().image().copy(alloc)?;
     Ok(run_lines(alloc, &["history 0"], image)?.host)
 }
 
 // Whether both said the same at this place.
-fn has_same_reply(one: &MemoryHost, other: &MemoryHost, place: usize) -> bool {
+fn has_same_reply(one: &TestHost, other: &TestHost, place: usize) -> bool {
     match (one.said().get(place), other.said().get(place)) {
         (Some(one), Some(other)) => one.bytes.as_slice() == other.bytes.as_slice(),
         _ => false,

@@ -3,7 +3,7 @@
 use crate::journal::{append_frames, turns};
 use std::alloc::{AllocError, Global};
 use std::io;
-use swf_host::{Host, Input};
+use swf_host::{CopyIn, Host, Input};
 use swf_store::{Failed, File, Store};
 use swf_test_tables::{bytes_of, no_meaning, number_of, split};
 
@@ -19,6 +19,10 @@ enum Row {
     Write(File, u64, Vec<u8>),
     Sync,
     Next,
+    /// The next work.
+    Work,
+    /// Gives a job.
+    Give(Number),
     /// Some bytes to a connection.
     Say(u64, Vec<u8>),
     /// Opens the journal, and appends so many frames of this body.
@@ -74,6 +78,8 @@ fn row_of(alloc: Global, text: &str) -> io::Result<Option<Row>> {
         "write" => write_of(alloc, rest)?,
         "sync" => Row::Sync,
         "next" => Row::Next,
+        "next-work" => Row::Work,
+        "give" => Row::Give(Number(number_of(rest)?)),
         "say" => {
             let (connection, bytes) = numbered(alloc, rest)?;
             Row::Say(connection, bytes)
@@ -138,22 +144,49 @@ fn shown(alloc: Global, bytes: &[u8]) -> Result<String, AllocError> {
     }
 }
 
+/// The work of these tests: a job is a number, and so is what comes of one.
+#[derive(Clone, Copy)]
+pub(crate) struct Number(pub(crate) u64);
+
+impl CopyIn for Number {
+    fn copy(work: Option<&Number>, _alloc: Global) -> Result<Option<Number>, AllocError> {
+        Ok(work.copied())
+    }
+}
+
 // An input in words.
-fn told(alloc: Global, input: &Input) -> Result<String, AllocError> {
+fn told(alloc: Global, input: &Input<Number>) -> Result<String, AllocError> {
     match input {
         Input::Ask(connection, bytes) => {
             let bytes = shown(alloc, bytes.as_slice())?;
             format!(in alloc; "ask {connection} {bytes}")
         }
         Input::TooLong(connection) => format!(in alloc; "too-long {connection}"),
+        Input::Work(Number(number)) => format!(in alloc; "work {number}"),
+        Input::Idle => String::from_str(alloc, "idle"),
         Input::Closed => String::from_str(alloc, "closed"),
     }
 }
 
-fn next<H: Host>(alloc: Global, host: &mut H) -> Result<String, AllocError> {
-    match host.next() {
+fn next<H: Host<Number, Number>>(
+    alloc: Global,
+    host: &mut H,
+    only_work: bool,
+) -> Result<String, AllocError> {
+    match host.next(only_work) {
         Ok(input) => told(alloc, &input),
         Err(_) => String::from_str(alloc, "failed"),
+    }
+}
+
+fn give<H: Host<Number, Number>>(
+    alloc: Global,
+    host: &mut H,
+    job: Number,
+) -> Result<String, AllocError> {
+    match host.give(job) {
+        Ok(()) => String::from_str(alloc, "given"),
+        Err(Number(number)) => format!(in alloc; "handed back {number}"),
     }
 }
 
@@ -177,13 +210,19 @@ fn append<S: Store>(
 }
 
 // What a host answers to a call.
-fn answer<H: Host>(alloc: Global, host: &mut H, row: Row) -> Result<String, AllocError> {
+fn answer<H: Host<Number, Number>>(
+    alloc: Global,
+    host: &mut H,
+    row: Row,
+) -> Result<String, AllocError> {
     match row {
         Row::Size(file) => size(alloc, host, file),
         Row::Read(file, at, count) => read(alloc, host, file, at, count),
         Row::Write(file, at, bytes) => done(alloc, write(host, file, at, &bytes)),
         Row::Sync => done(alloc, host.sync()),
-        Row::Next => next(alloc, host),
+        Row::Next => next(alloc, host, false),
+        Row::Work => next(alloc, host, true),
+        Row::Give(job) => give(alloc, host, job),
         Row::Say(connection, bytes) => done(alloc, host.say(connection, &bytes)),
         Row::Append(count, body) => append(alloc, host, count, &body),
         Row::Turns => turns(alloc, host),
@@ -191,7 +230,7 @@ fn answer<H: Host>(alloc: Global, host: &mut H, row: Row) -> Result<String, Allo
 }
 
 /// What a host answers to a row, if that is a call.
-pub(crate) fn called<H: Host>(
+pub(crate) fn called<H: Host<Number, Number>>(
     alloc: Global,
     host: &mut H,
     text: &str,

@@ -173,7 +173,8 @@ impl Work {
             "synced" => Ok(format!(in alloc; "{}", self.watch.is_synced())?),
             "each-failure" => each_failure(self.rt),
             "cat" | "exists" | "mode" => look(self.rt, word, rest),
-            "size" | "read" | "write" | "sync" | "next" | "say" => self.called(row),
+            "size" | "read" | "write" | "sync" | "next" | "next-work" | "say" | "give" =>
+                self.called(row),
             _ => change(self.rt, word, rest),
         }
     }

@@ -2,6 +2,7 @@
 ghost use Rattle.std.specs.Prelude.{◌≡◌, IfOk, None, ◌<◌, length};
 ghost use Rattle.swf_journal.specs.Place.{IsJournalOf};
 
+use crate::calls::Number;
 use std::alloc::{AllocError, Global};
 use swf_host::Host;
 use swf_journal::{FrameBytes, Journal, OpenFault, begin, build};
@@ -68,7 +69,7 @@ pub(crate) fn append_frames<S: Store>(
 }
 
 // Appends a frame, and says a reply behind it to the connection 7. Answers the fault, if there was one.
-fn turn<H: Host>(
+fn turn<H: Host<Number, Number>>(
     alloc: Global,
     host: &mut H,
     journal: &mut Journal,
@@ -89,7 +90,10 @@ fn turn<H: Host>(
 
 /// Opens the journal of a host, and takes two turns over frames of the body `body`, with the replies `one` and `two`. Answers
 /// which fault there was.
-pub(crate) fn turns<H: Host>(alloc: Global, host: &mut H) -> Result<String, AllocError> {
+pub(crate) fn turns<H: Host<Number, Number>>(
+    alloc: Global,
+    host: &mut H,
+) -> Result<String, AllocError> {
     let Ok(frame) = build(alloc, b"body".as_slice()) else {
         return Err(AllocError);
     };

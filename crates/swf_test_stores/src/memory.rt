@@ -1,11 +1,11 @@
 // Blocks of rows on a host in memory: how it is made, and the rows that look at it and at what a stop may leave.
 //
-// `! journal A5` gives the bytes of its journal, `! fail store 3` has a call fail, `! ask 7 78` and `! too-long 8` are inputs.
-// `holds` is the journal as reads give it; `calls`, `inputs` and `lacks` are counts; `said` is each piece with its connection,
-// and how many inputs and calls came before. `images 3` and `frames 3` tell of each image that a stop after three calls may
+// `! journal A5` gives the bytes of its journal, `! fail store 3` has a call fail, `! ask 7 78`, `! too-long 8` and `! work 9` are inputs.
+// `holds` is the journal as reads give it; `calls`, `inputs` and `lacks` are counts; `jobs` is each job that was given; `said` is each
+// piece with its connection, and how many inputs and calls came before. `images 3` and `frames 3` tell of each image that a stop after three calls may
 // leave: its journal, and how many frames that has. `stops-again 3` opens each image that a stop after three calls or later
 // leaves, appends a frame, and opens each that a stop of this leaves.
-use crate::calls::called;
+use crate::calls::{Number, called};
 use crate::journal::{append_frames, open};
 use std::alloc::{AllocError, Global};
 use std::io;
@@ -14,6 +14,8 @@ use swf_store::{File, Image, MemoryStore};
 use swf_test_tables::{bytes_of, no_meaning, number_of, split};
 use swf_text::Bytes;
 
+type TestHost = MemoryHost<Number, Number>;
+
 /// What a host is made of.
 #[derive(Drop)]
 struct Setup {
@@ -21,7 +23,7 @@ struct Setup {
     failing_store: Vec<u64>,
     failing_next: Vec<u64>,
     failing_say: Vec<u64>,
-    script: Vec<Turn>,
+    script: Vec<Turn<Number>>,
 }
 
 impl Setup {
@@ -67,13 +69,17 @@ impl Setup {
                 let input = Input::TooLong(number_of(rest)?);
                 Ok(self.script.push(Turn::In(input))?)
             }
+            "work" => {
+                let input = Input::Work(Number(number_of(rest)?));
+                Ok(self.script.push(Turn::In(input))?)
+            }
             _ => Err(no_meaning()),
         }
     }
 }
 
 // The host that the rows of a block make.
-fn host_of(alloc: Global, block: &str) -> io::Result<MemoryHost> {
+fn host_of(alloc: Global, block: &str) -> io::Result<TestHost> {
     let mut setup = Setup::new(alloc);
     for row in block.split('\n') {
         if let Some(order) = row.strip_prefix("! ") {
@@ -98,12 +104,22 @@ fn add_piece(text: &mut String, piece: &str) -> Result<(), AllocError> {
 }
 
 // The pieces that were said.
-fn said(alloc: Global, host: &MemoryHost) -> Result<String, AllocError> {
+fn said(alloc: Global, host: &TestHost) -> Result<String, AllocError> {
     let mut all = String::new(alloc);
     for piece in host.said() {
         let bytes = hex::encode(alloc, piece.bytes.as_slice())?;
         let piece = format!(in alloc; "{} {bytes} {} {}", piece.conn, piece.inputs, piece.calls)?;
         add_piece(&mut all, piece.as_str())?;
+    }
+    Ok(all)
+}
+
+// The jobs that were given.
+fn jobs(alloc: Global, host: &TestHost) -> Result<String, AllocError> {
+    let mut all = String::new(alloc);
+    for Number(number) in host.given() {
+        let number = format!(in alloc; "{number}")?;
+        add_piece(&mut all, number.as_str())?;
     }
     Ok(all)
 }
@@ -216,13 +232,14 @@ fn count_text(alloc: Global, count: usize) -> Result<String, AllocError> {
 }
 
 // What a row tells of a host.
-fn look(alloc: Global, host: &MemoryHost, row: &str) -> io::Result<String> {
+fn look(alloc: Global, host: &TestHost, row: &str) -> io::Result<String> {
     let (word, rest) = row.split_once(' ').unwrap_or((row, ""));
     let store = host.store();
     let told = match word {
         "holds" => hex::encode(alloc, store.image().file(File::Journal))?,
         "calls" => count_text(alloc, store.calls().len())?,
         "inputs" => count_text(alloc, host.taken().len())?,
+        "jobs" => jobs(alloc, host)?,
         "lacks" => format!(in alloc; "{} {}", host.lacks(), store.lacks())?,
         "said" => said(alloc, host)?,
         "images" => images(alloc, store, number_of(rest)?)?,
@@ -233,7 +250,7 @@ fn look(alloc: Global, host: &MemoryHost, row: &str) -> io::Result<String> {
     Ok(told)
 }
 
-fn answer(alloc: Global, host: &mut MemoryHost, row: &str) -> io::Result<String> {
+fn answer(alloc: Global, host: &mut TestHost, row: &str) -> io::Result<String> {
     match called(alloc, host, row)? {
         Some(answer) => Ok(answer),
         None => look(alloc, host, row),
@@ -241,7 +258,7 @@ fn answer(alloc: Global, host: &mut MemoryHost, row: &str) -> io::Result<String>
 }
 
 // A row with what came of it, on a line of its own.
-fn add_row(alloc: Global, host: &mut MemoryHost, row: &str, all: &mut String) -> io::Result<()> {
+fn add_row(alloc: Global, host: &mut TestHost, row: &str, all: &mut String) -> io::Result<()> {
     if row.starts_with('#') || row.starts_with('!') {
         all.push_str(row)?;
         all.push_str("\n")?;
@@ -253,7 +270,7 @@ fn add_row(alloc: Global, host: &mut MemoryHost, row: &str, all: &mut String) ->
     Ok(())
 }
 
-fn add_rows(alloc: Global, host: &mut MemoryHost, block: &str, all: &mut String) -> io::Result<()> {
+fn add_rows(alloc: Global, host: &mut TestHost, block: &str, all: &mut String) -> io::Result<()> {
     for row in block.split('\n') {
         add_row(alloc, host, row, all)?;
     }

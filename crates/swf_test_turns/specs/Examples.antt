@@ -3,18 +3,22 @@ use Rattle.std.specs.Prelude.{ℕ, List, [], ◌∷◌, Some, None, codes}
 use Rattle.swf_calls.specs.declared.reply.CallReply.{CallReply}
 use Rattle.swf_store.specs.declared.said.Piece.{Piece}
 use Rattle.swf_host.specs.declared.host.Input.{Input}
-use Rattle.swf_host.specs.declared.host.Input.TheVariants.{Ask as Asks, Closed}
+use Rattle.swf_host.specs.declared.host.Input.TheVariants.{Ask as Asks, Work, Idle, Closed}
+use Rattle.swf_host.specs.declared.script.Turn.TheVariants.{In}
+use Rattle.swf_host.specs.Script.{Play, first_play}
 use Rattle.swf_meaning.specs.declared.label.Label.{Label}
 use Rattle.swf_meaning.specs.declared.label.Label.TheVariants.{Moment, Reply, Step}
 use Rattle.swf_runs.specs.Runs.{world_at, is_quiet}
 use Rattle.swf_protocol.specs.Spoken.{spoken}
 use Rattle.swf_protocol.specs.declared.reply.Reply.TheVariants.{Reached}
 use Rattle.swf_cli.specs.Turns.{Turn, settle_reply}
+use Rattle.swf_test_turns.specs.declared.work.Done.{Done}
+use Rattle.swf_test_turns.specs.declared.work.Job.{Job}
 
 abbrev pub step : Label
 step = Step (codes "i") []
 
-abbrev pub go : Input
+abbrev pub go : Input Done
 go = Asks 0 (codes "go")
 
 -- two steps, and between them what the board answered to a call
@@ -22,7 +26,7 @@ abbrev pub answered_step : List ℕ → CallReply → List Label
 answered_step call reply = step ∷ Reply call reply ∷ step ∷ []
 
 -- `go`, and then `done` twice, once from another connection
-abbrev pub settled_of_three : List ℕ → CallReply → Turn
+abbrev pub settled_of_three : List ℕ → CallReply → Turn Done
 settled_of_three call reply = record {
   first = go;
   more = Asks 0 (codes "done") ∷ Asks 1 (codes "done") ∷ [];
@@ -31,11 +35,29 @@ settled_of_three call reply = record {
   reply = Some (settle_reply (is_quiet (world_at (answered_step call reply))) 2 2);
 }
 
+-- `go`, and then what came of two jobs, and that no more comes
+abbrev pub settled_with_work : Done → Done → Turn Done
+settled_with_work a b = record {
+  first = go;
+  more = Work a ∷ Work b ∷ Idle ∷ [];
+  answers = [];
+  labels = step ∷ step ∷ [];
+  reply = Some (settle_reply (is_quiet (world_at (step ∷ step ∷ []))) 2 2);
+}
+
+-- a host in memory before the first turn of its script: `go`, and then what came of a job
+abbrev pub started : Done → Play Job Done
+started w = first_play (In go ∷ In (Work w) ∷ []) [] []
+
+-- work that no line came before
+abbrev pub early_work : Done → Turn Done
+early_work a = record { first = Work a; more = []; answers = []; labels = []; reply = None }
+
 -- three calls were answered, and the last two of the answers are used, the last one first
 abbrev pub used : List ℕ → List ℕ → CallReply → List Label
 used b c reply = Reply c reply ∷ step ∷ Reply b reply ∷ step ∷ []
 
-abbrev pub both_answers : List ℕ → List ℕ → List ℕ → CallReply → Turn
+abbrev pub both_answers : List ℕ → List ℕ → List ℕ → CallReply → Turn Done
 both_answers a b c reply = record {
   first = go;
   more = [];
@@ -45,19 +67,19 @@ both_answers a b c reply = record {
 }
 
 -- no line came, and moment 9 was told
-abbrev pub ticked : Turn
+abbrev pub ticked : Turn Done
 ticked = record { first = Closed; more = []; answers = []; labels = []; reply = None }
 
 -- a line of twelve bytes
-abbrev pub twelfth : Turn
+abbrev pub twelfth : Turn Done
 twelfth = record { first = Asks 0 (codes "twelve bytes"); more = []; answers = []; labels = Moment 9 ∷ Moment 12 ∷ []; reply = Some (Reached 1) }
 
 -- the same without the moment that was told
-abbrev pub untimely : Turn
+abbrev pub untimely : Turn Done
 untimely = record twelfth { labels = Moment 12 ∷ []; reply = Some (Reached 0) }
 
 -- a line of fifteen bytes, behind the moment
-abbrev pub fifteenth : Turn
+abbrev pub fifteenth : Turn Done
 fifteenth = record { first = Asks 0 (codes "fifteen of them"); more = []; answers = []; labels = Moment 15 ∷ []; reply = Some (Reached 2) }
 
 abbrev pub fifth : Label
@@ -67,7 +89,7 @@ abbrev pub seventh : Label
 seventh = Moment 7
 
 -- a line of five bytes from one connection, and one of seven from another
-abbrev pub both_held : List Turn
+abbrev pub both_held : List (Turn Done)
 both_held =
     (record { first = Asks 0 (codes "fifth"); more = []; answers = []; labels = fifth ∷ []; reply = Some (Reached 0) })
     ∷ (record { first = Asks 1 (codes "seventh"); more = []; answers = []; labels = seventh ∷ []; reply = Some (Reached 1) })

@@ -9,7 +9,8 @@ ghost use Rattle.swf_cli.specs.Settling.{AreSettling};
 ghost use Rattle.swf_cli.specs.Turns.{AreMore, AreTurns, inputs_of};
 ghost use Rattle.swf_cli.specs.declared.words.Words.{Words};
 ghost use Rattle.swf_test_turns.specs.Bell.{bell};
-ghost use Rattle.swf_test_turns.specs.Examples.{both_answers, both_held, early_pieces, fifteenth, fifth, go, late_pieces, settled_of_three, seventh, step, ticked, twelfth, untimely};
+ghost use Rattle.swf_test_turns.specs.declared.work.Done.{Done};
+ghost use Rattle.swf_test_turns.specs.Examples.{both_answers, both_held, early_pieces, early_work, fifteenth, fifth, go, late_pieces, settled_of_three, settled_with_work, seventh, step, ticked, twelfth, untimely};
 
 /// A turn of three inputs. Two of its three labels are steps, and between them stands what the board answered.
 pub fn three_inputs()
@@ -25,6 +26,13 @@ pub fn two_answers()
     ensures once { (call : List ℕ) (reply : CallReply) → AreSettling (Reply call reply ∷ Reply call reply ∷ []) 2 (Reply call reply ∷ []) → ⊥ }
     // Three steps are more than two, whatever was answered.
     ensures steps { (answers : List Label) → AreSettling (step ∷ step ∷ step ∷ []) 2 answers → ⊥ }
+{}
+
+/// What came of work is a later input of a turn.
+pub fn work_comes_later()
+    ensures turn { (words : Words) (a b : Done) → AreTurns bell words None [] (settled_with_work a b ∷ []) }
+    // It begins none.
+    ensures early { (words : Words) (a : Done) → AreTurns bell words None [] (early_work a ∷ []) → ⊥ }
 {}
 
 /// A moment that an input told comes before the next outcome, and not before the one after it.

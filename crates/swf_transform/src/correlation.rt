@@ -6,8 +6,9 @@ ghost use Rattle.swf_transform.specs.Filter.{bound_to, bound_got, bind, bind_all
 use crate::filling::first;
 use crate::filter::{filter_matches, is_same, no_variables};
 use crate::got::Got;
+use crate::offer::Offer;
 use std::alloc::{AllocError, Global};
-use swf_cloudevents::{Event, NamedValues, event_json};
+use swf_cloudevents::NamedValues;
 use swf_document::{Correlation, Filter};
 use swf_text::Text;
 use swf_value::{Json, JsonNode};
@@ -77,23 +78,22 @@ fn bind_all(
     Ok(Some(bound))
 }
 
-/// The bindings after an event; none where the filter does not take it.
+/// The bindings after an event that is offered; none where the filter does not take it.
 pub fn correlate(
     alloc: Global,
     filter: &Filter,
     bound: &NamedValues,
-    event: &Event,
+    offer: &Offer,
 ) -> Result<Option<NamedValues>, AllocError>
-    ensures { IfOk result (λ o. o ≡ correlated filter.now bound.now event.now) }
+    ensures { IfOk result (λ o. o ≡ correlated filter.now bound.now offer.now) }
 {
-    if !filter_matches(alloc, filter, event)? {
+    if !filter_matches(alloc, filter, offer.event())? {
         return Ok(None);
     }
-    let bound = bound.copy()?;
-    let correlations = filter.correlate.as_slice();
-    if correlations.is_empty() {
-        return Ok(Some(bound));
-    }
-    let envelope = event_json(alloc, event)?;
-    bind_all(alloc, correlations, &envelope, bound)
+    bind_all(
+        alloc,
+        filter.correlate.as_slice(),
+        offer.envelope(),
+        bound.copy()?,
+    )
 }

@@ -5,10 +5,12 @@ mod correlation;
 mod filling;
 mod filter;
 mod got;
+mod offer;
 mod telling;
 
 pub use correlation::correlate;
 pub use filling::{fill, first, is_within, transform};
 pub use filter::filter_matches;
 pub use got::Got;
+pub use offer::Offer;
 pub use telling::message;

@@ -1,6 +1,5 @@
 -- What a named task weighs, and how many there are.
-use Rattle.std.proofs.Common.{◌≡◌, ◌∙◌, ℕ, zero, suc, ◌+◌, ◌<◌, ◌≤◌, List, [], ◌∷◌, ◌++◌, drop, length, get_or, not, ap, sym, refl, append_assoc, arith}
-use Rattle.swf_document.specs.Task.{weight_task, weight_tasks}
+use Rattle.std.proofs.Common.{◌≡◌, ◌∙◌, ℕ, ◌+◌, List, [], ◌∷◌, ◌++◌, drop, length, not, ap, sym, refl, append_assoc, arith}
 use Rattle.swf_document.specs.TaskNode.{task_of, tasks_of}
 use Rattle.swf_document.specs.declared.fault.Fault.{Fault}
 use Rattle.swf_document.specs.declared.fault.FaultKind.TheVariants.{DuplicateName, FunctionCycle}
@@ -11,11 +10,6 @@ use Rattle.swf_scope.specs.Scope.{Scope, fault_unless}
 use Rattle.swf_validate.specs.Calls.{calls_of}
 use Rattle.swf_validate.specs.DocumentFaults.{functions_faults}
 use Rattle.swf_validate.specs.TaskFaults.{count_list, is_at, named_faults, place_of_task, task_faults}
-
-pub weight_named : (ns : List Named) (i : ℕ) (n : Named) → i < length ns → n ≡ get_or ns i n → weight_task (task_of n.task) ≤ weight_tasks (tasks_of ns)
-weight_named [] i n h p = absurd (omega arith)
-weight_named (x ∷ xs) zero n h p = omega (arith, ap (λ m. weight_task (task_of m.task)) p)
-weight_named (x ∷ xs) (suc i) n h p = omega (arith, weight_named xs i n (omega arith) p)
 
 pub count-tasks_of : (ns : List Named) → count_list (tasks_of ns) ≡ length ns
 count-tasks_of [] = refl

@@ -14,7 +14,7 @@ use swf_document::Document;
 use swf_reader::{ReadFault, read_document};
 use swf_value::Json;
 
-/// A document that a value is, without faults. A copy shares it. Contracts see it as the document.
+/// A document that a value is, without faults. Contracts see it as the document.
 #[derive(Drop)]
 pub struct Accepted {
     document: Arc<Document>,
@@ -55,14 +55,6 @@ impl Accepted {
         ensures { IfOk result (λ d. arc_value d ≡ self.now) }
     {
         Ok(Arc::try_clone(&self.document)?)
-    }
-
-    /// The same document once more. It copies nothing that is inside.
-    pub fn copy(&self) -> Result<Accepted, AllocError>
-        ensures { IfOk result (λ a. a ≡ self.now) }
-    {
-        let document = Arc::try_clone(&self.document)?;
-        Ok(Accepted { document })
     }
 }
 

@@ -17,9 +17,11 @@ use Rattle.swf_meaning.specs.Offer.{offered_all}
 use Rattle.swf_meaning.specs.World.{World, Instance, new_instance, step_at, with_step}
 use Rattle.swf_meaning.specs.Answer.{instance_at}
 use Rattle.swf_meaning.specs.Strands.{can_go}
-use Rattle.swf_runs.specs.After.{after, loaded, load_faults, accepted, is_used, counted, document_at, most_documents, most_instances, with_document, with_instance, with_event, with_instances, sent, taken_by}
+use Rattle.swf_meaning.specs.Documents.{document_at}
+use Rattle.swf_runs.specs.After.{after, loaded, load_faults, accepted, is_used, counted, most_documents, most_instances, with_document, with_instance, with_event, with_instances, sent, taken_by}
 use Rattle.swf_tasks.specs.Prepares.{applied}
-use Rattle.swf_tasks.specs.declared.machine.Step.{Step as Prepared}
+use Rattle.swf_tasks.specs.Taken.{offered_own}
+use Rattle.swf_tasks.specs.declared.prepared.Prepared.{Prepared}
 use Rattle.swf_world.specs.declared.change.Change.{Change}
 use Rattle.swf_world.specs.declared.change.ChangeKind.{ChangeKind}
 use Rattle.swf_world.specs.declared.change.ChangeKind.TheVariants as kinds
@@ -33,7 +35,7 @@ use Rattle.swf_registry.proofs.Lookups.{used_some}
 use Rattle.swf_instances.proofs.Lookups.{instance_numbered}
 use Rattle.swf_instances.specs.Offers.{put_at, put_all, IsHeardFrom}
 use Rattle.swf_world.specs.Refusals.{refusal, refusal_of_load, refusal_of_start, refusal_of_moment, refusal_of_step, duplicate, cause}
-use Rattle.swf_world.specs.Changes.{IsReady, Suits, SuitsStep, suits, changed, changed_by, offered_own, after_step, with_moment, with_stepped}
+use Rattle.swf_world.specs.Changes.{IsReady, Suits, SuitsStep, suits, changed, changed_by, after_step, with_moment, with_stepped}
 use Rattle.swf_world.specs.Prepares.{Prepares, IsSent, IsTelling, IsStepping, Steps, StepsFirst, TellsTo, load_of, start_of, untold, or_memory}
 use Rattle.swf_world.proofs.Lookups.{stepped_there}
 use Rattle.swf_instances.proofs.TakeLemmas.{take_put}
@@ -60,8 +62,8 @@ step_refusal w id strand n i b found at t =
     ap (refusal_of_step w.now strand) (instance_numbered id w.instances n found ∙ at) ∙ ap (λ c. cond c None (Some NotEnabled)) (sym t)
 
 -- the instance of that number takes the step
-pub step_found : (w : World) (id strand : List ℕ) (n : ℕ) → position (λ i. same id i.id) w.instances ≡ Some n → n < length w.instances → (n < length w.instances) × StepsFirst w id strand n
-step_found w id strand n found within = (within, λ i m there takes. stepped_there w.now id strand w.instances n i m found within there takes)
+pub steps_first : (w : World) (id strand : List ℕ) (n : ℕ) → position (λ i. same id i.id) w.instances ≡ Some n → n < length w.instances → StepsFirst w id strand n
+steps_first w id strand n found within i m there takes = stepped_there w.now w.documents id strand w.instances n i m found within there takes
 
 -- a change was made, or memory was missing
 abbrev Made : World → Label → Change → Type 0
@@ -157,14 +159,17 @@ sent_is w js None = λ i. record w { instances = js; outbox = sym (append-nil w.
 sent_is w js (Some e) = refl
 
 -- the world after a step that was prepared
-world_after : (w : World) (id strand : List ℕ) (n : ℕ) (step : Prepared) (o : Option Event) (hs : List Hearing) → StepsFirst w id strand n → IsReady w.now n strand w.instances step o → IsSent n o w.instances hs →
-    after w (Step id strand) ≡ Some (with_stepped w n step o hs)
-world_after w id strand n step o hs first r s = by (step_at w.now strand r.instance) refl r.stepped
+world_after : (w : World) (id strand : List ℕ) (n : ℕ) (prepared : Prepared) (hs : List Hearing) → StepsFirst w id strand n → IsReady w.now w.documents n strand w.instances prepared → IsSent n prepared.emitted w.instances hs →
+    after w (Step id strand) ≡ Some (with_stepped w n prepared hs)
+world_after w id strand n prepared hs first r s = by (step_at w.now w.documents strand r.instance) refl r.stepped
   where
-    by : (x : Option Stepped) → step_at w.now strand r.instance ≡ x → option_map (after_step r.instance) x ≡ Some (applied step r.instance, o) → after w (Step id strand) ≡ Some (with_stepped w n step o hs)
+    o : Option Event
+    o = prepared.emitted
+
+    by : (x : Option Stepped) → step_at w.now w.documents strand r.instance ≡ x → option_map (after_step r.instance) x ≡ Some (applied prepared r.instance, o) → after w (Step id strand) ≡ Some (with_stepped w n prepared hs)
     by None e q = cc
     by (Some m) e q =
-        let p : after_step r.instance m ≡ (applied step r.instance, o) = same_Some (after_step r.instance m) (applied step r.instance, o) q in
+        let p : after_step r.instance m ≡ (applied prepared r.instance, o) = same_Some (after_step r.instance m) (applied prepared r.instance, o) q in
         let sends : IsSent n m.emitted w.instances hs = subst (λ o. IsSent n o w.instances hs) (sym (ap (λ p. p.1) p)) s in
         let there = (sent_from n o w.instances hs s).0 ∙ r.there in
         ap (option_map (with_instances w)) (first r.instance m r.there e)
@@ -172,21 +177,21 @@ world_after w id strand n step o hs first r s = by (step_at w.now strand r.insta
         sent_is w (put_at n (with_step r.instance m) w.instances) m.emitted
         ∙ ap (λ is. record w { instances = is; outbox = w.outbox ++ option_to_list m.emitted; count = w.count + 1 }) (sym (sent_to n (with_step r.instance m) m.emitted w.instances hs sends))
         ∙ (λ i. record w { instances = put_at n (p i).0 (put_all hs w.instances); outbox = w.outbox ++ option_to_list (p i).1; count = w.count + 1 })
-        ∙ ap (λ is. record w { instances = is; outbox = w.outbox ++ option_to_list o; count = w.count + 1 }) (sym (take_put n step (put_all hs w.instances) r.instance there))
+        ∙ ap (λ is. record w { instances = is; outbox = w.outbox ++ option_to_list o; count = w.count + 1 }) (sym (take_put n prepared (put_all hs w.instances) r.instance there))
         )
 
 -- the change of a step that is not refused
-stepping : (w : World) (id strand : List ℕ) (n : ℕ) (k : ChangeKind) → StepsFirst w id strand n → Steps w.now n strand w.instances k → suits w k × (after w (Step id strand) ≡ Some (changed_by w k))
-stepping w id strand n (kinds.Step m step o heard) first s =
-    let from = sent_from n o w.instances heard.items s.2 in
-    subst (λ m. SuitsStep w m step o heard.items × (after w (Step id strand) ≡ Some (with_stepped w m step o heard.items))) (sym s.0) (
+stepping : (w : World) (id strand : List ℕ) (n : ℕ) (k : ChangeKind) → StepsFirst w id strand n → Steps w.now w.documents n strand w.instances k → suits w k × (after w (Step id strand) ≡ Some (changed_by w k))
+stepping w id strand n (kinds.Step m prepared heard) first s =
+    let from = sent_from n prepared.emitted w.instances heard.items s.2 in
+    subst (λ m. SuitsStep w m prepared heard.items × (after w (Step id strand) ≡ Some (with_stepped w m prepared heard.items))) (sym s.0) (
       record { strand = strand; ready = s.1; apart = from.0; from = from.1 },
-      world_after w id strand n step o heard.items first s.1 s.2,
+      world_after w id strand n prepared heard.items first s.1 s.2,
     )
 stepping w id strand n k first s = absurd s
 
 pub step_prepares : {E : Type 0} (w : World) (id strand : List ℕ) (number : ℕ) (made : Result Change E) → StepsFirst w id strand number → refusal_of_step w.now strand (instance_at id w.instances) ≡ None →
-    IfOk made (IsStepping w.now number strand w.instances) → Prepares w (Step id strand) (or_memory made)
+    IfOk made (IsStepping w.now w.documents number strand w.instances) → Prepares w (Step id strand) (or_memory made)
 step_prepares w id strand number (Ok c) first t m =
     let p = stepping w id strand number c.kind first m.steps in
     (p.0, p.1, t, m.taken)

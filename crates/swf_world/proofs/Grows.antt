@@ -11,9 +11,10 @@ use Rattle.swf_document.specs.declared.document.Document.{Document}
 use Rattle.swf_meaning.specs.declared.key.Key.{Key}
 use Rattle.swf_meaning.specs.declared.key.Key.TheVariants as keys
 use Rattle.swf_meaning.specs.Answer.{instance_at}
-use Rattle.swf_runs.specs.Keys.{same_doc, same_key}
-use Rattle.swf_meaning.specs.World.{World, Instance, Loaded as WorldLoaded}
-use Rattle.swf_runs.specs.After.{counted, document_at, is_used, with_document, with_instance}
+use Rattle.swf_meaning.specs.Documents.{same_doc, Loaded as WorldLoaded, document_at}
+use Rattle.swf_runs.specs.Keys.{same_key}
+use Rattle.swf_meaning.specs.World.{World, Instance}
+use Rattle.swf_runs.specs.After.{counted, is_used, with_document, with_instance}
 use Rattle.swf_registry.specs.UsedKey.{used_at}
 use Rattle.swf_registry.proofs.Lookups.{not_used}
 use Rattle.swf_instances.specs.Offers.{ids}

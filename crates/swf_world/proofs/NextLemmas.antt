@@ -1,5 +1,5 @@
--- The step of the instance whose turn it is.
-use Rattle.std.proofs.Common.{◌≡◌, ◌∙◌, ap, cond, refl, sym, ℕ, zero, suc, ◌<◌, List, [], ◌∷◌, length, not, true, false, is_some, Option, Some, None, Ok, slice_get, position}
+-- The step of the first instance in the queue that can take one.
+use Rattle.std.proofs.Common.{◌≡◌, ◌∙◌, ap, cond, refl, ℕ, zero, suc, ◌<◌, List, [], ◌∷◌, length, not, true, false, is_some, Option, Some, None, Ok, slice_get, position}
 use Rattle.std.proofs.lemmas.Bool.{or_left, or_right}
 use Rattle.std.proofs.lemmas.Option.{same_Some, slice_get_within}
 use Rattle.swf_text.specs.Same.{same}
@@ -14,10 +14,10 @@ use Rattle.swf_instances.specs.Queued.{CanGoAt, is_loud}
 use Rattle.swf_instances.proofs.Lookups.{instance_numbered}
 use Rattle.swf_world.specs.declared.change.Change.{Change}
 use Rattle.swf_world.specs.declared.refusal.Refusal.TheVariants.{NotEnabled}
-use Rattle.swf_world.specs.Enabled.{CanGo}
-use Rattle.swf_world.specs.Prepares.{IsPreparedStep, IsStepping}
+use Rattle.swf_world.specs.Prepares.{CanGo, IsPreparedStep, IsStepping}
 use Rattle.swf_world.specs.Refusals.{refusal_of_step}
-use Rattle.swf_world.proofs.Checks.{step_found, step_prepares}
+use Rattle.swf_world.proofs.StepLemmas.{can_there}
+use Rattle.swf_world.proofs.Checks.{steps_first, step_prepares}
 use Rattle.swf_world.proofs.RefusalLaws.{taken_somewhere}
 
 -- a step that leads somewhere can go
@@ -35,22 +35,16 @@ number_goes w id strand n i found at can = goes w id strand (after w (Step id st
 
 -- its step, by the id of its instance, and the change that was made for its number
 pub prepared_at : (w : World) (id strand : List ℕ) (n : ℕ) (i : Instance) (c : Change) → position (λ j. same id j.id) w.instances ≡ Some n → n < length w.instances → slice_get w.instances n ≡ Some i → can_go w.now strand i.node ≡ true →
-    IsStepping w.now n strand w.instances c → IsPreparedStep w (Step id strand, c)
+    IsStepping w.now w.documents n strand w.instances c → IsPreparedStep w (Step id strand, c)
 prepared_at w id strand n i c found within at can makes =
-    let first = (step_found w id strand n found within).1 in
+    let first = steps_first w id strand n found within in
     record { goes = number_goes w id strand n i found at can; prepares = step_prepares {E = ℕ} w id strand n (Ok c) first (free w id strand n i found at can) makes }
 
--- the strand of an instance that can take a step takes that of the instance's id
-pub goes_at : (w : World) (id strand : List ℕ) (n : ℕ) (i : Instance) → CanGoAt w.now w.instances n strand → id ≡ i.id → position (λ j. same i.id j.id) w.instances ≡ Some n → slice_get w.instances n ≡ Some i → CanGo w (Step id strand)
-goes_at w id strand n i p own alone at =
-    let can : can_go w.now strand i.node ≡ true = ap (λ j. can_go w.now strand j.node) (same_Some i p.0 (sym at ∙ p.1)) ∙ p.2 in
-    number_goes w id strand n i (ap (λ k. position (λ j. same k j.id) w.instances) own ∙ alone) at can
-
--- and the change that was made for its number
+-- the strand of an instance that can take a step takes that of the instance's id, and the change that was made for its number
 pub prepared_there : (w : World) (id strand : List ℕ) (n : ℕ) (i : Instance) (c : Change) → CanGoAt w.now w.instances n strand → id ≡ i.id → position (λ j. same i.id j.id) w.instances ≡ Some n → slice_get w.instances n ≡ Some i →
-    IsStepping w.now n strand w.instances c → IsPreparedStep w (Step id strand, c)
+    IsStepping w.now w.documents n strand w.instances c → IsPreparedStep w (Step id strand, c)
 prepared_there w id strand n i c p own alone at makes =
-    let can : can_go w.now strand i.node ≡ true = ap (λ j. can_go w.now strand j.node) (same_Some i p.0 (sym at ∙ p.1)) ∙ p.2 in
+    let can = can_there w.now w.instances n strand i p at in
     prepared_at w id strand n i c (ap (λ k. position (λ j. same k j.id) w.instances) own ∙ alone) (slice_get_within w.instances n i at) at can makes
 
 -- where a strand can take a step it is not quiet

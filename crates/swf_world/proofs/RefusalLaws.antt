@@ -11,7 +11,8 @@ use Rattle.swf_meaning.specs.Strands.{can_go}
 use Rattle.swf_meaning.specs.declared.key.Key.TheVariants as keys
 use Rattle.swf_meaning.specs.World.{line_of, site_of, World, Instance, step_at, new_instance}
 use Rattle.swf_meaning.specs.Answer.{instance_at}
-use Rattle.swf_runs.specs.After.{after, loaded, load_faults, accepted, document_at, most_documents, most_instances, with_document, with_instance, with_event, stepped, with_instances}
+use Rattle.swf_meaning.specs.Documents.{Loaded, document_at}
+use Rattle.swf_runs.specs.After.{after, loaded, load_faults, accepted, most_documents, most_instances, with_document, with_instance, with_event, stepped, with_instances}
 use Rattle.swf_world.specs.declared.refusal.Refusal.{Refusal}
 use Rattle.swf_world.specs.declared.refusal.Refusal.TheVariants.{Stale, Full, Past, NotEnabled}
 use Rattle.swf_world.specs.Changes.{with_moment}
@@ -49,14 +50,14 @@ can_step now strand None = false
 can_step now strand (Some i) = can_go now strand i.node
 
 -- a strand of the instance of an id takes a step where it can
-stepped_some : (now : ℕ) (id strand : List ℕ) (is : List Instance) → is_some (stepped now id strand is) ≡ can_step now strand (instance_at id is)
-stepped_some now id strand [] = refl
-stepped_some now id strand (i ∷ is) = by (same id i.id) (stepped_some now id strand is)
+stepped_some : (now : ℕ) (ds : List Loaded) (id strand : List ℕ) (is : List Instance) → is_some (stepped now ds id strand is) ≡ can_step now strand (instance_at id is)
+stepped_some now ds id strand [] = refl
+stepped_some now ds id strand (i ∷ is) = by (same id i.id) (stepped_some now ds id strand is)
   where
-    by : (b : Bool) → is_some (stepped now id strand is) ≡ can_step now strand (instance_at id is) →
-        is_some (cond b (option_map (first_steps i is) (step_at now strand i)) (option_map (other_steps i) (stepped now id strand is))) ≡ can_step now strand (cond b (Some i) (instance_at id is))
-    by true h = some_mapped (first_steps i is) (step_at now strand i) ∙ local_can (site_of now i) (line_of i) strand i.node
-    by false h = some_mapped (other_steps i) (stepped now id strand is) ∙ h
+    by : (b : Bool) → is_some (stepped now ds id strand is) ≡ can_step now strand (instance_at id is) →
+        is_some (cond b (option_map (first_steps i is) (step_at now ds strand i)) (option_map (other_steps i) (stepped now ds id strand is))) ≡ can_step now strand (cond b (Some i) (instance_at id is))
+    by true h = some_mapped (first_steps i is) (step_at now ds strand i) ∙ local_can (site_of now ds i) (line_of i) strand i.node
+    by false h = some_mapped (other_steps i) (stepped now ds id strand is) ∙ h
 
 step_agrees : {A : Type 0} (now : ℕ) (strand : List ℕ) (s : Option A) (o : Option Instance) → is_some s ≡ can_step now strand o → Agree s (refusal_of_step now strand o)
 step_agrees now strand s None e = e
@@ -94,8 +95,8 @@ agree w (Moment moment) = by (nat_le moment w.now)
     by true = refl
     by false = refl
 agree w (Step id strand) =
-    step_agrees w.now strand (option_map (with_instances w) (stepped w.now id strand w.instances)) (instance_at id w.instances)
-    (some_mapped (with_instances w) (stepped w.now id strand w.instances) ∙ stepped_some w.now id strand w.instances)
+    step_agrees w.now strand (option_map (with_instances w) (stepped w.now w.documents id strand w.instances)) (instance_at id w.instances)
+    (some_mapped (with_instances w) (stepped w.now w.documents id strand w.instances) ∙ stepped_some w.now w.documents id strand w.instances)
 
 -- a label that is refused leads nowhere
 pub refused_nowhere : (w : World) (l : Label) (r : Refusal) → refusal w l ≡ Some r → after w l ≡ None

@@ -5,7 +5,8 @@ use Rattle.swf_document.specs.declared.document.DocKey.{DocKey}
 use Rattle.swf_meaning.specs.declared.key.Key.TheVariants as keys
 use Rattle.swf_meaning.specs.Answer.{instance_at}
 use Rattle.swf_meaning.specs.World.{World}
-use Rattle.swf_runs.specs.After.{document_at, is_used}
+use Rattle.swf_meaning.specs.Documents.{document_at}
+use Rattle.swf_runs.specs.After.{is_used}
 use Rattle.swf_world.specs.Early.{IsEarly, most_labels}
 
 -- what is kept has a used key, and no moment above now has one

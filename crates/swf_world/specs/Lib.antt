@@ -5,7 +5,6 @@ pub mod Kept
 pub mod Parts
 pub mod Refusals
 pub mod Changes
-pub mod Enabled
 pub mod Prepares
 pub mod Latest
 pub mod Answers

@@ -5,7 +5,9 @@ use Rattle.swf_cloudevents.specs.declared.event.Event.{Event}
 use Rattle.swf_document.specs.declared.document.Document.{Document}
 use Rattle.swf_meaning.specs.declared.key.Key.TheVariants as keys
 use Rattle.swf_meaning.specs.declared.label.Label.{Label}
+use Rattle.swf_meaning.specs.declared.label.Label.TheVariants.{Step}
 use Rattle.swf_meaning.specs.Complete.{Stepped}
+use Rattle.swf_meaning.specs.Documents.{Loaded}
 use Rattle.swf_meaning.specs.Offer.{takers}
 use Rattle.swf_meaning.specs.World.{World, Instance, new_instance, step_at, with_step}
 use Rattle.swf_runs.specs.After.{after, stepped, taken_by}
@@ -15,7 +17,6 @@ use Rattle.swf_world.specs.declared.change.ChangeKind.TheVariants as kinds
 use Rattle.swf_world.specs.declared.refusal.PrepareFault.{PrepareFault}
 use Rattle.swf_world.specs.declared.refusal.PrepareFault.TheVariants.{Refused, OutOfMemory}
 use Rattle.swf_world.specs.Changes.{IsReady, Suits, changed}
-use Rattle.swf_world.specs.Enabled.{CanGo}
 use Rattle.swf_instances.specs.Offers.{put_at, IsOffer}
 use Rattle.swf_instances.specs.declared.offer.Hearing.{Hearing}
 use Rattle.swf_world.specs.Refusals.{refusal}
@@ -47,20 +48,21 @@ abbrev pub IsSent : ℕ → Option Event → List Instance → List Hearing → 
 IsSent n None is hs = hs ≡ []
 IsSent n (Some e) is hs = IsOffer n e is hs
 
--- a strand of the instance of that number takes its step at a moment, and the others are told the event that goes out
-abbrev pub Steps : ℕ → ℕ → List ℕ → List Instance → ChangeKind → Type 0
-Steps now n strand is (kinds.Step m step emitted heard) = (m ≡ n) × IsReady now n strand is step emitted × IsSent n emitted is heard.items
-Steps now n strand is k = ⊥
+-- a strand of the instance of that number takes its step at a moment, where these documents are loaded, and the others are told the event
+-- that goes out
+abbrev pub Steps : ℕ → List Loaded → ℕ → List ℕ → List Instance → ChangeKind → Type 0
+Steps now ds n strand is (kinds.Step m prepared heard) = (m ≡ n) × IsReady now ds n strand is prepared × IsSent n prepared.emitted is heard.items
+Steps now ds n strand is k = ⊥
 
 -- the change of a step
-pub record IsStepping (now n : ℕ) (strand : List ℕ) (is : List Instance) (c : Change) : Type 0 where
-  pub steps : Steps now n strand is c.kind
+pub record IsStepping (now : ℕ) (ds : List Loaded) (n : ℕ) (strand : List ℕ) (is : List Instance) (c : Change) : Type 0 where
+  pub steps : Steps now ds n strand is c.kind
   pub taken : c.taken ≡ 0
 
 -- the instance of that number is the first of its id: a strand's step is the one of the definitions
 abbrev pub StepsFirst : World → List ℕ → List ℕ → ℕ → Type 0
 StepsFirst w id strand n =
-    (i : Instance) (m : Stepped) → slice_get w.instances n ≡ Some i → step_at w.now strand i ≡ Some m → stepped w.now id strand w.instances ≡ Some (put_at n (with_step i m) w.instances, m.emitted)
+    (i : Instance) (m : Stepped) → slice_get w.instances n ≡ Some i → step_at w.now w.documents strand i ≡ Some m → stepped w.now w.documents id strand w.instances ≡ Some (put_at n (with_step i m) w.instances, m.emitted)
 
 -- what was made, or want of memory
 abbrev pub or_memory : {E : Type 0} → Result Change E → Result Change PrepareFault
@@ -74,7 +76,15 @@ Prepares w l (Ok c) = Suits w c × (after w l ≡ Some (changed w c)) × (refusa
 Prepares w l (Err (Refused r)) = refusal w l ≡ Some r
 Prepares w l (Err OutOfMemory) = Unit {0}
 
--- a step that a strand of some instance can take now, and the change that its label makes
+-- a step that a strand of some instance can take now
+pub record CanGo (w : World) (l : Label) : Type 0 where
+  pub id : List ℕ
+  pub strand : List ℕ
+  pub step : l ≡ Step id strand
+  pub next : World
+  pub after : after w l ≡ Some next
+
+-- such a step, and the change that its label makes
 pub record IsPreparedStep (w : World) (p : Label × Change) : Type 0 where
   pub goes : CanGo w p.0
   pub prepares : Prepares w p.0 (Ok p.1)

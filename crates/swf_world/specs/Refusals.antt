@@ -9,7 +9,8 @@ use Rattle.swf_meaning.specs.declared.key.Key.TheVariants as keys
 use Rattle.swf_meaning.specs.World.{World, Instance}
 use Rattle.swf_meaning.specs.Strands.{can_go}
 use Rattle.swf_meaning.specs.Answer.{instance_at}
-use Rattle.swf_runs.specs.After.{document_at, most_documents, most_instances, load_faults, accepted, is_open}
+use Rattle.swf_meaning.specs.Documents.{document_at}
+use Rattle.swf_runs.specs.After.{most_documents, most_instances, load_faults, accepted, is_open}
 use Rattle.swf_registry.specs.UsedKey.{used_at}
 use Rattle.swf_world.specs.declared.refusal.Refusal.{Refusal}
 use Rattle.swf_world.specs.declared.refusal.Refusal.TheVariants.{Refused, Duplicate, Stale, UnknownDocument, UnknownInstance, Full, Past, NotEnabled}
@@ -62,11 +63,3 @@ refusal w (Step id strand) = refusal_of_step w.now strand (instance_at id w.inst
 abbrev pub refused_by : {T : Type 0} → Result T Refusal → Option Refusal
 refused_by (Ok u) = None
 refused_by (Err r) = Some r
-
-abbrev pub IsLoad : Label → Type 0
-IsLoad (Load v) = Unit {0}
-IsLoad (Start id key input) = ⊥
-IsLoad (Event e) = ⊥
-IsLoad (Reply a r) = ⊥
-IsLoad (Moment moment) = ⊥
-IsLoad (Step id strand) = ⊥

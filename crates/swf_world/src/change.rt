@@ -4,11 +4,11 @@ ghost use Rattle.swf_world.specs.Prepares.{untold, or_memory};
 
 use crate::refusal::PrepareFault;
 use std::alloc::AllocError;
+use swf_catalog::Loaded;
 use swf_document::DocKey;
 use swf_instances::Hearing;
 use swf_meaning::Key;
-use swf_registry::Loaded;
-use swf_tasks::{BoxedMachine, SentEvent, Step};
+use swf_tasks::{BoxedMachine, Prepared};
 use swf_text::Text;
 
 /// What was installed.
@@ -40,11 +40,10 @@ pub enum ChangeKind {
     },
     /// The moment that is reached, in milliseconds.
     Moment(u64),
-    /// The step of the instance of that number, the event that goes out, and the others that took it.
+    /// The step of the instance of that number, and the others that took the event which goes out.
     Step {
         number: usize,
-        step: Step,
-        emitted: Option<SentEvent>,
+        prepared: Prepared,
         heard: Vec<Hearing>,
     },
 }

@@ -1,39 +1,25 @@
 // Any label: whether it is taken, the change that it makes, and how the change is made.
 ghost use Rattle.std.specs.Prelude.{◌≡◌, ◌≤◌, ◌<◌, ◌^◌, Err, IfOk, OnOk, None, Some};
 ghost use Rattle.std.specs.List.{AllByRecursion};
+ghost use Rattle.swf_world.specs.declared.refusal.Refusal.{Refusal};
 ghost use Rattle.swf_runs.specs.After.{after, taken_by};
 ghost use Rattle.swf_world.specs.Early.{IsEarly, IsEarlyRefusal};
 ghost use Rattle.swf_world.specs.Changes.{Suits, changed};
-ghost use Rattle.swf_world.specs.Refusals.{refusal, refused_by, IsLoad};
+ghost use Rattle.swf_world.specs.Refusals.{refusal};
 
 use crate::change::{Change, ChangeKind, Installed};
-use crate::refusal::{PrepareFault, Refusal};
+use crate::refusal::PrepareFault;
 use crate::world::World;
-use std::alloc::{AllocError, Global};
+use std::alloc::AllocError;
+use swf_catalog::Documents;
 use swf_instances::Instances;
 use swf_meaning::Label;
-use swf_registry::{Documents, UsedKeys};
-use swf_tasks::Words;
+use swf_registry::UsedKeys;
 
 /// How many labels a world takes.
 const MOST_LABELS: u64 = 1 << 40;
 
 impl World {
-    /// Whether a label is taken that is no load, or why not. It takes no memory.
-    pub fn check(&self, label: &Label) -> Result<(), Refusal>
-        requires { ¬ IsLoad label.now }
-        ensures { refused_by result ≡ refusal self.now.world label.now }
-    {
-        match label {
-            Label::Load(_) => Ok(()),
-            Label::Start { id, key, .. } => self.startable(id, key).map(|_| ()),
-            Label::Event(event) => self.tellable(event),
-            Label::Reply { activity, .. } => Err(self.reply_refusal(activity)),
-            Label::Moment(moment) => self.reachable(*moment),
-            Label::Step { id, strand } => self.steppable(id, strand).map(|_| ()),
-        }
-    }
-
     /// Makes room for a label's change, or says why it is not taken. The world stays as it was.
     pub fn prepare(&mut self, label: &Label) -> Result<Change, PrepareFault>
         ensures same { self.new.world ≡ self.old.world }
@@ -76,10 +62,9 @@ impl World {
             ChangeKind::Moment(moment) => self.install_moment(moment),
             ChangeKind::Step {
                 number,
-                step,
-                emitted,
+                prepared,
                 heard,
-            } => self.install_step(number, step, emitted, heard),
+            } => self.install_step(number, prepared, heard),
         }
         Installed { place, taken }
     }
@@ -93,18 +78,9 @@ impl World {
         if self.count >= MOST_LABELS {
             return Err(AllocError);
         }
-        make_words(self.alloc, &mut self.words)?;
         reserve_parts(&mut self.documents, &mut self.instances, &mut self.used)?;
         self.outbox.reserve(1)
     }
-}
-
-// Makes the names of variables, the first time.
-fn make_words(alloc: Global, words: &mut Option<Words>) -> Result<(), AllocError> {
-    if words.is_none() {
-        words.get_or_insert(Words::new(alloc)?);
-    }
-    Ok(())
 }
 
 // Makes room for one more in each part.

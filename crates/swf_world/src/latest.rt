@@ -1,6 +1,7 @@
 // The label of an outcome.
 ghost use Rattle.std.specs.Prelude.{◌≡◌, IfOk};
-ghost use Rattle.swf_world.specs.Latest.{label_of, resolved};
+ghost use Rattle.swf_meaning.specs.Documents.{resolved};
+ghost use Rattle.swf_world.specs.Latest.{label_of};
 
 use crate::world::World;
 use std::alloc::AllocError;
@@ -28,7 +29,7 @@ impl World {
 
     // A key with the last loaded version in place of `latest`.
     fn resolved(&self, key: DocKey) -> Result<DocKey, AllocError>
-        ensures { IfOk result (λ k. k ≡ resolved self.now.world key) }
+        ensures { IfOk result (λ k. k ≡ resolved self.now.world.documents key) }
     {
         if !is_word(&key.version, "latest") {
             return Ok(key);

@@ -11,11 +11,12 @@ ghost use Rattle.swf_world.specs.Refusals.{refusal_of_load, refused_by};
 use crate::change::{Change, ChangeKind, ready, untold};
 use crate::refusal::{PrepareFault, Refusal};
 use crate::world::World;
-use std::alloc::AllocError;
+use std::alloc::{AllocError, Global};
+use swf_catalog::Loaded;
 use swf_document::DocKey;
 use swf_meaning::Key;
 use swf_reader::ReadFault;
-use swf_registry::{Loaded, Sought, loadable_document};
+use swf_registry::{Sought, loadable_document};
 use swf_validate::Accepted;
 use swf_value::Json;
 
@@ -48,7 +49,7 @@ impl World {
         };
         match self.loadable(&accepted.document().key) {
             Err(refusal) => Err(PrepareFault::Refused(refusal)),
-            Ok(()) => ready(load_change(value, accepted)),
+            Ok(()) => ready(load_change(self.alloc, value, &accepted)),
         }
     }
 
@@ -64,12 +65,11 @@ impl World {
 }
 
 // The change that adds a document.
-fn load_change(value: &Json, document: Accepted) -> Result<Change, AllocError>
-    ensures { IfOk result (λ c. c ≡ load_of value.now document) }
+fn load_change(alloc: Global, value: &Json, document: &Accepted) -> Result<Change, AllocError>
+    ensures { IfOk result (λ c. c ≡ load_of value.now document.now) }
 {
-    let value = value.copy()?;
-    let loaded = Loaded { value, document };
-    let key = loaded.document.document().key.copy()?;
+    let loaded = Loaded::new(alloc, value.copy()?, document.shared()?)?;
+    let key = document.document().key.copy()?;
     let used = Key::Document(key.copy()?);
     Ok(untold(ChangeKind::Load { key, used, loaded }))
 }

@@ -32,7 +32,7 @@ impl World {
         }
     }
 
-    // The instances whose wait is over get turns.
+    // The instances whose wait is over join the queue.
     pub(crate) fn install_moment(&mut self, milliseconds: u64)
         requires suits { SuitsMoment self.old.world milliseconds }
         requires room { 0 < self.old.room }

@@ -1,8 +1,7 @@
-// Whose turn it is: the enabled instances take steps in turn.
+// The next step: of the first instance in the queue that can take one.
 ghost use Rattle.std.specs.Prelude.{◌≡◌, ◌<◌, Ok, true, false, IfOk, IfSome, None};
 ghost use Rattle.swf_instances.specs.Queued.{CanGoAt};
 ghost use Rattle.swf_runs.specs.Runs.{is_quiet};
-ghost use Rattle.swf_world.specs.Enabled.{CanGo};
 ghost use Rattle.swf_world.specs.Prepares.{IsPreparedStep};
 
 use crate::change::Change;
@@ -10,25 +9,11 @@ use crate::step::step_change;
 use crate::world::World;
 use std::alloc::AllocError;
 use swf_meaning::Label;
-use swf_tasks::Site;
 use swf_text::Strand;
 
 impl World {
-    /// The next step that can be taken, where there is one. The instance that takes it has its next turn after all others.
-    pub fn next_step(&mut self) -> Result<Option<Label>, AllocError>
-        ensures same { self.new.world ≡ self.old.world }
-        ensures none { result ≡ Ok None → is_quiet self.new.world ≡ true }
-        ensures some { IfOk result (λ o. IfSome o (CanGo self.new.world)) }
-    {
-        let Some(turn) = self.instances.next_turn(self.alloc)? else {
-            return Ok(None);
-        };
-        let (number, strand) = turn;
-        let label = self.label_at(number, strand)?;
-        Ok(Some(label))
-    }
-
-    /// The same step, and its change, for which the world has room.
+    /// The next step that can be taken, where there is one, and its change, for which the world has room. The instance that takes it goes
+    /// behind all others in the queue.
     pub fn prepare_next(&mut self) -> Result<Option<(Label, Change)>, AllocError>
         ensures same { self.new.world ≡ self.old.world }
         ensures none { result ≡ Ok None → is_quiet self.new.world ≡ true }
@@ -36,11 +21,10 @@ impl World {
         ensures some { IfOk result (λ o. IfSome o (IsPreparedStep self.new.world)) }
         ensures room { IfOk result (λ o. IfSome o (λ _. 0 < self.new.room)) }
     {
-        let Some(turn) = self.instances.next_turn(self.alloc)? else {
+        let Some((number, strand)) = self.instances.next_step(self.alloc)? else {
             return Ok(None);
         };
         self.make_room()?;
-        let (number, strand) = turn;
         let step = self.step_at(number, strand)?;
         Ok(Some(step))
     }
@@ -53,27 +37,14 @@ impl World {
         self.instances.is_quiet()
     }
 
-    // The step of a strand of the instance of a number.
-    fn label_at(&self, number: usize, strand: Strand) -> Result<Label, AllocError>
-        requires { CanGoAt self.now.world.now self.now.world.instances number strand }
-        ensures { IfOk result (CanGo self.now.world) }
-    {
-        let id = self.instances.at(number).id().copy()?;
-        Ok(Label::Step { id, strand })
-    }
-
-    // The same step, and its change.
+    // The step of a strand of the instance of a number, and its change.
     fn step_at(&self, number: usize, strand: Strand) -> Result<(Label, Change), AllocError>
         requires { CanGoAt self.now.world.now self.now.world.instances number strand }
         ensures { IfOk result (IsPreparedStep self.now.world) }
     {
-        let Some(words) = &self.words else {
-            return Err(AllocError);
-        };
-        let now = self.now();
-        let site = Site { now, words };
         let id = self.instances.at(number).id().copy()?;
-        let change = step_change(self.alloc, number, &self.instances, &strand, &site)?;
+        let (instances, documents) = (&self.instances, &self.documents);
+        let change = step_change(self.alloc, number, instances, &strand, documents)?;
         Ok((Label::Step { id, strand }, change))
     }
 }

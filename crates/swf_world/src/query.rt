@@ -1,17 +1,13 @@
 // Queries, which change nothing.
-ghost use Rattle.std.specs.Prelude.{◌≡◌, ◌⊎◌, ◌++◌, List, Err, IfOk, OnOk};
+ghost use Rattle.std.specs.Prelude.{◌≡◌, ◌⊎◌, List, Err};
 ghost use Rattle.swf_world.specs.Answers.{answer, found, IsOfWorld};
 ghost use Rattle.swf_meaning.specs.declared.label.Label.{Label};
 ghost use Rattle.swf_meaning.specs.Answer.{status};
-ghost use Rattle.swf_world.specs.Enabled.{enabled_of, enabled_strands};
 
 use crate::world::World;
-use std::alloc::{AllocError, Global};
-use swf_duration::Moment;
 use swf_meaning::{Answer, Query};
 use swf_reports::{outbox, pending, report};
-use swf_tasks::Machine;
-use swf_text::{Strand, Text};
+use swf_text::Text;
 use thiserror::Error;
 
 /// Why a query has no answer.
@@ -55,33 +51,4 @@ impl World {
             Err(_) => Err(QueryFault::OutOfMemory),
         }
     }
-
-    /// Every strand that can take a step with the id of its instance, in start order.
-    pub fn enabled_strands(&self) -> Result<Vec<(Text, Strand)>, AllocError>
-        ensures { IfOk result (λ v. v.items ≡ enabled_strands self.now.world) }
-    {
-        let mut strands = Vec::new(self.alloc);
-        for number in 0..self.instances.len() {
-            let instance = self.instances.at(number);
-            push_enabled(self.alloc, &mut strands, instance, self.now())?;
-        }
-        Ok(strands)
-    }
-}
-
-// Adds the strands of an instance that can take a step, ascending.
-fn push_enabled(
-    alloc: Global,
-    strands: &mut Vec<(Text, Strand)>,
-    instance: &Machine,
-    now: Moment,
-) -> Result<(), AllocError>
-    ensures { OnOk result (strands.new.items ≡ strands.old.items ++ enabled_of now instance.now) }
-{
-    for strand in instance.strands(alloc)? {
-        if instance.enabled(&strand, now) {
-            strands.push((instance.id().copy()?, strand))?;
-        }
-    }
-    Ok(())
 }

@@ -3,7 +3,8 @@ ghost use Rattle.std.specs.Prelude.{◌≡◌, ◌<◌, IfOk, Some};
 ghost use Rattle.swf_meaning.specs.World.{new_instance};
 ghost use Rattle.swf_meaning.specs.declared.key.Key.TheVariants as keys;
 ghost use Rattle.swf_meaning.specs.declared.label.Label.{Label};
-ghost use Rattle.swf_runs.specs.After.{document_at, with_instance};
+ghost use Rattle.swf_meaning.specs.Documents.{document_at};
+ghost use Rattle.swf_runs.specs.After.{with_instance};
 ghost use Rattle.swf_registry.specs.UsedKey.{used_at};
 ghost use Rattle.swf_world.specs.Changes.{SuitsStart};
 ghost use Rattle.swf_world.specs.Prepares.{Prepares, start_of};
@@ -13,12 +14,13 @@ use crate::change::{Change, ChangeKind, ready, untold};
 use crate::refusal::{PrepareFault, Refusal};
 use crate::world::World;
 use std::alloc::{AllocError, Global};
-use swf_document::DocKey;
+use swf_catalog::SharedDocument;
+use swf_document::{Boxed, DocKey};
+use swf_duration::Moment;
 use swf_meaning::Key;
 use swf_registry::Sought;
-use swf_tasks::{BoxedMachine, Machine, Site};
+use swf_tasks::{BoxedMachine, Machine};
 use swf_text::Text;
-use swf_validate::Accepted;
 use swf_value::Json;
 
 /// How many instances may be started.
@@ -26,7 +28,7 @@ const MOST_INSTANCES: usize = 10_000;
 
 impl World {
     // The document of an instance that can be started, or why it cannot.
-    pub(crate) fn startable(&self, id: &Text, key: &DocKey) -> Result<&Accepted, Refusal>
+    pub(crate) fn startable(&self, id: &Text, key: &DocKey) -> Result<&SharedDocument, Refusal>
         ensures refused { refused_by result ≡ duplicate (used_at (keys.Instance id.now) self.now.world.keys) (refusal_of_start self.now.world (document_at key.now self.now.world.documents)) }
         ensures found { IfOk result (λ d. document_at key.now self.now.world.documents ≡ Some d.now) }
     {
@@ -50,14 +52,10 @@ impl World {
     ) -> Result<Change, PrepareFault>
         ensures { Prepares self.now.world (Label.Start id.now key.now input.now) result }
     {
-        let Some(words) = &self.words else {
-            return Err(PrepareFault::OutOfMemory);
-        };
         let now = self.now();
-        let site = Site { now, words };
         match self.startable(id, key) {
             Err(refusal) => Err(PrepareFault::Refused(refusal)),
-            Ok(document) => ready(start_change(self.alloc, id, document, input, &site)),
+            Ok(document) => ready(start_change(self.alloc, id, document, input, now)),
         }
     }
 
@@ -76,14 +74,14 @@ impl World {
 fn start_change(
     alloc: Global,
     id: &Text,
-    document: &Accepted,
+    document: &SharedDocument,
     input: &Json,
-    site: &Site<'_>,
+    now: Moment,
 ) -> Result<Change, AllocError>
-    ensures { IfOk result (λ c. c ≡ start_of id.now document.now input.now site.entry.now.now) }
+    ensures { IfOk result (λ c. c ≡ start_of id.now document.now input.now now) }
 {
     let used = Key::Instance(id.copy()?);
-    let instance = begun(alloc, id, document, input, site)?;
+    let instance = begun(alloc, id, document, input, now)?;
     let id = id.copy()?;
     Ok(untold(ChangeKind::Start { id, used, instance }))
 }
@@ -92,13 +90,13 @@ fn start_change(
 fn begun(
     alloc: Global,
     id: &Text,
-    document: &Accepted,
+    document: &SharedDocument,
     input: &Json,
-    site: &Site<'_>,
+    now: Moment,
 ) -> Result<BoxedMachine, AllocError>
-    ensures { IfOk result (λ b. b ≡ new_instance id.now input.now site.entry.now.now document.now) }
+    ensures { IfOk result (λ b. b ≡ new_instance id.now input.now now document.now) }
 {
     let (document, input) = (document.copy()?, input.copy()?);
-    let machine = Machine::begin(alloc, id.copy()?, document, input, site)?;
-    BoxedMachine::new(alloc, machine)
+    let machine = Machine::begin(alloc, id.copy()?, document, input, now)?;
+    Boxed::new(alloc, machine)
 }

@@ -1,10 +1,10 @@
 // A step: a strand of an instance takes it, and an event that goes out is offered to all.
-ghost use Rattle.std.specs.Prelude.{◌≡◌, ◌<◌, ◌++◌, length, option_to_list, IfOk};
+ghost use Rattle.std.specs.Prelude.{◌≡◌, ◌<◌, ◌++◌, option_to_list, IfOk};
 ghost use Rattle.std.specs.Vec.{vec_len, vec_capacity};
 ghost use Rattle.swf_meaning.specs.declared.label.Label.{Label};
 ghost use Rattle.swf_meaning.specs.Answer.{instance_at};
-ghost use Rattle.swf_tasks.specs.Prepares.{applied, Fits};
-ghost use Rattle.swf_world.specs.Changes.{SuitsStep, offered_own, with_stepped};
+ghost use Rattle.swf_instances.specs.Queued.{CanGoAt};
+ghost use Rattle.swf_world.specs.Changes.{SuitsStep, with_stepped};
 ghost use Rattle.swf_world.specs.Prepares.{Prepares, IsSent, IsStepping, StepsFirst};
 ghost use Rattle.swf_world.specs.Refusals.{refusal_of_step, refused_by};
 
@@ -12,16 +12,18 @@ use crate::change::{Change, ChangeKind, ready, untold};
 use crate::refusal::{PrepareFault, Refusal};
 use crate::world::World;
 use std::alloc::{AllocError, Global};
+use swf_catalog::Documents;
 use swf_cloudevents::Event;
 use swf_instances::{Hearing, Instances};
-use swf_tasks::{BoxedMachine, Machine, SentEvent, Site, Step};
+use swf_tasks::{Prepared, SentEvent, Site};
 use swf_text::{Strand, Text};
 
 impl World {
     // The number of the instance whose strand can take a step, or why it cannot.
     pub(crate) fn steppable(&self, id: &Text, strand: &Strand) -> Result<usize, Refusal>
         ensures refused { refused_by result ≡ refusal_of_step self.now.world.now strand.now (instance_at id.now self.now.world.instances) }
-        ensures found { IfOk result (λ n. (n < length self.now.world.instances) × StepsFirst self.now.world id.now strand.now n) }
+        ensures can { IfOk result (λ n. CanGoAt self.now.world.now self.now.world.instances n strand.now) }
+        ensures first { IfOk result (λ n. StepsFirst self.now.world id.now strand.now n) }
     {
         let Some(number) = self.instances.number_of(id) else {
             return Err(Refusal::UnknownInstance);
@@ -36,78 +38,47 @@ impl World {
     pub(crate) fn prepare_step(&self, id: &Text, strand: &Strand) -> Result<Change, PrepareFault>
         ensures { Prepares self.now.world (Label.Step id.now strand.now) result }
     {
-        let Some(words) = &self.words else {
-            return Err(PrepareFault::OutOfMemory);
-        };
-        let now = self.now();
-        let site = Site { now, words };
+        let (instances, documents) = (&self.instances, &self.documents);
         match self.steppable(id, strand) {
             Err(refusal) => Err(PrepareFault::Refused(refusal)),
-            Ok(number) => ready(step_change(self.alloc, number, &self.instances, strand, &site)),
+            Ok(number) => ready(step_change(self.alloc, number, instances, strand, documents)),
         }
     }
 
     // The others that took the event are in their places before the instance itself takes its step.
-    pub(crate) fn install_step(
-        &mut self,
-        number: usize,
-        step: Step,
-        emitted: Option<SentEvent>,
-        heard: Vec<Hearing>,
-    )
-        requires suits { SuitsStep self.old.world number step emitted heard.items }
+    pub(crate) fn install_step(&mut self, number: usize, prepared: Prepared, heard: Vec<Hearing>)
+        requires suits { SuitsStep self.old.world number prepared heard.items }
         requires room { 0 < self.old.room }
-        ensures { self.new.world ≡ with_stepped self.old.world number step emitted heard.items }
+        ensures { self.new.world ≡ with_stepped self.old.world number prepared heard.items }
     {
         self.instances.hear(heard);
-        self.instances.take(number, step);
+        let emitted = self.instances.take(number, prepared);
         put_out(&mut self.outbox, emitted);
         self.count += 1;
     }
 }
 
-/// The change of an instance's step. An event that goes out is offered to all, and to it as well.
-pub fn step_change(
+/// The change of an instance's step at the moment of all. An event that goes out is offered to all, and to it as well.
+pub fn step_change<'a>(
     alloc: Global,
     number: usize,
-    instances: &Instances,
+    instances: &'a Instances,
     strand: &Strand,
-    site: &Site<'_>,
+    documents: &'a Documents,
 ) -> Result<Change, AllocError>
-    requires { number < length instances.now.instances }
-    ensures { IfOk result (IsStepping site.entry.now.now number strand.now instances.now.instances) }
+    requires { CanGoAt instances.now.moment instances.now.instances number strand.now }
+    ensures { IfOk result (IsStepping instances.now.moment documents.now.documents number strand.now instances.now.instances) }
 {
     let instance = instances.at(number);
-    let Ok(prepared) = instance.prepare(alloc, strand, site) else {
-        return Err(AllocError);
-    };
-    let step = offered_step(alloc, instance, prepared.step, &prepared.emitted)?;
+    let now = instances.moment();
+    let prepared = instance.prepare(alloc, strand, Site { now, documents })?;
     let heard = heard_by(alloc, &prepared.emitted, instances, number)?;
+    let prepared = instance.offered(alloc, prepared)?;
     Ok(untold(ChangeKind::Step {
         number,
-        step,
-        emitted: prepared.emitted,
+        prepared,
         heard,
     }))
-}
-
-// The step of an instance that is offered the event which goes out, where one does.
-fn offered_step(
-    alloc: Global,
-    instance: &Machine,
-    step: Step,
-    emitted: &Option<SentEvent>,
-) -> Result<Step, AllocError>
-    requires { Fits step instance.now }
-    ensures { IfOk result (λ s. Fits s instance.now × (applied s instance.now ≡ offered_own emitted.now (applied step instance.now))) }
-{
-    let Some(sent) = emitted else {
-        return Ok(step);
-    };
-    let mut instance = instance.copy(alloc)?;
-    instance.take(step);
-    instance.deliver_event(alloc, sent.event())?;
-    Ok(Step::Whole(BoxedMachine::new(alloc, instance)?))
 }
 
 // The others that take the event which goes out, where one does.
@@ -120,7 +91,7 @@ fn heard_by(
     ensures { IfOk result (λ hs. IsSent number emitted.now instances.now.instances hs.items) }
 {
     match emitted {
-        Some(sent) => Ok(instances.offer(alloc, sent.event(), number)?.heard),
+        Some(sent) => Ok(instances.offer(alloc, sent.get(), number)?.heard),
         None => Ok(Vec::new(alloc)),
     }
 }
@@ -131,6 +102,6 @@ fn put_out(outbox: &mut Vec<Event>, emitted: Option<SentEvent>)
     ensures { outbox.new.items ≡ outbox.old.items ++ option_to_list emitted }
 {
     if let Some(event) = emitted {
-        outbox.push(event.into_event()).unwrap();
+        outbox.push(event.into_inner()).unwrap();
     }
 }

@@ -5,11 +5,11 @@ ghost use Rattle.swf_world.specs.Waits.{is_due};
 
 use std::alloc::Global;
 use std::marker::Model;
+use swf_catalog::Documents;
 use swf_cloudevents::Event;
 use swf_duration::Moment;
 use swf_instances::Instances;
-use swf_registry::{Documents, UsedKeys};
-use swf_tasks::Words;
+use swf_registry::UsedKeys;
 use swf_text::Text;
 
 /// The world. Contracts see it as the world of the definitions, and how many more changes fit without memory.
@@ -24,8 +24,6 @@ pub struct World {
     pub(crate) outbox: Vec<Event>,
     /// How many labels came.
     pub(crate) count: u64,
-    /// The names that steps need, once a change was prepared.
-    pub(crate) words: Option<Words>,
 }
 
 impl Model for World {
@@ -55,7 +53,6 @@ impl World {
             used: UsedKeys::new(alloc),
             outbox: Vec::new(alloc),
             count: 0,
-            words: None,
         }
     }
 

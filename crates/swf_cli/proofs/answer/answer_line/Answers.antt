@@ -6,6 +6,8 @@ use Rattle.swf_cli.proofs.AnswerLemmas.{line_as, line_stays, read_line_is, unrea
 use Rattle.swf_protocol.specs.declared.command.Command.{Command}
 use Rattle.swf_protocol.specs.declared.command.CommandFault.{CommandFault}
 use Rattle.swf_cli.specs.StoreCalls.{CommandCalls}
+use Rattle.swf_cli.specs.Faults.{CommandFaults}
+use Rattle.swf_cli.proofs.FaultLemmas.{command_faults_as, unread_faults}
 use Rattle.swf_cli.proofs.answer.answer_line.Goals as goal
 
 pub returns-in-Ok-obey-clause-done : goal.returns-in-Ok-obey-clause-done
@@ -47,3 +49,21 @@ returns-in-Err-obey-clause-calls g c =
 
 pub returns-in-Err-clause-calls : goal.returns-in-Err-clause-calls
 returns-in-Err-clause-calls g c = inr refl
+
+pub returns-in-Ok-obey-clause-faults : goal.returns-in-Ok-obey-clause-faults
+returns-in-Ok-obey-clause-faults g c =
+    let line = command_of c.args.line.now in
+    let reads = read_line_is c.read_command.result line c.in-Ok.command c.in-Ok.is c.read_command.ensures.reads in
+    command_faults_as (g.S.Store.seen c.obey.new.store) line (Ok c.in-Ok.command) c.obey.result (Ok c.in-Ok-obey.reply) reads c.in-Ok-obey.is c.obey.ensures.faults
+
+pub returns-in-Err-obey-clause-faults : goal.returns-in-Err-obey-clause-faults
+returns-in-Err-obey-clause-faults g c =
+    let line = command_of c.args.line.now in
+    let reads = read_line_is c.read_command.result line c.in-Ok.command c.in-Ok.is c.read_command.ensures.reads in
+    command_faults_as (g.S.Store.seen c.obey.new.store) line (Ok c.in-Ok.command) c.obey.result (Err c.in-Err-obey.fault) reads c.in-Err-obey.is c.obey.ensures.faults
+
+pub returns-in-Err-clause-faults : goal.returns-in-Err-clause-faults
+returns-in-Err-clause-faults g c =
+    let held = g.S.Store.seen c.args.store.now in
+    let line = command_of c.args.line.now in
+    subst (λ (r : Reply). CommandFaults held line (Ok r)) (sym c.unread.ensures.reply) (unread_faults held line c.read_command.result c.in-Err.fault c.in-Err.is c.read_command.ensures.reads)

@@ -9,6 +9,7 @@ use Rattle.swf_protocol.specs.Sayable.{IsSayable}
 use Rattle.swf_protocol.specs.declared.reply.Reply.{Reply}
 use Rattle.swf_cli.specs.Steps.{IsBreak}
 use Rattle.swf_cli.proofs.AnswerLemmas.{answer_of, asked_done_as, query_breaks, query_usable, or_memory_cause, sayable_or_memory}
+use Rattle.swf_cli.proofs.FaultLemmas.{asked_faults_as}
 use Rattle.swf_cli.proofs.answer.ask.Goals as goal
 
 pub returns-in-Ok-clause-done : goal.returns-in-Ok-clause-done
@@ -23,6 +24,8 @@ returns-in-Err g c =
     let cause = subst (λ (r : Result (Result Answer QueryFault) EngineFault). EngineCause (H.store_faults c.args.store.now) (H.store_faults c.query.new.store) r) c.in-Err.is c.query.ensures.cause in
     record {
       which = subst (λ (r : Result Reply EngineFault). IsBreak r) (sym c.or_memory.ensures) (query_breaks c.in-Err.fault);
+      faults = asked_faults_as (H.seen c.query.new.store) (H.seen c.args.store.now) c.args.query.now c.query.result c.or_memory.result c.query.ensures.seen c.query.ensures.queries c.query.ensures.full
+          (λ of_world. (c.query.ensures.of_world of_world).1) (ap answer_of c.in-Err.is ∙ sym c.or_memory.ensures);
       place = query_usable c.in-Err.fault c.or_memory.result (IsEngineOf (H.seen c.query.new.store) c.query.new.self) c.or_memory.ensures c.query.ensures.place;
       done = λ words. asked_done_as words H.moment H.left_since H.said H.may_leave H.seen g.met.S.Store.only_now c.args.query.now c.args.store.now c.query.new.store c.args.engine.now c.query.new.self c.query.result c.or_memory.result
           c.query.ensures.engine c.query.ensures.seen c.query.ensures.stop c.query.ensures.any_moment c.query.ensures.answers (ap answer_of c.in-Err.is ∙ sym c.or_memory.ensures);
@@ -36,3 +39,9 @@ returns-in-Err g c =
 
 pub returns-in-Ok-clause-calls : goal.returns-in-Ok-clause-calls
 returns-in-Ok-clause-calls g c = λ words. inl (c.query.result, c.query.ensures.calls)
+
+pub returns-in-Ok-clause-faults : goal.returns-in-Ok-clause-faults
+returns-in-Ok-clause-faults g c =
+    let H = g.S.Store in
+    asked_faults_as (H.seen c.query.new.store) (H.seen c.args.store.now) c.args.query.now c.query.result (Ok c.queried.result) c.query.ensures.seen c.query.ensures.queries c.query.ensures.full
+    (λ of_world. (c.query.ensures.of_world of_world).1) (ap answer_of c.in-Ok.is ∙ ap Ok (sym c.queried.ensures.reply))

@@ -5,6 +5,7 @@ use Rattle.swf_cli.proofs.AnswerLemmas.{line_as, line_stays}
 use Rattle.swf_protocol.specs.declared.command.Command.{Command}
 use Rattle.swf_protocol.specs.declared.command.CommandFault.{CommandFault}
 use Rattle.swf_cli.specs.StoreCalls.{CommandCalls}
+use Rattle.swf_cli.proofs.FaultLemmas.{command_faults_as}
 use Rattle.swf_cli.proofs.answer.obey.Goals as goal
 
 pub returns-in-Do-clause-done : goal.returns-in-Do-clause-done
@@ -49,3 +50,18 @@ returns-in-Settle-clause-calls g c =
 
 pub returns-in-Quit-clause-calls : goal.returns-in-Quit-clause-calls
 returns-in-Quit-clause-calls g c = inr refl
+
+pub returns-in-Do-clause-faults : goal.returns-in-Do-clause-faults
+returns-in-Do-clause-faults g c =
+    command_faults_as (g.S.Store.seen c.submit.new.store) (Ok c.args.command) (Ok (Do c.in-Do.outcome)) c.submit.result c.submit.result (ap Ok c.in-Do.is) refl c.submit.ensures.faults
+
+pub returns-in-Ask-clause-faults : goal.returns-in-Ask-clause-faults
+returns-in-Ask-clause-faults g c =
+    command_faults_as (g.S.Store.seen c.ask.new.store) (Ok c.args.command) (Ok (Ask c.in-Ask.query)) c.ask.result c.ask.result (ap Ok c.in-Ask.is) refl c.ask.ensures.faults
+
+pub returns-in-Settle-clause-faults : goal.returns-in-Settle-clause-faults
+returns-in-Settle-clause-faults g c =
+    command_faults_as (g.S.Store.seen c.settle.new.store) (Ok c.args.command) (Ok (Settle c.in-Settle.limit)) c.settle.result c.settle.result (ap Ok c.in-Settle.is) refl c.settle.ensures.faults
+
+pub returns-in-Quit-clause-faults : goal.returns-in-Quit-clause-faults
+returns-in-Quit-clause-faults g c = command_faults_as (g.S.Store.seen c.args.store.now) (Ok c.args.command) (Ok Quit) (Ok Bye) (Ok Bye) (ap Ok c.in-Quit.is) refl refl

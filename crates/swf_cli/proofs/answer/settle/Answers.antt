@@ -7,8 +7,9 @@ use Rattle.swf_engine.specs.Causes.{EngineCause, WhereUsable}
 use Rattle.swf_engine.specs.Core.{IsEngineOf}
 use Rattle.swf_protocol.specs.Sayable.{IsSayable}
 use Rattle.swf_protocol.specs.declared.reply.Reply.{Reply}
+use Rattle.swf_cli.specs.Faults.{MayAddFault}
 use Rattle.swf_cli.specs.Steps.{IsBreak}
-use Rattle.swf_cli.proofs.AnswerLemmas.{settled_reply, settle_line_as, limit_small, settle_breaks, or_memory_usable, or_memory_cause, sayable_or_memory, settled_sayable}
+use Rattle.swf_cli.proofs.AnswerLemmas.{settled_reply, settle_line_as, limit_small, settle_breaks, settle_faults, or_memory_usable, or_memory_cause, sayable_or_memory, settled_sayable}
 use Rattle.swf_cli.proofs.answer.settle.Goals as goal
 
 pub returns-in-Ok-clause-done : goal.returns-in-Ok-clause-done
@@ -37,6 +38,8 @@ returns-in-Err g c =
     record {
       which = subst (λ (r : Result Reply EngineFault). IsBreak r) (sym c.or_memory.ensures)
           (settle_breaks H.moment H.left_since H.said H.may_leave H.seen g.met.S.Store.only_now c.unwrap_or-most.result c.args.store.now c.settle.new.store c.args.engine.now c.settle.new.self c.in-Err.fault settles);
+      faults = subst MayAddFault (sym c.or_memory.ensures)
+          (settle_faults H.moment H.left_since H.said H.may_leave H.seen g.met.S.Store.only_now c.unwrap_or-most.result c.args.store.now c.settle.new.store c.args.engine.now c.settle.new.self c.in-Err.fault settles);
       place = or_memory_usable Settled c.in-Err.fault c.or_memory.result (IsEngineOf (H.seen c.settle.new.store) c.settle.new.self) c.or_memory.ensures usable;
       done = settle_line_as c.args.words.now H.moment H.left_since H.said H.may_leave H.seen g.met.S.Store.only_now c.args.limit c.unwrap_or-most.result c.args.store.now c.settle.new.store c.args.engine.now c.settle.new.self c.settle.result c.or_memory.result
           most_is c.settle.ensures.settles (ap (settled_reply c.unwrap_or-most.result) c.in-Err.is ∙ sym c.or_memory.ensures);

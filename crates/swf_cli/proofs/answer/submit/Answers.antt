@@ -7,9 +7,10 @@ use Rattle.swf_engine.specs.Causes.{EngineCause, WhereUsable}
 use Rattle.swf_engine.specs.Core.{IsEngineOf}
 use Rattle.swf_protocol.specs.Sayable.{IsSayable}
 use Rattle.swf_protocol.specs.declared.reply.Reply.{Reply}
+use Rattle.swf_cli.specs.Faults.{MayAddFault}
 use Rattle.swf_cli.specs.Steps.{IsBreak}
 use Rattle.swf_world.specs.Latest.{label_of}
-use Rattle.swf_cli.proofs.AnswerLemmas.{accepted_so, said_accepted, submit_reply, submit_done_as, submit_breaks, or_memory_usable, or_memory_cause, sayable_or_memory}
+use Rattle.swf_cli.proofs.AnswerLemmas.{accepted_so, said_accepted, submit_reply, submit_done_as, submit_breaks, submit_faults, or_memory_usable, or_memory_cause, sayable_or_memory}
 use Rattle.swf_cli.proofs.answer.submit.Goals as goal
 
 pub returns-in-Ok-Accepted-clause-done : goal.returns-in-Ok-Accepted-clause-done
@@ -44,6 +45,8 @@ returns-in-Err g c =
     record {
       which = subst (λ (r : Result Reply EngineFault). IsBreak r) (sym c.or_memory.ensures)
           (submit_breaks H.moment H.left_since H.said H.may_leave H.seen g.met.S.Store.only_now o c.args.store.now c.submit.new.store c.args.engine.now c.submit.new.self c.in-Err.fault submits);
+      faults = subst MayAddFault (sym c.or_memory.ensures)
+          (submit_faults H.moment H.left_since H.said H.may_leave H.seen g.met.S.Store.only_now o c.args.store.now c.submit.new.store c.args.engine.now c.submit.new.self c.in-Err.fault submits);
       place = or_memory_usable Submitted c.in-Err.fault c.or_memory.result (IsEngineOf (H.seen c.submit.new.store) c.submit.new.self) c.or_memory.ensures usable;
       done = λ words. submit_done_as words H.moment H.left_since H.said H.may_leave H.seen g.met.S.Store.only_now o c.args.store.now c.submit.new.store c.args.engine.now c.submit.new.self c.submit.result c.or_memory.result
           c.submit.ensures.submits (ap (submit_reply o) c.in-Err.is ∙ sym c.or_memory.ensures);

@@ -1,4 +1,4 @@
-use Rattle.std.proofs.Common.{inr, rules, refl, ◌≡◌, suc, [], ◌++◌, arith}
+use Rattle.std.proofs.Common.{false, inr, rules, refl, ◌≡◌, suc, [], ◌++◌, arith}
 use Rattle.swf_cli.specs.Dialect.{session}
 use Rattle.swf_cli.specs.Finish.{most_turns}
 use Rattle.swf_cli.specs.Owed.{pieces_of}
@@ -45,7 +45,7 @@ loop-preserved g c =
           (c.in-GoesOn.ensures.turn s.stands.0 s.stands.1 (first ++ inputs_of s.turns) s.took (told ++ pieces_of session (length first) s.turns) s.said_all (before ++ labels_of s.turns) s.stands.2);
       heard = λ first told took is.
           let h = c.loop.invariant.heard first told took is in
-          heard_more H.moment H.left_since H.said H.may_leave H.seen g.H.Host.taken c.take_turn.new.host first told h.0 h.1.replied
+          heard_more H.moment H.left_since H.said H.may_leave H.seen g.H.Host.taken c.take_turn.new.host first told h.0 h.1.replied false
           (c.in-GoesOn.ensures.tells (first ++ inputs_of h.0) h.1.took (told ++ pieces_of session (length first) h.0) h.1.told);
       sound = λ s. c.in-GoesOn.ensures.sound (c.loop.invariant.sound s);
       calls = (suc c.loop.invariant.calls.0, (c.loop.host, c.loop.engine, c.loop.invariant.calls.1, c.take_turn.ensures.calls));

@@ -3,6 +3,7 @@ use Rattle.swf_store.specs.declared.said.Piece.{Piece}
 use Rattle.swf_store.specs.Stops.{Leaves}
 use Rattle.swf_meaning.specs.declared.label.Label.{Label}
 use Rattle.swf_host.specs.declared.host.Input.{Input}
+use Rattle.swf_host.specs.declared.host.NoWork.{NoWork}
 use Rattle.swf_engine.specs.Core.{IsEngineOf}
 use Rattle.swf_cli.specs.Dialect.{session}
 use Rattle.swf_cli.proofs.HeardLemmas.{IsHeard}
@@ -17,12 +18,12 @@ use Rattle.swf_cli.proofs.session.take_turns.Given as goal
 abbrev pub invariant-loop : goal.invariant-loop
 invariant-loop g l = record {
   place : IsEngineOf (g.H.Store.seen l.host) l.engine;
-  so_far : (start : g.row.H.Denot) (before : List Label) (first : List Input) (told : List Piece) → g.H.Host.taken l.fn.host ≡ Some first → g.H.Store.said l.fn.host ≡ Some told
+  so_far : (start : g.row.H.Denot) (before : List Label) (first : List (Input NoWork)) (told : List Piece) → g.H.Host.taken l.fn.host ≡ Some first → g.H.Store.said l.fn.host ≡ Some told
       → Stand g.H.Store.moment g.H.Store.left_since g.H.Store.said g.H.Store.may_leave g.H.Store.seen l.fn.host l.fn.engine before
       → Leaves g.H.Store.moment g.H.Store.left_since start l.fn.host (IsMoment session l.words before first told first [])
       → SoFar l.words g.H.Store.moment g.H.Store.left_since g.H.Store.said g.H.Store.may_leave g.H.Store.seen g.H.Host.taken start l.host l.engine before first told l.counter;
-  heard : (first : List Input) (told : List Piece) → g.H.Host.taken l.fn.host ≡ Some first → g.H.Store.said l.fn.host ≡ Some told
-      → (ts : List Turn) × IsHeard g.H.Store.moment g.H.Store.left_since g.H.Store.said g.H.Store.may_leave g.H.Store.seen g.H.Host.taken l.host first told ts;
+  heard : (first : List (Input NoWork)) (told : List Piece) → g.H.Host.taken l.fn.host ≡ Some first → g.H.Store.said l.fn.host ≡ Some told
+      → (ts : List (Turn NoWork)) × IsHeard g.H.Store.moment g.H.Store.left_since g.H.Store.said g.H.Store.may_leave g.H.Store.seen g.H.Host.taken l.host first told ts;
   sound : IsSound g.H.Store.moment g.H.Store.left_since g.H.Store.said g.H.Store.may_leave g.H.Store.seen l.fn.host l.fn.engine → IsSound g.H.Store.moment g.H.Store.left_since g.H.Store.said g.H.Store.may_leave g.H.Store.seen l.host l.engine;
   calls : (turns : ℕ) × TurnsCalls l.words g.H.Store.moment g.H.Store.left_since g.H.Store.said g.H.Store.may_leave g.H.Store.seen g.H.Store.calls g.H.Host.taken turns l.fn.host l.host l.fn.engine l.engine;
   host_faults : g.H.Host.host_faults l.host ≡ g.H.Host.host_faults l.fn.host;

@@ -1,20 +1,25 @@
-use Rattle.std.proofs.Common.{◌≡◌, ◌∙◌, ap, sym, refl, inl, inr, false, Ok, Err, Option, Some, option_map, List, [], ◌∷◌, ◌++◌, arith}
+use Rattle.std.proofs.Common.{◌≡◌, ◌∙◌, ap, sym, refl, subst, inl, inr, false, Ok, Err, Result, Option, Some, option_map, List, [], ◌∷◌, ◌++◌, arith}
 use Rattle.swf_host.specs.declared.host.Input.{Input}
+use Rattle.swf_host.specs.declared.host.NoWork.{NoWork}
 use Rattle.swf_host.specs.declared.host.Input.TheVariants.{Ask as Asks, TooLong as TooLongInput, Closed}
 use Rattle.swf_cli.proofs.TurnLemmas.{Comes, asked_reply, asked_full, asked_broken, too_long_done, closed_done, none_done}
+use Rattle.swf_engine.specs.declared.fault.EngineFault.{EngineFault}
 use Rattle.swf_engine.specs.declared.fault.EngineFault.TheVariants.{Damaged, Full}
 use Rattle.swf_protocol.specs.Spoken.{spoken, full_bytes}
 use Rattle.swf_protocol.specs.declared.reply.Reply.TheVariants.{TooLong}
+use Rattle.swf_cli.specs.Faults.{ReadFaults}
 use Rattle.swf_cli.specs.Dialect.{line_read}
-use Rattle.swf_cli.specs.Steps.{IsSound, follows_end}
+use Rattle.swf_cli.specs.Steps.{IsSound, follows_end, reply_of}
+use Rattle.swf_cli.specs.declared.answer.Answered.{Answered}
 use Rattle.swf_cli.specs.declared.turn.After.TheVariants.{Stops}
+use Rattle.swf_cli.proofs.FaultLemmas.{damage_of_history, full_of_labels, reply_of_history}
 use Rattle.swf_cli.proofs.HeardLemmas.{reply_tells, full_tells, damage_tells}
 use Rattle.swf_cli.proofs.SoundLemmas.{end_is_none, seven_is_none, sound_stays, sound_asked_as, sound_said}
 use Rattle.swf_cli.proofs.turn.take_turn.Goals as goal
 
 -- one more input, in what a host has taken
-abbrev pub with_input : Option (List Input) → Input → Option (List Input)
-with_input taken i = option_map (λ (all : List Input). all ++ i ∷ []) taken
+abbrev pub with_input : Option (List (Input NoWork)) → Input NoWork → Option (List (Input NoWork))
+with_input taken i = option_map (λ (all : List (Input NoWork)). all ++ i ∷ []) taken
 
 pub returns-in-Ok-clause-turn : goal.returns-in-Ok-clause-turn
 returns-in-Ok-clause-turn g c = λ image seen inputs taken pieces said history stands.
@@ -135,14 +140,26 @@ returns-in-Ok-clause-tells g c = λ inputs taken pieces said.
     let conn = c.in-Ok-Ask.conn in
     let input : c.in-Ok-Ask.field-0 ≡ Asks conn line = c.in-Ok-Ask.field-0-is ∙ ap (Asks conn) (sym c.as_slice.ensures) in
     let took : g.H.Host.taken two ≡ Some (inputs ++ Asks conn line ∷ []) =
-    c.answer_ask.ensures.taken ∙ c.in-Ok-Ask.ensures.taken ∙ ap (with_input (g.H.Host.taken old)) input ∙ ap (λ (t : Option (List Input)). with_input t (Asks conn line)) taken in
+    c.answer_ask.ensures.taken ∙ c.in-Ok-Ask.ensures.taken ∙ ap (with_input (g.H.Host.taken old)) input ∙ ap (λ (t : Option (List (Input NoWork))). with_input t (Asks conn line)) taken in
     let silent : H.said two ≡ Some pieces = c.answer_ask.ensures.said ∙ c.next.ensures.said ∙ said in
-    reply_tells H.moment H.left_since H.said H.may_leave H.seen g.H.Host.taken two c.say.new.host inputs pieces (Asks conn line) c.in-Ok.answered.reply c.in-Ok.answered.ends c.say.result took silent c.say.ensures.says
+    reply_tells H.moment H.left_since H.said H.may_leave H.seen g.H.Host.taken two c.say.new.host inputs pieces (Asks conn line) c.in-Ok.answered.reply c.in-Ok.answered.ends c.say.result took silent
+    (reply_of_history (H.seen two) (line_read line) c.answer_ask.result c.in-Ok.answered c.in-Ok.is c.answer_ask.ensures.faults) c.in-Ok.ensures.ends c.say.ensures.says
 
 pub returns-in-Err-Full-clause-tells : goal.returns-in-Err-Full-clause-tells
 returns-in-Err-Full-clause-tells g c = λ inputs taken pieces said.
     let H = g.H.Store in
-    full_tells H.moment H.left_since H.said H.may_leave H.seen g.H.Host.taken c.answer_ask.new.host c.say_full.new.host inputs pieces c.in-Ok-Ask.conn c.in-Err-Full.size c.say_full.result c.say_full.ensures.says
+    let old = c.args.host.now in
+    let two = c.answer_ask.new.host in
+    let line = c.as_slice.result.now in
+    let conn = c.in-Ok-Ask.conn in
+    let input : c.in-Ok-Ask.field-0 ≡ Asks conn line = c.in-Ok-Ask.field-0-is ∙ ap (Asks conn) (sym c.as_slice.ensures) in
+    let took : g.H.Host.taken two ≡ Some (inputs ++ Asks conn line ∷ []) =
+    c.answer_ask.ensures.taken ∙ c.in-Ok-Ask.ensures.taken ∙ ap (with_input (g.H.Host.taken old)) input ∙ ap (λ (t : Option (List (Input NoWork))). with_input t (Asks conn line)) taken in
+    let silent : H.said two ≡ Some pieces = c.answer_ask.ensures.said ∙ c.next.ensures.said ∙ said in
+    full_tells H.moment H.left_since H.said H.may_leave H.seen g.H.Host.taken two c.say_full.new.host inputs pieces conn line c.in-Err-Full.size c.say_full.result took silent
+    (full_of_labels (H.seen two) (line_read line) c.in-Err-Full.size
+    (subst (λ (r : Result Answered EngineFault). ReadFaults (H.seen two) (line_read line) (reply_of r)) (c.in-Err-Full.is ∙ ap Err c.in-Err-Full.field-0-is) c.answer_ask.ensures.faults))
+    c.say_full.ensures.says
 
 pub returns-in-Err-Damaged-clause-tells : goal.returns-in-Err-Damaged-clause-tells
 returns-in-Err-Damaged-clause-tells g c = λ inputs taken pieces said.
@@ -153,9 +170,11 @@ returns-in-Err-Damaged-clause-tells g c = λ inputs taken pieces said.
     let conn = c.in-Ok-Ask.conn in
     let input : c.in-Ok-Ask.field-0 ≡ Asks conn line = c.in-Ok-Ask.field-0-is ∙ ap (Asks conn) (sym c.as_slice.ensures) in
     let took : g.H.Host.taken two ≡ Some (inputs ++ Asks conn line ∷ []) =
-    c.answer_ask.ensures.taken ∙ c.in-Ok-Ask.ensures.taken ∙ ap (with_input (g.H.Host.taken old)) input ∙ ap (λ (t : Option (List Input)). with_input t (Asks conn line)) taken in
+    c.answer_ask.ensures.taken ∙ c.in-Ok-Ask.ensures.taken ∙ ap (with_input (g.H.Host.taken old)) input ∙ ap (λ (t : Option (List (Input NoWork))). with_input t (Asks conn line)) taken in
     let silent : H.said two ≡ Some pieces = c.answer_ask.ensures.said ∙ c.next.ensures.said ∙ said in
-    damage_tells H.moment H.left_since H.said H.may_leave H.seen g.H.Host.taken two c.say_damage.new.host inputs pieces conn line c.in-Err-Damaged.at c.say_damage.result took silent c.say_damage.ensures.says
+    let found = damage_of_history (H.seen two) (line_read line) c.in-Err-Damaged.at
+    (subst (λ (r : Result Answered EngineFault). ReadFaults (H.seen two) (line_read line) (reply_of r)) (c.in-Err-Damaged.is ∙ ap Err c.in-Err-Damaged.field-0-is) c.answer_ask.ensures.faults) in
+    damage_tells H.moment H.left_since H.said H.may_leave H.seen g.H.Host.taken two c.say_damage.new.host inputs pieces conn line found.0 c.in-Err-Damaged.at c.say_damage.result took silent found.1 found.2 c.say_damage.ensures.says
 
 pub returns-in-Ok-TooLong-clause-tells : goal.returns-in-Ok-TooLong-clause-tells
 returns-in-Ok-TooLong-clause-tells g c = λ inputs taken pieces said.
@@ -163,23 +182,23 @@ returns-in-Ok-TooLong-clause-tells g c = λ inputs taken pieces said.
     let old = c.args.host.now in
     let conn = c.in-Ok-TooLong.conn in
     let took : g.H.Host.taken c.next.new.self ≡ Some (inputs ++ TooLongInput conn ∷ []) =
-    c.in-Ok-TooLong.ensures.taken ∙ ap (with_input (g.H.Host.taken old)) c.in-Ok-TooLong.field-0-is ∙ ap (λ (t : Option (List Input)). with_input t (TooLongInput conn)) taken in
-    reply_tells H.moment H.left_since H.said H.may_leave H.seen g.H.Host.taken c.next.new.self c.say-in-Ok-TooLong.new.host inputs pieces (TooLongInput conn) TooLong false c.say-in-Ok-TooLong.result took (c.next.ensures.said ∙ said)
+    c.in-Ok-TooLong.ensures.taken ∙ ap (with_input (g.H.Host.taken old)) c.in-Ok-TooLong.field-0-is ∙ ap (λ (t : Option (List (Input NoWork))). with_input t (TooLongInput conn)) taken in
+    reply_tells H.moment H.left_since H.said H.may_leave H.seen g.H.Host.taken c.next.new.self c.say-in-Ok-TooLong.new.host inputs pieces (TooLongInput conn) TooLong false c.say-in-Ok-TooLong.result took (c.next.ensures.said ∙ said) refl refl
     c.say-in-Ok-TooLong.ensures.says
 
 pub returns-in-Ok-Closed-clause-tells : goal.returns-in-Ok-Closed-clause-tells
 returns-in-Ok-Closed-clause-tells g c = λ inputs taken pieces said.
     let old = c.args.host.now in
     inl (
-      c.in-Ok-Closed.ensures.taken ∙ ap (with_input (g.H.Host.taken old)) c.in-Ok-Closed.field-0-is ∙ ap (λ (t : Option (List Input)). with_input t Closed) taken,
+      c.in-Ok-Closed.ensures.taken ∙ ap (with_input (g.H.Host.taken old)) c.in-Ok-Closed.field-0-is ∙ ap (λ (t : Option (List (Input NoWork))). with_input t Closed) taken,
       c.next.ensures.said ∙ said,
     )
 
 pub returns-in-Err-Store-clause-tells : goal.returns-in-Err-Store-clause-tells
-returns-in-Err-Store-clause-tells g c = λ inputs taken pieces said. λ five. absurd (omega (arith, five))
+returns-in-Err-Store-clause-tells g c = λ inputs taken pieces said. (λ five. absurd (omega (arith, five)), λ seven. absurd (omega (arith, seven)))
 
 pub returns-clause-tells : goal.returns-clause-tells
-returns-clause-tells g c = λ inputs taken pieces said. λ five. absurd (omega (arith, five))
+returns-clause-tells g c = λ inputs taken pieces said. (λ five. absurd (omega (arith, five)), λ seven. absurd (omega (arith, seven)))
 
 pub returns-in-Ok-clause-calls : goal.returns-in-Ok-clause-calls
 returns-in-Ok-clause-calls g c =
@@ -189,7 +208,7 @@ returns-in-Ok-clause-calls g c =
     inl (
       Asks conn line,
       λ inputs is.
-          c.say.ensures.says.taken_same ∙ c.answer_ask.ensures.taken ∙ c.in-Ok-Ask.ensures.taken ∙ ap (with_input (g.H.Host.taken c.args.host.now)) input ∙ ap (λ (t : Option (List Input)). with_input t (Asks conn line)) is,
+          c.say.ensures.says.taken_same ∙ c.answer_ask.ensures.taken ∙ c.in-Ok-Ask.ensures.taken ∙ ap (with_input (g.H.Host.taken c.args.host.now)) input ∙ ap (λ (t : Option (List (Input NoWork))). with_input t (Asks conn line)) is,
       record { taken = c.next.new.self; answered = c.answer_ask.new.host; take = c.next.ensures.calls; made = c.answer_ask.ensures.calls; say = c.say.ensures.calls },
     )
 
@@ -201,7 +220,7 @@ returns-in-Err-Full-clause-calls g c =
     inl (
       Asks conn line,
       λ inputs is.
-          c.say_full.ensures.says.taken_same ∙ c.answer_ask.ensures.taken ∙ c.in-Ok-Ask.ensures.taken ∙ ap (with_input (g.H.Host.taken c.args.host.now)) input ∙ ap (λ (t : Option (List Input)). with_input t (Asks conn line)) is,
+          c.say_full.ensures.says.taken_same ∙ c.answer_ask.ensures.taken ∙ c.in-Ok-Ask.ensures.taken ∙ ap (with_input (g.H.Host.taken c.args.host.now)) input ∙ ap (λ (t : Option (List (Input NoWork))). with_input t (Asks conn line)) is,
       record { taken = c.next.new.self; answered = c.answer_ask.new.host; take = c.next.ensures.calls; made = c.answer_ask.ensures.calls; say = c.say_full.ensures.calls },
     )
 
@@ -213,7 +232,7 @@ returns-in-Err-Damaged-clause-calls g c =
     inl (
       Asks conn line,
       λ inputs is.
-          c.say_damage.ensures.taken ∙ c.answer_ask.ensures.taken ∙ c.in-Ok-Ask.ensures.taken ∙ ap (with_input (g.H.Host.taken c.args.host.now)) input ∙ ap (λ (t : Option (List Input)). with_input t (Asks conn line)) is,
+          c.say_damage.ensures.taken ∙ c.answer_ask.ensures.taken ∙ c.in-Ok-Ask.ensures.taken ∙ ap (with_input (g.H.Host.taken c.args.host.now)) input ∙ ap (λ (t : Option (List (Input NoWork))). with_input t (Asks conn line)) is,
       record { taken = c.next.new.self; answered = c.answer_ask.new.host; take = c.next.ensures.calls; made = c.answer_ask.ensures.calls; say = c.say_damage.ensures.calls },
     )
 
@@ -225,7 +244,7 @@ returns-in-Err-Store-clause-calls g c =
     inl (
       Asks conn line,
       λ inputs is.
-          c.answer_ask.ensures.taken ∙ c.in-Ok-Ask.ensures.taken ∙ ap (with_input (g.H.Host.taken c.args.host.now)) input ∙ ap (λ (t : Option (List Input)). with_input t (Asks conn line)) is,
+          c.answer_ask.ensures.taken ∙ c.in-Ok-Ask.ensures.taken ∙ ap (with_input (g.H.Host.taken c.args.host.now)) input ∙ ap (λ (t : Option (List (Input NoWork))). with_input t (Asks conn line)) is,
       record { taken = c.next.new.self; answered = c.answer_ask.new.host; take = c.next.ensures.calls; made = c.answer_ask.ensures.calls; say = refl },
     )
 
@@ -233,7 +252,7 @@ pub returns-in-Ok-TooLong-clause-calls : goal.returns-in-Ok-TooLong-clause-calls
 returns-in-Ok-TooLong-clause-calls g c = inl (
   TooLongInput c.in-Ok-TooLong.conn,
   λ inputs is.
-      c.say-in-Ok-TooLong.ensures.says.taken_same ∙ c.in-Ok-TooLong.ensures.taken ∙ ap (with_input (g.H.Host.taken c.args.host.now)) c.in-Ok-TooLong.field-0-is ∙ ap (λ (t : Option (List Input)). with_input t (TooLongInput c.in-Ok-TooLong.conn)) is,
+      c.say-in-Ok-TooLong.ensures.says.taken_same ∙ c.in-Ok-TooLong.ensures.taken ∙ ap (with_input (g.H.Host.taken c.args.host.now)) c.in-Ok-TooLong.field-0-is ∙ ap (λ (t : Option (List (Input NoWork))). with_input t (TooLongInput c.in-Ok-TooLong.conn)) is,
   c.say-in-Ok-TooLong.ensures.calls ∙ c.next.ensures.calls,
 )
 
@@ -241,7 +260,7 @@ pub returns-in-Ok-Closed-clause-calls : goal.returns-in-Ok-Closed-clause-calls
 returns-in-Ok-Closed-clause-calls g c = inl (
   Closed,
   λ inputs is.
-      c.in-Ok-Closed.ensures.taken ∙ ap (with_input (g.H.Host.taken c.args.host.now)) c.in-Ok-Closed.field-0-is ∙ ap (λ (t : Option (List Input)). with_input t (Closed)) is,
+      c.in-Ok-Closed.ensures.taken ∙ ap (with_input (g.H.Host.taken c.args.host.now)) c.in-Ok-Closed.field-0-is ∙ ap (λ (t : Option (List (Input NoWork))). with_input t (Closed)) is,
   c.next.ensures.calls,
 )
 

@@ -1,5 +1,5 @@
 use Rattle.std.proofs.Common.{arith}
-use Rattle.swf_registry.proofs.BuiltLemmas.{weight_named}
+use Rattle.swf_document.proofs.Weights.{weight_named}
 use Rattle.swf_registry.proofs.built.+unbuilt.Goals as goal
 
 pub unbuilt-unbuilt_task-place-requires : goal.unbuilt-unbuilt_task-place-requires

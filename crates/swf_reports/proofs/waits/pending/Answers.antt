@@ -1,4 +1,4 @@
-use Rattle.std.proofs.Common.{map, []}
+use Rattle.std.proofs.Common.{map}
 use Rattle.swf_meaning.specs.Pending.{listen_value, timer_value, listening, waiting}
 use Rattle.swf_meaning.specs.World.{Instance}
 use Rattle.swf_reports.proofs.StrandsLemmas.{told_more}
@@ -11,6 +11,6 @@ loop-number-preserved c =
     let i = c.at.result.now in
     let at = c.at.ensures.there in
     record {
-      listens = told_more (λ (j : Instance). map (listen_value j) (listening [] j.node)) is k i _ _ at c.in_ok-push_instance.ensures.listens c.loop-number.invariant.listens;
-      timers = told_more (λ (j : Instance). map (timer_value j) (waiting [] j.node)) is k i _ _ at c.in_ok-push_instance.ensures.timers c.loop-number.invariant.timers;
+      listens = told_more (λ (j : Instance). map (listen_value j) (listening j.node)) is k i _ _ at c.in_ok-push_instance.ensures.listens c.loop-number.invariant.listens;
+      timers = told_more (λ (j : Instance). map (timer_value j) (waiting j.node)) is k i _ _ at c.in_ok-push_instance.ensures.timers c.loop-number.invariant.timers;
     }

@@ -1,7 +1,6 @@
-use Rattle.std.proofs.Common.{◌≡◌, ◌++◌, [], map}
+use Rattle.std.proofs.Common.{◌≡◌, ◌++◌, map}
 use Rattle.std.specs.List.{filter_map}
 use Rattle.swf_meaning.specs.Pending.{listening, waiting, listen_value, timer_value}
-use Rattle.swf_strands.specs.Ways.{at}
 use Rattle.swf_reports.proofs.StrandsLemmas.{told_listen, told_timer}
 use Rattle.swf_reports.proofs.waits.push_instance.Given as goal
 
@@ -11,6 +10,6 @@ invariant-loop-strand l =
     let i = l.instance in
     let left = l.strand-iterator.rest.items in
     record {
-      listens : l.listens.items ++ map (listen_value i) (filter_map (λ s. told_listen [] s (at s i.node)) left) ≡ l.fn.listens.items ++ map (listen_value i) (listening [] i.node);
-      timers : l.timers.items ++ map (timer_value i) (filter_map (λ s. told_timer [] s (at s i.node)) left) ≡ l.fn.timers.items ++ map (timer_value i) (waiting [] i.node);
+      listens : l.listens.items ++ map (listen_value i) (filter_map (told_listen i.node) left) ≡ l.fn.listens.items ++ map (listen_value i) (listening i.node);
+      timers : l.timers.items ++ map (timer_value i) (filter_map (told_timer i.node) left) ≡ l.fn.timers.items ++ map (timer_value i) (waiting i.node);
     }

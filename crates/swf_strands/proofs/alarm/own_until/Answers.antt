@@ -1,8 +1,6 @@
-use Rattle.swf_strands.proofs.AlarmLemmas.{until-waiting, until-not}
+use Rattle.std.proofs.Common.{◌∙◌}
+use Rattle.swf_strands.proofs.AlarmLemmas.{own-is}
 use Rattle.swf_strands.proofs.alarm.own_until.Goals as goal
 
-pub returns-in-Waiting : goal.returns-in-Waiting
-returns-in-Waiting c = λ b f. until-waiting b c.stack_of.result.top.now _ _ c.in-Waiting.until (c.stack_of.ensures.top b f) c.in-Waiting.is
-
-pub returns-in_default : goal.returns-in_default
-returns-in_default c = λ b f. until-not b c.stack_of.result.top.now (c.stack_of.ensures.top b f) c.in_default.not-Waiting
+pub returns : goal.returns
+returns c = λ b f. c.until_of.ensures ∙ own-is b c.stand_of.result.now (c.stand_of.ensures b f)

@@ -13,8 +13,8 @@ put_anew-requires c = at-held c.args.forest.now c.root.result c.in-Some.strand c
 
 pub returns-clause-grown : goal.returns-clause-grown
 returns-clause-grown c =
-    (put-alone c.args.forest.now c.put_anew.new.forest c.root.result c.in-Some.strand c.args.changed.now c.args.layers.items c.root.ensures.root c.root.ensures.distinct c.requires.grown c.in-Some.ensures.found c.requires.stack c.put_anew.ensures).0
+    (put-alone c.args.forest.now c.put_anew.new.forest c.root.result c.in-Some.strand c.args.changed.now c.args.stand c.root.ensures.root c.root.ensures.distinct c.requires.grown c.in-Some.ensures.found c.put_anew.ensures).0
 
 pub returns-clause-node : goal.returns-clause-node
 returns-clause-node c =
-    (put-alone c.args.forest.now c.put_anew.new.forest c.root.result c.in-Some.strand c.args.changed.now c.args.layers.items c.root.ensures.root c.root.ensures.distinct c.requires.grown c.in-Some.ensures.found c.requires.stack c.put_anew.ensures).1
+    (put-alone c.args.forest.now c.put_anew.new.forest c.root.result c.in-Some.strand c.args.changed.now c.args.stand c.root.ensures.root c.root.ensures.distinct c.requires.grown c.in-Some.ensures.found c.put_anew.ensures).1

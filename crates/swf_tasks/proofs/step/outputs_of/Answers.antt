@@ -1,17 +1,15 @@
-use Rattle.std.proofs.Common.{◌≡◌, ◌∙◌, ap, sym, subst, suc, add-one, true, false, ◌++◌, ◌∷◌, [], Some, arith}
+use Rattle.std.proofs.Common.{◌≡◌, ◌∙◌, ap, sym, subst, suc, add-one, ◌++◌, ◌∷◌, [], Some, arith}
 use Rattle.std.specs.Prelude.{option_map}
 use Rattle.swf_frames.specs.Tree.{find}
 use Rattle.swf_frames.specs.Paths.{Found}
 use Rattle.swf_meaning.specs.Fork.{put}
 use Rattle.swf_meaning.specs.Node.{Node}
-use Rattle.swf_stack.specs.Layers.{top_of}
 use Rattle.swf_stack.specs.Stack.{top_node}
-use Rattle.swf_stack.specs.declared.made.Layer.{Layer}
+use Rattle.swf_stack.specs.declared.made.Stand.{Stand}
 use Rattle.swf_tasks.specs.Installed.{output_in}
-use Rattle.swf_tasks.specs.Stepped.{output_on}
 use Rattle.swf_strands.specs.Strands.{nodes_of}
-use Rattle.swf_tasks.proofs.OutputLemmas.{AreUpTo, output-of-branch, one-more, not-all, all-done, none-left, below-beside, few-below}
-use Rattle.swf_strands.proofs.TreeLemmas.{nth_node, yes-no}
+use Rattle.swf_tasks.proofs.OutputLemmas.{AreUpTo, output-of-ended, output-of-other, one-more, not-all, all-done, none-left, below-beside, few-below}
+use Rattle.swf_strands.proofs.TreeLemmas.{nth_node}
 use Rattle.swf_tasks.proofs.step.outputs_of.Goals as goal
 use Rattle.swf_tasks.proofs.step.outputs_of.Goals.{then-next-number, else-next-number}
 
@@ -21,16 +19,13 @@ returns-in_default-output c = λ b f.
     let next = c.loop-branch.next in
     let ms = put (nodes_of b.below) number (top_node c.args.ended.now) in
     let h = c.in-Some.ensures.child b f in
-    let child : Found Layer = record { number = c.in-Some.branch; held = h.0 } in
+    let child : Found Stand = record { number = c.in-Some.branch; held = h.0 } in
     let told : (n : Node) × ((nth_node ms next ≡ Some n) × (output_in n ≡ option_map (λ w. w.now) c.if-next-number.output)) =
     elim c.if-next-number.branch [
-      | then-next-number w ↦ let o = output-of-branch b number next child c.args.ended.now h.1.0 true (λ _. w.if-next-number.true) (λ e. absurd (yes-no e)) in (o.0, (o.1.0, o.1.1 ∙ sym (ap (option_map (λ w. w.now)) w.output-is ∙ w.output_of-output.ensures)))
-      | else-next-number w ↦ let o = output-of-branch b number next child c.args.ended.now h.1.0 false (λ e. absurd (yes-no (sym e))) (λ _ e. w.if-next-number.false (sym e)) in (
+      | then-next-number w ↦ let o = output-of-ended b number next child c.args.ended.now h.1.0 w.if-next-number.true in (o.0, (o.1.0, o.1.1 ∙ sym (ap (option_map (λ w. w.now)) w.output-is ∙ w.output_of-output.ensures)))
+      | else-next-number w ↦ let o = output-of-other b number next child w.stand_of.result.now c.args.ended.now h.1.0 (w.stand_of.ensures h.0 h.1.1.0) (λ e. w.if-next-number.false (sym e)) in (
         o.0,
-        (
-          o.1.0,
-          o.1.1 ∙ ap (λ ls. output_on ls (top_of h.0.frames)) (sym (c.stack_of.ensures.around h.0 h.1.1.0)) ∙ ap (output_on c.stack_of.result.around.now) (sym (c.stack_of.ensures.top h.0 h.1.1.0)) ∙ sym (ap (option_map (λ w. w.now)) w.output-is ∙ w.output_of-output-else-next-number.ensures),
-        ),
+        (o.1.0, o.1.1 ∙ sym (ap (option_map (λ w. w.now)) w.output-is ∙ w.output_on-output.ensures)),
       )
     ] in
     not-all ms next c.loop-branch.outputs.items told.0 (c.loop-branch.invariant b f) told.1.0 (told.1.1 ∙ ap (option_map (λ w. w.now)) c.in_default-output.is)
@@ -55,16 +50,13 @@ loop-branch-preserved c = λ b f.
     let next = c.loop-branch.next in
     let ms = put (nodes_of b.below) number (top_node c.args.ended.now) in
     let h = c.in-Some.ensures.child b f in
-    let child : Found Layer = record { number = c.in-Some.branch; held = h.0 } in
+    let child : Found Stand = record { number = c.in-Some.branch; held = h.0 } in
     let told : (n : Node) × ((nth_node ms next ≡ Some n) × (output_in n ≡ option_map (λ w. w.now) c.if-next-number.output)) =
     elim c.if-next-number.branch [
-      | then-next-number w ↦ let o = output-of-branch b number next child c.args.ended.now h.1.0 true (λ _. w.if-next-number.true) (λ e. absurd (yes-no e)) in (o.0, (o.1.0, o.1.1 ∙ sym (ap (option_map (λ w. w.now)) w.output-is ∙ w.output_of-output.ensures)))
-      | else-next-number w ↦ let o = output-of-branch b number next child c.args.ended.now h.1.0 false (λ e. absurd (yes-no (sym e))) (λ _ e. w.if-next-number.false (sym e)) in (
+      | then-next-number w ↦ let o = output-of-ended b number next child c.args.ended.now h.1.0 w.if-next-number.true in (o.0, (o.1.0, o.1.1 ∙ sym (ap (option_map (λ w. w.now)) w.output-is ∙ w.output_of-output.ensures)))
+      | else-next-number w ↦ let o = output-of-other b number next child w.stand_of.result.now c.args.ended.now h.1.0 (w.stand_of.ensures h.0 h.1.1.0) (λ e. w.if-next-number.false (sym e)) in (
         o.0,
-        (
-          o.1.0,
-          o.1.1 ∙ ap (λ ls. output_on ls (top_of h.0.frames)) (sym (c.stack_of.ensures.around h.0 h.1.1.0)) ∙ ap (output_on c.stack_of.result.around.now) (sym (c.stack_of.ensures.top h.0 h.1.1.0)) ∙ sym (ap (option_map (λ w. w.now)) w.output-is ∙ w.output_of-output-else-next-number.ensures),
-        ),
+        (o.1.0, o.1.1 ∙ sym (ap (option_map (λ w. w.now)) w.output-is ∙ w.output_on-output.ensures)),
       )
     ] in
     let w = c.in-Some-output.output.now in

@@ -5,7 +5,7 @@ use Rattle.swf_document.specs.TaskNode.{task_of, tasks_of}
 use Rattle.swf_document.specs.declared.tasks.Named.{Named}
 use Rattle.swf_scope.specs.NamesView.{places_in}
 use Rattle.swf_validate.specs.Calls.{called_in, called_in_tasks}
-use Rattle.swf_validate.proofs.NamedLemmas.{weight_named}
+use Rattle.swf_document.proofs.Weights.{weight_named}
 use Rattle.swf_validate.proofs.calls.+called.Goals as goal
 
 pub called_in_named-called_in-requires : goal.called_in_named-called_in-requires

@@ -1,5 +1,5 @@
 use Rattle.std.proofs.Common.{arith}
-use Rattle.swf_validate.proofs.NamedLemmas.{weight_named}
+use Rattle.swf_document.proofs.Weights.{weight_named}
 use Rattle.swf_validate.proofs.count.+count.Goals as goal
 
 pub add_named-add_task-sum-requires : goal.add_named-add_task-sum-requires

@@ -7,7 +7,8 @@ use Rattle.swf_scope.specs.NamesView.{places_in}
 use Rattle.swf_scope.specs.Scope.{fault_unless}
 use Rattle.swf_scope.specs.ScopeView.{scope_of}
 use Rattle.swf_validate.specs.TaskFaults.{named_faults}
-use Rattle.swf_validate.proofs.NamedLemmas.{weight_named, named_step}
+use Rattle.swf_document.proofs.Weights.{weight_named}
+use Rattle.swf_validate.proofs.NamedLemmas.{named_step}
 use Rattle.swf_validate.proofs.tasks.+tasks.Goals as goal
 
 pub named-task-requires : goal.named-task-requires

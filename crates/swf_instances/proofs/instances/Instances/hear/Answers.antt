@@ -1,8 +1,8 @@
-use Rattle.std.proofs.Common.{◌≡◌, ◌∙◌, ap, sym, subst, refl, arith}
+use Rattle.std.proofs.Common.{◌≡◌, ◌∙◌, ap, sym, subst, refl, Some, arith}
 use Rattle.std.specs.List.{AllByRecursion}
 use Rattle.std.proofs.lemmas.List.{nil_from_length}
 use Rattle.swf_instances.specs.Offers.{ids, put_at, put_all, IsHeardFrom}
-use Rattle.swf_instances.proofs.OfferLemmas.{from_again, heard_fits, ids_put, whole_put}
+use Rattle.swf_instances.proofs.OfferLemmas.{from_again, ids_put}
 use Rattle.swf_instances.proofs.instances.Instances.hear.Goals as goal
 
 pub loop-number-init : goal.loop-number-init
@@ -15,11 +15,11 @@ loop-number-init c =
       moment = refl;
     }
 
-pub take-requires : goal.take-requires
-take-requires c =
+pub put-requires : goal.put-requires
+put-requires c =
     let is = c.loop-number.self.instances in
     let from = subst (AllByRecursion (IsHeardFrom is)) c.in-Some.ensures.steps.0 c.loop-number.invariant.from in
-    heard_fits is c.in-Some.field-0.number c.in-Some.field-0.instance from.0
+    from.0 ∙ ap (λ j. Some j.id) (sym c.into_inner.ensures)
 
 pub loop-number-preserved : goal.loop-number-preserved
 loop-number-preserved c =
@@ -27,13 +27,13 @@ loop-number-preserved c =
     let hs = c.next.new.self.rest.items in
     let n = c.in-Some.field-0.number in
     let j = c.in-Some.field-0.instance in
-    let put : c.take.new.self.instances ≡ put_at n j is = c.take.ensures.instances ∙ whole_put n j is in
+    let put : c.put.new.self.instances ≡ put_at n j is = c.put.ensures.instances ∙ ap (λ j. put_at n j is) c.into_inner.ensures in
     let from = subst (AllByRecursion (IsHeardFrom is)) c.in-Some.ensures.steps.0 c.loop-number.invariant.from in
-    let same : ids is ≡ ids c.take.new.self.instances = sym (ap ids put ∙ ids_put is n j from.0) in
+    let same : ids is ≡ ids c.put.new.self.instances = sym (ap ids put ∙ ids_put is n j from.0) in
     record {
       heard = ap (put_all hs) put ∙ sym (ap (λ hs. put_all hs is) c.in-Some.ensures.steps.0) ∙ c.loop-number.invariant.heard;
-      from = from_again is c.take.new.self.instances hs same from.1;
-      moment = c.take.ensures.moment ∙ c.loop-number.invariant.moment;
+      from = from_again is c.put.new.self.instances hs same from.1;
+      moment = c.put.ensures.moment ∙ c.loop-number.invariant.moment;
     }
 
 pub returns-clause-instances : goal.returns-clause-instances

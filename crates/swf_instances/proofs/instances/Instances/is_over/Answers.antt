@@ -1,7 +1,7 @@
 use Rattle.std.proofs.Common.{◌∙◌, ap}
 use Rattle.std.specs.List.{list_any}
 use Rattle.swf_meaning.specs.Wake.{is_due}
-use Rattle.swf_turns.specs.Alarms.{is_by}
+use Rattle.swf_queue.specs.Alarms.{is_by}
 use Rattle.swf_instances.specs.Held.{instances_in}
 use Rattle.swf_instances.proofs.WaitLemmas.{some_over}
 use Rattle.swf_instances.proofs.instances.Instances.is_over.Goals as goal

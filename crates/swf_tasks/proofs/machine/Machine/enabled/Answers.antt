@@ -8,12 +8,12 @@ use Rattle.swf_tasks.proofs.machine.Machine.enabled.Goals as goal
 pub strand_at-requires : goal.strand_at-requires
 strand_at-requires c = root-held c.self.inside.forest c.root.result c.root.ensures.root c.root.ensures.distinct c.self.invariant.0
 
-pub holds_here-requires : goal.holds_here-requires
-holds_here-requires c = way-held c.self.inside.forest c.root.result c.in-Some.strand c.as_slice.result.now (root-held c.self.inside.forest c.root.result c.root.ensures.root c.root.ensures.distinct c.self.invariant.0) c.in-Some.ensures.found
+pub enabled_here-requires : goal.enabled_here-requires
+enabled_here-requires c = way-held c.self.inside.forest c.root.result c.in-Some.strand c.as_slice.result.now (root-held c.self.inside.forest c.root.result c.root.ensures.root c.root.ensures.distinct c.self.invariant.0) c.in-Some.ensures.found
 
 pub returns-in-Some : goal.returns-in-Some
 returns-in-Some c =
-    on-strand (λ o. c.holds_here.result ≡ top_there (can_top c.args.now) o) c.self.inside.setting c.self.inside.forest c.root.result c.in-Some.strand c.as_slice.result.now c.args.strand.now c.args.self.now c.self.view_is c.root.ensures.root c.self.invariant.0 c.as_slice.ensures c.in-Some.ensures.found c.holds_here.ensures
+    on-strand (λ o. c.enabled_here.result ≡ top_there (can_top c.args.now) o) c.self.inside.setting c.self.inside.forest c.root.result c.in-Some.strand c.as_slice.result.now c.args.strand.now c.args.self.now c.self.view_is c.root.ensures.root c.self.invariant.0 c.as_slice.ensures c.in-Some.ensures.found c.enabled_here.ensures
     ∙ sym (top_is-at (can_top c.args.now) c.args.strand.now c.args.self.now.node)
 
 pub returns-in-None : goal.returns-in-None

@@ -12,5 +12,5 @@ hears_in-requires c = root-held c.self.inside.forest c.root.result c.root.ensure
 
 pub returns : goal.returns
 returns c =
-    of-root (λ n. IfOk c.hears_in.result (λ b. b ≡ nat_lt 0 (offered c.args.event.now n).1)) c.self.inside.setting c.self.inside.forest c.root.result c.args.self.now c.self.view_is c.root.ensures.root c.self.invariant.0 (λ b f.
-    all-told (λ x. find c.self.inside.forest.strands c.root.result ≡ Some x) (λ h x. h ≡ nat_lt 0 (offered c.args.event.now (node_of x)).1) c.hears_in.result b f c.hears_in.ensures)
+    of-root (λ n. IfOk c.hears_in.result (λ b. b ≡ nat_lt 0 (offered c.args.offer.now n).1)) c.self.inside.setting c.self.inside.forest c.root.result c.args.self.now c.self.view_is c.root.ensures.root c.self.invariant.0 (λ b f.
+    all-told (λ x. find c.self.inside.forest.strands c.root.result ≡ Some x) (λ h x. h ≡ nat_lt 0 (offered c.args.offer.now (node_of x)).1) c.hears_in.result b f c.hears_in.ensures)

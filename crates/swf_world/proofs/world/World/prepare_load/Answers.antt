@@ -17,8 +17,8 @@ returns-in-Err c =
     let read : accepted c.args.value.now ≡ Some c.in-Ok.document = c.in-Ok.ensures.ok in
     ap (refusal_of_load c.args.self.now.world (load_faults c.args.value.now)) read ∙ sym (c.loadable.ensures (load_faults c.args.value.now) c.in-Ok.document (ap (λ d. d.key) (sym c.document.ensures.value))) ∙ ap refused_by c.in-Err.is
 
-pub returns-in-Ok-loadable : goal.returns-in-Ok-loadable
-returns-in-Ok-loadable c =
+pub returns : goal.returns
+returns c =
     let read : accepted c.args.value.now ≡ Some c.in-Ok.document = c.in-Ok.ensures.ok in
     subst (Prepares c.args.self.now.world (Load c.args.value.now)) (sym c.ready.ensures)
     (load_prepares c.args.self.now.world c.args.value.now c.in-Ok.document c.load_change.result read (sym (c.loadable.ensures (load_faults c.args.value.now) c.in-Ok.document (ap (λ d. d.key) (sym c.document.ensures.value))) ∙ ap refused_by c.in-Ok-loadable.is) c.load_change.ensures)

@@ -1,5 +1,5 @@
 use Rattle.std.proofs.Common.{◌∙◌, ap, sym, Some, None, option_map, arith}
-use Rattle.swf_runs.specs.After.{document_at}
+use Rattle.swf_meaning.specs.Documents.{document_at}
 use Rattle.swf_world.specs.Parts.{world_of}
 use Rattle.swf_world.proofs.Checks.{start_refused, too_many, not_too_many}
 use Rattle.swf_world.proofs.world.World.startable.Goals as goal

@@ -1,0 +1,7 @@
+pub mod TaskLemmas
+pub mod NumberLemmas
+pub mod ChildLemmas
+pub mod IterationLemmas
+pub mod VersionLemmas
+pub mod DocumentLemmas
+pub mod TaskSends

@@ -1,5 +1,0 @@
-use Rattle.swf_stack.proofs.TaskLemmas.{task_at-index}
-use Rattle.swf_stack.proofs.task.at.Goals as goal
-
-pub returns : goal.returns
-returns c = task_at-index _ _ _ c.requires

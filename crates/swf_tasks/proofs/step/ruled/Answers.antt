@@ -1,0 +1,47 @@
+use Rattle.std.proofs.Common.{◌≡◌, ◌∙◌, [], ap, subst, true, List}
+use Rattle.swf_meaning.specs.Listen.{is_heard}
+use Rattle.swf_meaning.specs.Strands.{can_go}
+use Rattle.swf_meaning.specs.declared.heard.Heard.{Heard}
+use Rattle.swf_scene.specs.Setting.{line_of, site_of}
+use Rattle.swf_stack.specs.Stack.{plug, top_node}
+use Rattle.swf_stack.specs.Stands.{inward}
+use Rattle.swf_strands.proofs.StrandLemmas.{some-done, some-failed, no-fork}
+use Rattle.swf_tasks.specs.Taken.{IsListened}
+use Rattle.swf_tasks.proofs.StepLemmas.{made-fresh, made-waiting, made-hearing, made-moved, made-failed, enabled-hearing}
+use Rattle.swf_tasks.proofs.step.ruled.Goals as goal
+
+pub returns-in-Fresh : goal.returns-in-Fresh
+returns-in-Fresh c = λ l seen. made-fresh (site_of c.args.scene.now) l (line_of c.args.scene.now) c.args.stand.now c.in-Fresh.task c.in-Fresh.raw c.enter.result c.in-Fresh.is seen c.enter.ensures
+
+pub returns-in-Waiting : goal.returns-in-Waiting
+returns-in-Waiting c = λ l seen.
+    made-waiting (site_of c.args.scene.now) l (line_of c.args.scene.now) c.args.stand.now c.in-Waiting.running c.in-Waiting.retries c.in-Waiting.until c.woken.result c.in-Waiting.is c.requires seen c.woken.ensures
+
+pub listened-requires : goal.listened-requires
+listened-requires c =
+    ap (is_heard c.in-Hearing.running.task) c.as_slice.ensures ∙ enabled-hearing c.args.scene.now.site.now c.args.stand.now c.in-Hearing.running _ c.in-Hearing.heard c.in-Hearing.is ∙ c.requires
+
+pub returns-in-Hearing : goal.returns-in-Hearing
+returns-in-Hearing c = λ l seen.
+    let z = line_of c.args.scene.now in
+    made-hearing (site_of c.args.scene.now) l z c.args.stand.now c.in-Hearing.running _ c.in-Hearing.heard c.listened.result c.in-Hearing.is c.requires seen
+    (subst (λ (hs : List Heard). IsListened z c.in-Hearing.running hs c.listened.result) c.as_slice.ensures c.listened.ensures)
+
+pub unreachable-requires : goal.unreachable-requires
+unreachable-requires c =
+    let fs = inward c.args.stand.now.around in
+    no-fork c.args.scene.now.site.now fs c.in-Forked.field-0 (subst (λ t. can_go c.args.scene.now.site.now [] (plug fs (top_node t)) ≡ true) c.in-Forked.is c.requires)
+
+pub innermost-requires : goal.innermost-requires
+innermost-requires c = some-done c.args.scene.now.site.now c.args.stand.now c.in-Done.output c.in-Done.flow c.in-Done.is c.requires
+
+pub returns-in-Done : goal.returns-in-Done
+returns-in-Done c = λ l seen.
+    made-moved (site_of c.args.scene.now) l (line_of c.args.scene.now) c.args.stand.now c.in-Done.output c.in-Done.flow c.innermost.result.now c.moved_on.result c.in-Done.is c.innermost.ensures seen c.moved_on.ensures
+
+pub innermost-requires-in-Fault : goal.innermost-requires-in-Fault
+innermost-requires-in-Fault c = some-failed c.args.scene.now.site.now c.args.stand.now c.in-Fault.problem c.in-Fault.is c.requires
+
+pub returns-in-Fault : goal.returns-in-Fault
+returns-in-Fault c = λ l seen.
+    made-failed (site_of c.args.scene.now) l (line_of c.args.scene.now) c.args.stand.now c.in-Fault.problem c.innermost-in-Fault.result.now c.failed.result c.in-Fault.is c.innermost-in-Fault.ensures seen c.failed.ensures

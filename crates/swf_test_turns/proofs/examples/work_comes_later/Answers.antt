@@ -1,0 +1,18 @@
+use Rattle.std.proofs.Common.{refl, inl, [], arith}
+use Rattle.std.proofs.lemmas.List.Sorted.{IsPermutation-refl}
+use Rattle.swf_test_turns.proofs.examples.work_comes_later.Goals as goal
+
+pub returns : goal.returns
+returns c = record {
+  turn = λ words a b. (
+    inl (record {
+      settling = record { unused = []; taken = IsPermutation-refl []; most = omega arith };
+      enough = λ e. refl;
+      told = refl;
+    }),
+    (refl, (refl, (refl, tt))),
+    tt,
+    tt,
+  );
+  early = λ words a t. t.0;
+}

@@ -1,2 +1,0 @@
-pub mod AlarmLemmas
-pub mod TurnLemmas

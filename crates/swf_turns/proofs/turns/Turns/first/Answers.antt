@@ -1,7 +1,0 @@
-use Rattle.std.proofs.Common.{subst, ◌<◌, ◌≡◌, ℕ, true}
-use Rattle.swf_turns.specs.Line.{is_among}
-use Rattle.swf_turns.proofs.TurnLemmas.{known}
-use Rattle.swf_turns.proofs.turns.Turns.first.Goals as goal
-
-pub returns-clause-known : goal.returns-clause-known
-returns-clause-known c = subst (λ l. (n : ℕ) → is_among n l.numbers ≡ true → n < l.count) c.self.view_is (known c.self.inside.queue.items c.self.inside.queued.items _ c.self.invariant)

@@ -1,2 +1,0 @@
-pub mod Alarms
-pub mod Line
