@@ -1,5 +1,5 @@
 -- What a head that was found leads to.
-use Rattle.std.proofs.Common.{◌≡◌, ◌∙◌, sym, subst, ap, ℕ, ◌<◌, ◌≤◌, List, length, map, take, All, arith}
+use Rattle.std.proofs.Common.{◌≡◌, ◌∙◌, sym, subst, ap, ℕ, List, length, map, take, All, arith}
 use Rattle.std.proofs.lemmas.List.{length-map}
 use Rattle.httparse.specs.Grammar.{RequestHead}
 use Rattle.httparse.specs.Spans.{IsHeaderWithin, IsRequestAt, IsRequestWithin, header_bytes, name_and_value}
@@ -13,8 +13,8 @@ pub headers_within : (bytes : List ℕ) (headers slice : List HeaderSpan) (spans
     → slice ≡ take spans.headers headers → All (IsHeaderWithin (length bytes)) slice
 headers_within bytes headers slice spans within is = subst (All (IsHeaderWithin (length bytes))) (sym is)
     (λ k d under.
-        let at = within.section.headers_fit k d under in
-        ((at.0.0, omega (arith, at.0.1, within.section.len_fits)), (at.1.0, omega (arith, at.1.1, within.section.len_fits))))
+    let at = within.section.headers_fit k d under in
+    ((at.0.0, omega (arith, at.0.1, within.section.len_fits)), (at.1.0, omega (arith, at.1.1, within.section.len_fits))))
 
 pub judged_head : (bytes : List ℕ) (headers slice : List HeaderSpan) (spans : RequestSpans) (h : RequestHead) (known : KnownFields) (count : ℕ)
     → IsRequestAt bytes headers spans h → slice ≡ take spans.headers headers → known ≡ known_fields (map (header_bytes bytes) slice)

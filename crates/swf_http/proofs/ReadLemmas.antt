@@ -1,18 +1,18 @@
 -- From what was read so far to what all bytes say.
-use Rattle.std.proofs.Common.{◌≡◌, ℕ, ◌+◌, ◌-◌, ◌<◌, ◌≤◌, List, [], ◌++◌, length, take, drop, refl, sym, ap, ◌∙◌, subst, true, false, arith, append_assoc, append-nil, length-append, length-drop, take-append-drop, nat_le, Option, Some, Result, Ok, Err}
+use Rattle.std.proofs.Common.{◌≡◌, ℕ, ◌+◌, ◌-◌, ◌<◌, ◌≤◌, List, ◌++◌, length, take, drop, refl, sym, ap, ◌∙◌, subst, true, false, arith, append_assoc, append-nil, length-append, length-drop, take-append-drop, nat_le, Option, Some, Ok, Err}
 use Rattle.std.proofs.lemmas.Bool.{le-leb, false_from_ne_true, leb-true}
-use Rattle.std.proofs.lemmas.List.{take_all, drop-append-le, take-append-le}
+use Rattle.std.proofs.lemmas.List.{drop-append-le, take-append-le}
 use Rattle.std.proofs.Math.Seq.{take-append_seam}
-use Rattle.httparse.specs.Grammar.{RequestHead, print_request, ReadsRequest}
+use Rattle.httparse.specs.Grammar.{RequestHead, ReadsRequest}
 use Rattle.httparse.specs.Spans.{IsRequestAt}
 use Rattle.httparse.proofs.GrammarLemmas.{ReadsRequest-append}
 use Rattle.swf_http.specs.declared.fault.HttpFault.{HttpFault}
 use Rattle.swf_http.specs.declared.fault.HttpFault.TheVariants.{Read, Ended, TooLong, BadMessage, OutOfMemory}
 use Rattle.swf_http.specs.declared.look.Found.{Found}
-use Rattle.swf_http.specs.Heads.{BeginsHead, BeginsNone, SaysHead, IsFound, Settles}
+use Rattle.swf_http.specs.Heads.{BeginsHead, SaysHead, Settles}
 use Rattle.swf_http.specs.Messages.{body_of}
 use Rattle.swf_http.specs.Sources.{Grows, Splits, IsReadFault}
-use Rattle.swf_http.specs.Verdicts.{Verdict, whole, ended, long, bad, FaultSays}
+use Rattle.swf_http.specs.Verdicts.{Verdict, whole, ended, long, FaultSays}
 
 -- ---- the bytes that come
 
@@ -82,9 +82,10 @@ says_whole room y now left found h s at within short =
     let reads : ReadsRequest (now ++ s.rest) h (drop found.spans.len now ++ s.rest) =
     ReadsRequest-append now h (drop found.spans.len now) s.rest at.reads in
     let after : drop found.spans.len now ++ s.rest ≡ drop found.spans.len y =
-    sym (drop-append-le found.spans.len now s.rest within) ∙ ap (λ (t : List ℕ). drop found.spans.len t) (sym s.whole_is) in
-    (subst (λ (t : List ℕ). ReadsRequest t h (drop found.spans.len y)) (sym s.whole_is) (subst (ReadsRequest (now ++ s.rest) h) after reads),
-        omega (arith, at.len, within, short))
+    sym (drop-append-le found.spans.len now s.rest within) ∙ ap (λ (t : List ℕ). drop found.spans.len t) (sym s.whole_is) in (
+      subst (λ (t : List ℕ). ReadsRequest t h (drop found.spans.len y)) (sym s.whole_is) (subst (ReadsRequest (now ++ s.rest) h) after reads),
+      omega (arith, at.len, within, short),
+    )
 
 -- ---- a body
 

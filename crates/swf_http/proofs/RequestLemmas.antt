@@ -1,5 +1,5 @@
 -- From a head and a body to a request.
-use Rattle.std.proofs.Common.{◌≡◌, ◌∙◌, ap, subst, ℕ, List, drop, inl, inr}
+use Rattle.std.proofs.Common.{◌≡◌, ◌∙◌, ap, ℕ, List, inl, inr}
 use Rattle.httparse.specs.Grammar.{RequestHead}
 use Rattle.swf_http.specs.declared.fault.HttpFault.{HttpFault}
 use Rattle.swf_http.specs.declared.fault.HttpFault.TheVariants.{Read, Ended, TooLong, BadMessage, OutOfMemory}

@@ -1,6 +1,6 @@
 -- What may be sent is ASCII.
-use Rattle.std.proofs.Common.{◌≡◌, ◌∙◌, ap, sym, refl, ℕ, ◌<◌, ◌≤◌, List, [], ◌∷◌, Bool, true, false, ◌==◌, ◌&&◌, ◌||◌, nat_lt, codes, All, inl, inr, arith}
-use Rattle.std.proofs.lemmas.Bool.{cases_lt, cases_Bool, eqb-true, ltb-true, lt-ltb, le-ltb, false_from_ne_true, true≢false}
+use Rattle.std.proofs.Common.{◌≡◌, ◌∙◌, sym, refl, ℕ, ◌<◌, ◌≤◌, List, [], ◌∷◌, Bool, true, false, ◌==◌, ◌||◌, nat_lt, codes, inl, inr, arith}
+use Rattle.std.proofs.lemmas.Bool.{cases_lt, eqb-true, ltb-true, lt-ltb, false_from_ne_true, true≢false}
 use Rattle.std.proofs.lemmas.List.Elements.{All-head, All-tail}
 use Rattle.std.proofs.lemmas.Str.{encodes-IsAscii}
 use Rattle.std.specs.List.{list_all, list_any}
@@ -9,8 +9,7 @@ use Rattle.std.specs.Char.{is_ascii_alphanumeric}
 use Rattle.httparse.specs.Grammar.{AllPass, IsToken, is_token_byte, is_ows}
 use Rattle.swf_text.specs.Same.{is_ascii}
 use Rattle.swf_text.proofs.SameLemmas.{both_true, all_ascii}
-use Rattle.swf_calls.specs.declared.headers.Header.{Header}
-use Rattle.swf_http.specs.Sent.{is_visible, IsPlain, IsSendable}
+use Rattle.swf_http.specs.Sent.{is_visible, IsPlain}
 
 pub text_bytes : (t : List ℕ) → is_ascii t ≡ true → encode_utf8_all t ≡ t
 text_bytes t p = encodes-IsAscii t (all_ascii t p)

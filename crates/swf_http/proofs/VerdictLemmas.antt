@@ -9,7 +9,7 @@ use Rattle.std.proofs.Math.Seq.{take-append-add}
 use Rattle.httparse.specs.Grammar.{LineEnd, lf, print_end, print_blank, print_version, print_section, IsField, RequestHead, print_request, ReadsRequest, NeverHasRequest, EndsInTarget, is_uri_byte, IsToken}
 use Rattle.httparse.proofs.GrammarLemmas.{request_unique, print_request-append}
 use Rattle.swf_http.specs.Heads.{BeginsHead, BeginsNone, SaysHead, most_head}
-use Rattle.swf_http.specs.Messages.{Message, SaysRequest, behind_head}
+use Rattle.swf_http.specs.Messages.{SaysRequest, behind_head}
 use Rattle.swf_http.specs.Framing.{judge}
 use Rattle.swf_http.specs.Verdicts.{Verdict, whole, ended, long, bad, Stops, Then, OneVerdict}
 

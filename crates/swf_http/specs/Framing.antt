@@ -1,6 +1,6 @@
 -- What a whole head of a request says of its body (RFC 9112, section 6.3).
-use Rattle.std.specs.Prelude.{ℕ, ◌||◌, Bool, nat_lt, List, length, map, Option, Some, None, Result, Ok, Err, if◌then◌else◌}
-use Rattle.httparse.specs.Grammar.{Field, RequestHead}
+use Rattle.std.specs.Prelude.{ℕ, ◌||◌, Bool, nat_lt, length, map, Option, Some, None, Result, Ok, Err, if◌then◌else◌}
+use Rattle.httparse.specs.Grammar.{RequestHead}
 use Rattle.httparse.specs.Spans.{name_and_value}
 use Rattle.http1.specs.Fields.{known_fields}
 use Rattle.http1.specs.Framing.{request_framing}

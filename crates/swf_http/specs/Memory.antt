@@ -1,7 +1,6 @@
 -- A source and a sink in memory: what is left, what was written, and their counts.
 use Rattle.std.specs.Prelude.{◌≡◌, ◌⊎◌, ℕ, ◌+◌, ◌-◌, ◌^◌, min, List, length, drop, Result, Ok, Err}
 use Rattle.std.specs.List.{Contains}
-use Rattle.swf_store.specs.Faults.{RoseOnce}
 use Rattle.swf_http.specs.declared.memory_source.MemorySource.{MemorySource}
 use Rattle.swf_http.specs.declared.memory_sink.MemorySink.{MemorySink}
 

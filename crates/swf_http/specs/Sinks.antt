@@ -1,5 +1,5 @@
 -- What a sink that tells its bytes took.
-use Rattle.std.specs.Prelude.{◌≡◌, ℕ, ◌<◌, ◌≤◌, List, ◌++◌, length, take, Option, Some, Result, Ok, Err}
+use Rattle.std.specs.Prelude.{◌≡◌, ℕ, ◌<◌, List, ◌++◌, length, take, Option, Some, Result, Ok, Err}
 use Rattle.swf_store.specs.Faults.{RoseOnce}
 
 -- after a write: so many bytes more, or none after a failure

@@ -55,11 +55,7 @@ fn spelled(alloc: Global, bytes: &[u8]) -> Result<Text, AllocError>
 }
 
 // The headers that stand at some spans.
-fn headers_at(
-    alloc: Global,
-    bytes: &[u8],
-    spans: &[HeaderSpan],
-) -> Result<Headers, AllocError>
+fn headers_at(alloc: Global, bytes: &[u8], spans: &[HeaderSpan]) -> Result<Headers, AllocError>
     requires { All (IsHeaderWithin (length bytes.now)) spans.now }
     ensures { IfOk result (λ headers. headers ≡ headers_of (map (header_bytes bytes.now) spans.now)) }
 {
@@ -73,11 +69,7 @@ fn headers_at(
 }
 
 /// The parts of a head that was found in some bytes.
-pub(crate) fn parts_at(
-    alloc: Global,
-    bytes: &[u8],
-    found: &Found,
-) -> Result<Parts, AllocError>
+pub(crate) fn parts_at(alloc: Global, bytes: &[u8], found: &Found) -> Result<Parts, AllocError>
     requires { IsFound bytes.now found.now }
     ensures { (h : RequestHead) → IsRequestAt bytes.now found.now.headers.items found.now.spans h
         → IfOk result (λ parts. IsParts h parts.method parts.target parts.headers) }

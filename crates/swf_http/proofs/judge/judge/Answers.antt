@@ -11,5 +11,5 @@ from_spans-known-requires c =
 pub returns : goal.returns
 returns c = λ h at. c.judge_fields.ensures
     ∙ judged_head c.args.bytes.now c.args.found.now.headers.items (take c.args.found.now.spans.headers c.deref.result.now) c.args.found.now.spans h
-        c.from_spans-known.result _ at (ap (λ (t : List HeaderSpan). take c.args.found.now.spans.headers t) c.deref.ensures.value)
-        c.from_spans-known.ensures refl
+    c.from_spans-known.result _ at (ap (λ (t : List HeaderSpan). take c.args.found.now.spans.headers t) c.deref.ensures.value)
+    c.from_spans-known.ensures refl

@@ -1,4 +1,4 @@
-use Rattle.std.proofs.Common.{◌≡◌, ◌∙◌, ap, drop, take, arith, ℕ, List}
+use Rattle.std.proofs.Common.{◌≡◌, ◌∙◌, drop, arith, ℕ, List}
 use Rattle.std.proofs.lemmas.Result.{err_from_is_err_and}
 use Rattle.swf_http.specs.Messages.{body_of}
 use Rattle.swf_http.specs.Verdicts.{Verdict}
@@ -15,7 +15,7 @@ pub returns-then-branch-eq0-clause-says : goal.returns-then-branch-eq0-clause-sa
 returns-then-branch-eq0-clause-says g c = λ x s.
     body_short x c.grow.new.buffer.items c.args.at c.args.size
     (all_read x c.pieces.buffer.items c.grow.new.buffer.items (g.S.Source.left c.pieces.from) (g.S.Source.left c.grow.new.from)
-        c.in_ok-grow.field-0 (c.pieces.invariant.splits x s) c.in_ok-grow.ensures.grows c.if-branch-eq0.true)
+    c.in_ok-grow.field-0 (c.pieces.invariant.splits x s) c.in_ok-grow.ensures.grows c.if-branch-eq0.true)
     (omega (arith, c.len.ensures, c.pieces-test.true, c.if-branch-eq0.true, c.in_ok-grow.ensures.size, c.pieces.buffer.ok.0, c.grow.new.buffer.ok.0))
 
 pub pieces-preserved : goal.pieces-preserved

@@ -1,7 +1,7 @@
-use Rattle.std.proofs.Common.{◌≡◌, ◌∙◌, [], ◌++◌, sym, subst, refl, drop, arith, List, ℕ, Option, Some}
+use Rattle.std.proofs.Common.{◌≡◌, [], sym, subst, refl, drop, arith, List, ℕ, Option, Some}
 use Rattle.std.proofs.lemmas.Result.{err_from_is_err_and}
 use Rattle.httparse.specs.Spans.{IsRequestAt}
-use Rattle.swf_http.specs.declared.judge.Judgement.TheVariants.{Bad, TooLong, Sized}
+use Rattle.swf_http.specs.declared.judge.Judgement.TheVariants.{Bad, TooLong}
 use Rattle.swf_http.specs.Sources.{Splits}
 use Rattle.swf_http.specs.Verdicts.{whole, long, bad}
 use Rattle.swf_http.proofs.ReadLemmas.{says_whole}
@@ -17,7 +17,7 @@ returns-in_err-found-clause-says g c =
     let p = err_from_is_err_and c.from_residual.result c.from_residual.ensures.1 in
     λ x told. rw (p.1, p.2)
     (head_fault x c.in_err-found.field-0.0
-        (c.in_err-found.ensures.says x (begun x c.new-buffer.result.items (g.S.Source.left c.args.from.now) c.new-buffer.ensures.items told)))
+    (c.in_err-found.ensures.says x (begun x c.new-buffer.result.items (g.S.Source.left c.args.from.now) c.new-buffer.ensures.items told)))
 
 pub returns-in-Bad-clause-says : goal.returns-in-Bad-clause-says
 returns-in-Bad-clause-says g c = λ x told.
@@ -26,7 +26,7 @@ returns-in-Bad-clause-says g c = λ x told.
     let splits = c.in_ok-found.ensures.says x (begun x c.new-buffer.result.items (g.S.Source.left c.args.from.now) c.new-buffer.ensures.items told) in
     says_judged x is.1.0 (drop found.spans.len x) Bad bad
     (says_whole 65536 x c.read_head.new.buffer.items (g.S.Source.left c.read_head.new.from) found is.1.0 splits is.1.1 is.0.section.len_fits
-        (omega (arith, c.in_ok-found.ensures.size, c.read_head.new.buffer.ok.0)))
+    (omega (arith, c.in_ok-found.ensures.size, c.read_head.new.buffer.ok.0)))
     (c.in-Bad.ensures is.1.0 (subst (λ (t : List ℕ). IsRequestAt t found.headers.items found.spans is.1.0) (sym c.as_slice.ensures.value) is.1.1))
     refl
 
@@ -37,7 +37,7 @@ returns-in-TooLong-clause-says g c = λ x told.
     let splits = c.in_ok-found.ensures.says x (begun x c.new-buffer.result.items (g.S.Source.left c.args.from.now) c.new-buffer.ensures.items told) in
     says_judged x is.1.0 (drop found.spans.len x) TooLong long
     (says_whole 65536 x c.read_head.new.buffer.items (g.S.Source.left c.read_head.new.from) found is.1.0 splits is.1.1 is.0.section.len_fits
-        (omega (arith, c.in_ok-found.ensures.size, c.read_head.new.buffer.ok.0)))
+    (omega (arith, c.in_ok-found.ensures.size, c.read_head.new.buffer.ok.0)))
     (c.in-TooLong.ensures is.1.0 (subst (λ (t : List ℕ). IsRequestAt t found.headers.items found.spans is.1.0) (sym c.as_slice.ensures.value) is.1.1))
     refl
 
@@ -50,25 +50,23 @@ returns-in_err-body-clause-says g c =
     let splits = c.in_ok-found.ensures.says x (begun x c.new-buffer.result.items (g.S.Source.left c.args.from.now) c.new-buffer.ensures.items told) in
     rw (p.1, p.2)
     (body_fault x is.1.0 (drop found.spans.len x) c.in-Sized.size c.in_err-body.field-0.0
-        (says_whole 65536 x c.read_head.new.buffer.items (g.S.Source.left c.read_head.new.from) found is.1.0 splits is.1.1 is.0.section.len_fits
-            (omega (arith, c.in_ok-found.ensures.size, c.read_head.new.buffer.ok.0)))
-        (c.in-Sized.ensures is.1.0 (subst (λ (t : List ℕ). IsRequestAt t found.headers.items found.spans is.1.0) (sym c.as_slice.ensures.value) is.1.1))
-        (c.in_err-body.ensures.says x splits))
+    (says_whole 65536 x c.read_head.new.buffer.items (g.S.Source.left c.read_head.new.from) found is.1.0 splits is.1.1 is.0.section.len_fits
+    (omega (arith, c.in_ok-found.ensures.size, c.read_head.new.buffer.ok.0)))
+    (c.in-Sized.ensures is.1.0 (subst (λ (t : List ℕ). IsRequestAt t found.headers.items found.spans is.1.0) (sym c.as_slice.ensures.value) is.1.1))
+    (c.in_err-body.ensures.says x splits))
 
 pub returns-clause-says : goal.returns-clause-says
 returns-clause-says g c = λ x told.
     let found = c.in_ok-found.found in
     let is = c.in_ok-found.ensures.found in
     let splits = c.in_ok-found.ensures.says x (begun x c.new-buffer.result.items (g.S.Source.left c.args.from.now) c.new-buffer.ensures.items told) in
-    let body = c.in_ok-body.ensures.says x splits in
-    (
+    let body = c.in_ok-body.ensures.says x splits in (
       (is.1.0, body.0),
       body.1,
       says_body x is.1.0 (drop found.spans.len x) c.in-Sized.size (whole body.0 body.1)
           (says_whole 65536 x c.read_head.new.buffer.items (g.S.Source.left c.read_head.new.from) found is.1.0 splits is.1.1 is.0.section.len_fits
-              (omega (arith, c.in_ok-found.ensures.size, c.read_head.new.buffer.ok.0)))
+          (omega (arith, c.in_ok-found.ensures.size, c.read_head.new.buffer.ok.0)))
           (c.in-Sized.ensures is.1.0 (subst (λ (t : List ℕ). IsRequestAt t found.headers.items found.spans is.1.0) (sym c.as_slice.ensures.value) is.1.1))
           body.2,
-      c.in_ok-parts.ensures is.1.0 (subst (λ (t : List ℕ). IsRequestAt t found.headers.items found.spans is.1.0) (sym c.as_slice-2.ensures.value) is.1.1),
-      body.3,
+      (c.in_ok-parts.ensures is.1.0 (subst (λ (t : List ℕ). IsRequestAt t found.headers.items found.spans is.1.0) (sym c.as_slice-2.ensures.value) is.1.1), body.3),
     )
