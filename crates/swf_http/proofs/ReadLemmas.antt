@@ -1,15 +1,15 @@
 -- From what was read so far to what all bytes say.
-use Rattle.std.proofs.Common.{◌≡◌, ℕ, ◌+◌, ◌-◌, ◌<◌, ◌≤◌, List, ◌++◌, length, take, drop, refl, sym, ap, ◌∙◌, subst, true, false, arith, append_assoc, append-nil, length-append, length-drop, take-append-drop, nat_le, Option, Some, Ok, Err}
+use Rattle.std.proofs.Common.{◌≡◌, ℕ, ◌+◌, ◌-◌, ◌<◌, ◌≤◌, List, ◌++◌, length, take, drop, refl, sym, ap, ◌∙◌, subst, true, false, arith, append_assoc, append-nil, length-append, length-drop, take-append-drop, nat_le, Option, Some, Result, Ok, Err}
 use Rattle.std.proofs.lemmas.Bool.{le-leb, false_from_ne_true, leb-true}
-use Rattle.std.proofs.lemmas.List.{drop-append-le, take-append-le}
+use Rattle.std.proofs.lemmas.List.{drop-append-le, take-append-le, take_all}
 use Rattle.std.proofs.Math.Seq.{take-append_seam}
 use Rattle.httparse.specs.Grammar.{RequestHead, ReadsRequest}
 use Rattle.httparse.specs.Spans.{IsRequestAt}
 use Rattle.httparse.proofs.GrammarLemmas.{ReadsRequest-append}
 use Rattle.swf_http.specs.declared.fault.HttpFault.{HttpFault}
 use Rattle.swf_http.specs.declared.fault.HttpFault.TheVariants.{Read, Ended, TooLong, BadMessage, OutOfMemory}
-use Rattle.swf_http.specs.declared.look.Found.{Found}
-use Rattle.swf_http.specs.Heads.{BeginsHead, SaysHead, Settles}
+use Rattle.swf_http.specs.declared.found.FoundRequest.{FoundRequest}
+use Rattle.swf_http.specs.Pieces.{Form, request_form, SaysPiece, Settles}
 use Rattle.swf_http.specs.Messages.{body_of}
 use Rattle.swf_http.specs.Sources.{Grows, Splits, IsReadFault}
 use Rattle.swf_http.specs.Verdicts.{Verdict, whole, ended, long, FaultSays}
@@ -43,49 +43,57 @@ read_fault_says J bytes TooLong is = absurd is
 read_fault_says J bytes BadMessage is = absurd is
 read_fault_says J bytes OutOfMemory is = tt
 
--- ---- a head
+-- ---- a piece
+
+-- what stands behind a place that was read
+pub splits_behind : (x now : List ℕ) (left : Option (List ℕ)) (at : ℕ) → Splits x now left → at ≤ length now → Splits (drop at x) (drop at now) left
+splits_behind x now left at s within = record {
+  rest = s.rest;
+  left_is = s.left_is;
+  whole_is = ap (λ (t : List ℕ). drop at t) s.whole_is ∙ drop-append-le at now s.rest within;
+}
+
+-- what a slice from a place on has
+pub slice_is : (at : ℕ) (slice items : List ℕ) → slice ≡ items → take (length slice - at) (drop at slice) ≡ drop at items
+slice_is at slice items same = take_all (length slice - at) (drop at slice) (omega (arith, length-drop at slice)) ∙ ap (λ (t : List ℕ). drop at t) same
 
 -- what was read is a first part of all bytes
 front_is : (y now : List ℕ) (left : Option (List ℕ)) → Splits y now left → take (length now) y ≡ now
 front_is y now left s = ap (λ (t : List ℕ). take (length now) t) s.whole_is ∙ take-append_seam now s.rest
 
-pub says_long : (room : ℕ) (y now : List ℕ) (left : Option (List ℕ)) → Splits y now left → length now ≤ room → room ≤ length now → BeginsHead now
-    → SaysHead room y long
-says_long room y now left s short full begins =
+pub says_long : {A : Type 0} (F : Form A) (room : ℕ) (y now : List ℕ) (left : Option (List ℕ)) → Splits y now left → length now ≡ room → F.Begins now
+    → SaysPiece F room y long
+says_long F room y now left s full begins =
     let same = ap length s.whole_is in
-    let size : length now ≡ room = omega arith in
-    (omega (arith, length-append {A = ℕ}, same, full), subst (λ (n : ℕ). BeginsHead (take n y)) size (rw (front_is y now left s) begins))
+    (omega (arith, length-append {A = ℕ}, same, full), subst (λ (n : ℕ). F.Begins (take n y)) full (rw (front_is y now left s) begins))
 
-pub says_ended : (room : ℕ) (y now : List ℕ) → y ≡ now → length now < room → BeginsHead now → SaysHead room y ended
-says_ended room y now same short begins = rw same (short, begins)
+pub says_ended : {A : Type 0} (F : Form A) (room : ℕ) (y now : List ℕ) → y ≡ now → length now < room → F.Begins now → SaysPiece F room y ended
+says_ended F room y now same short begins = rw same (short, begins)
 
-pub settle_fault_says : (room : ℕ) (y now : List ℕ) (left : Option (List ℕ)) (e : HttpFault) → Splits y now left → length now ≤ room
-    → Settles now (Err e) → FaultSays (SaysHead room) y e
-settle_fault_says room y now left Read s short settles = absurd settles
-settle_fault_says room y now left Ended s short settles = absurd settles
-settle_fault_says room y now left TooLong s short settles = absurd settles
-settle_fault_says room y now left BadMessage s short settles = (length now, short, rw (front_is y now left s) settles)
-settle_fault_says room y now left OutOfMemory s short settles = tt
+pub settle_fault_says : {A P : Type 0} (F : Form A) (Stands : List ℕ → P → Type 0) (room : ℕ) (y now : List ℕ) (left : Option (List ℕ)) (e : HttpFault)
+    → Splits y now left → length now ≤ room → Settles F Stands now (Err e) → FaultSays (SaysPiece F room) y e
+settle_fault_says F Stands room y now left Read s short settles = absurd settles
+settle_fault_says F Stands room y now left Ended s short settles = absurd settles
+settle_fault_says F Stands room y now left TooLong s short settles = absurd settles
+settle_fault_says F Stands room y now left BadMessage s short settles = (length now, short, rw (front_is y now left s) settles)
+settle_fault_says F Stands room y now left OutOfMemory s short settles = tt
 
-pub settles_err : (a b : List ℕ) (e : HttpFault) → a ≡ b → Settles a (Err e) → Settles b (Err e)
-settles_err a b e bytes settles = subst (λ (t : List ℕ). Settles t (Err e)) bytes settles
-
-pub settles_ok : (a b : List ℕ) (o p : Option Found) → a ≡ b → o ≡ p → Settles a (Ok o) → Settles b (Ok p)
-settles_ok a b o p bytes found settles =
-    subst (λ (t : List ℕ). Settles t (Ok p)) bytes (subst (λ (v : Option Found). Settles a (Ok v)) found settles)
+pub settles_at : {A P : Type 0} (F : Form A) (Stands : List ℕ → P → Type 0) (a b : List ℕ) (r q : Result (Option P) HttpFault) → a ≡ b → r ≡ q
+    → Settles F Stands a r → Settles F Stands b q
+settles_at {P = P} F Stands a b r q bytes same settles =
+    subst (λ (t : List ℕ). Settles F Stands t q) bytes (subst (λ (v : Result (Option P) HttpFault). Settles F Stands a v) same settles)
 
 -- a head that was found is that of all bytes
-pub says_whole : (room : ℕ) (y now : List ℕ) (left : Option (List ℕ)) (found : Found) (h : RequestHead) → Splits y now left
+pub says_request : (room : ℕ) (y now : List ℕ) (left : Option (List ℕ)) (found : FoundRequest) (h : RequestHead) → Splits y now left
     → IsRequestAt now found.headers.items found.spans h → found.spans.len ≤ length now → length now ≤ room
-    → SaysHead room y (whole h (drop found.spans.len y))
-says_whole room y now left found h s at within short =
+    → SaysPiece request_form room y (whole h (drop found.spans.len y))
+says_request room y now left found h s at within short =
     let reads : ReadsRequest (now ++ s.rest) h (drop found.spans.len now ++ s.rest) =
     ReadsRequest-append now h (drop found.spans.len now) s.rest at.reads in
     let after : drop found.spans.len now ++ s.rest ≡ drop found.spans.len y =
-    sym (drop-append-le found.spans.len now s.rest within) ∙ ap (λ (t : List ℕ). drop found.spans.len t) (sym s.whole_is) in (
-      subst (λ (t : List ℕ). ReadsRequest t h (drop found.spans.len y)) (sym s.whole_is) (subst (ReadsRequest (now ++ s.rest) h) after reads),
-      omega (arith, at.len, within, short),
-    )
+    sym (drop-append-le found.spans.len now s.rest within) ∙ ap (λ (t : List ℕ). drop found.spans.len t) (sym s.whole_is) in
+    (subst (λ (t : List ℕ). ReadsRequest t h (drop found.spans.len y)) (sym s.whole_is) (subst (ReadsRequest (now ++ s.rest) h) after reads),
+        omega (arith, at.len, within, short))
 
 -- ---- a body
 

@@ -6,11 +6,12 @@ use Rattle.swf_http.specs.declared.fault.HttpFault.TheVariants.{Read, Ended, Too
 use Rattle.swf_http.specs.declared.judge.Judgement.{Judgement}
 use Rattle.swf_http.specs.declared.judge.Judgement.TheVariants as Judged
 use Rattle.swf_http.specs.Framing.{judge}
-use Rattle.swf_http.specs.Heads.{SaysHead, most_head}
+use Rattle.swf_http.specs.Heads.{most_head}
+use Rattle.swf_http.specs.Pieces.{request_form, SaysPiece}
 use Rattle.swf_http.specs.Messages.{Message, SaysRequest, behind_head, with_head, body_of}
 use Rattle.swf_http.specs.Verdicts.{Verdict, whole, ended, long, bad, FaultSays}
 
-pub head_fault : (y : List ℕ) (e : HttpFault) → FaultSays (SaysHead most_head) y e → FaultSays SaysRequest y e
+pub head_fault : (y : List ℕ) (e : HttpFault) → FaultSays (SaysPiece request_form most_head) y e → FaultSays SaysRequest y e
 head_fault y Read f = tt
 head_fault y Ended f = inr f
 head_fault y TooLong f = inr f
@@ -18,16 +19,16 @@ head_fault y BadMessage f = inr f
 head_fault y OutOfMemory f = tt
 
 -- what a head that was judged leads to
-pub says_judged : (y : List ℕ) (h : RequestHead) (mid : List ℕ) (j : Judgement) (v : Verdict Message) → SaysHead most_head y (whole h mid) → j ≡ judge h
+pub says_judged : (y : List ℕ) (h : RequestHead) (mid : List ℕ) (j : Judgement) (v : Verdict Message) → SaysPiece request_form most_head y (whole h mid) → j ≡ judge h
     → v ≡ behind_head j h mid → SaysRequest y v
 says_judged y h mid j v says judged e = inl (h, mid, says, e ∙ ap (λ (i : Judgement). behind_head i h mid) judged)
 
 -- what the body says, the request says
-pub says_body : (y : List ℕ) (h : RequestHead) (mid : List ℕ) (n : ℕ) (v : Verdict (List ℕ)) → SaysHead most_head y (whole h mid) → Judged.Sized n ≡ judge h
+pub says_body : (y : List ℕ) (h : RequestHead) (mid : List ℕ) (n : ℕ) (v : Verdict (List ℕ)) → SaysPiece request_form most_head y (whole h mid) → Judged.Sized n ≡ judge h
     → v ≡ body_of n mid → SaysRequest y (with_head h v)
 says_body y h mid n v says judged e = says_judged y h mid (Judged.Sized n) (with_head h v) says judged (ap (with_head h) e)
 
-pub body_fault : (y : List ℕ) (h : RequestHead) (mid : List ℕ) (n : ℕ) (e : HttpFault) → SaysHead most_head y (whole h mid) → Judged.Sized n ≡ judge h
+pub body_fault : (y : List ℕ) (h : RequestHead) (mid : List ℕ) (n : ℕ) (e : HttpFault) → SaysPiece request_form most_head y (whole h mid) → Judged.Sized n ≡ judge h
     → FaultSays (λ (behind : List ℕ) (v : Verdict (List ℕ)). v ≡ body_of n behind) mid e → FaultSays SaysRequest y e
 body_fault y h mid n Read says judged f = tt
 body_fault y h mid n Ended says judged f = says_body y h mid n ended says judged f

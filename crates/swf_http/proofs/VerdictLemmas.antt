@@ -1,17 +1,63 @@
 -- Bytes have one verdict at most.
-use Rattle.std.proofs.Common.{◌≡◌, ℕ, zero, suc, true, ◌+◌, ◌-◌, ◌<◌, ◌≤◌, List, [], ◌∷◌, ◌++◌, length, take, drop, refl, sym, ap, ◌∙◌, subst, arith, append_assoc, append-nil, take-append-drop, inl, inr}
+use Rattle.std.proofs.Common.{◌≡◌, ℕ, zero, suc, true, ◌+◌, ◌-◌, ◌<◌, ◌≤◌, List, [], ◌∷◌, ◌++◌, length, take, drop, refl, sym, ap, ◌∙◌, subst, All, arith, append_assoc, append-nil, take-append-drop, inl, inr}
 use Rattle.std.proofs.lemmas.Bool.{cases_lt}
 use Rattle.std.proofs.lemmas.List.{take-append-le}
 use Rattle.std.proofs.lemmas.List.Elements.{All-nil, All-cons, All-take}
 use Rattle.std.proofs.lemmas.Str.{IsUtf8-from_ascii}
 use Rattle.std.proofs.lemmas.Str.Ascii.{IsAscii-cons, IsAscii-nil}
 use Rattle.std.proofs.Math.Seq.{take-append-add}
-use Rattle.httparse.specs.Grammar.{LineEnd, lf, print_end, print_blank, print_version, print_section, IsField, RequestHead, print_request, ReadsRequest, NeverHasRequest, EndsInTarget, is_uri_byte, IsToken}
-use Rattle.httparse.proofs.GrammarLemmas.{request_unique, print_request-append}
-use Rattle.swf_http.specs.Heads.{BeginsHead, BeginsNone, SaysHead, most_head}
-use Rattle.swf_http.specs.Messages.{SaysRequest, behind_head}
+use Rattle.httparse.specs.Grammar.{LineEnd, lf, print_end, print_blank, print_version, print_section, IsField, RequestHead, print_request, IsRequestHead, ReadsRequest, NeverHasRequest, EndsInTarget, is_uri_byte, IsToken, ResponseHead, print_response, IsResponseHead, ReadsResponse, ChunkLine, print_chunk_line, IsChunkLine, ReadsChunkLine}
+use Rattle.httparse.proofs.GrammarLemmas.{request_unique, print_request-append, response_unique, section_unique}
+use Rattle.httparse.proofs.ChunkLemmas.{chunk_line_unique}
+use Rattle.swf_http.specs.Pieces.{Form, request_form, response_form, line_form, trailer_form, Section, SaysPiece}
+use Rattle.swf_http.specs.Heads.{most_head}
+use Rattle.swf_http.specs.Messages.{Message, SaysRequest, behind_head}
 use Rattle.swf_http.specs.Framing.{judge}
 use Rattle.swf_http.specs.Verdicts.{Verdict, whole, ended, long, bad, Stops, Then, OneVerdict}
+
+-- ---- what grammars have in common
+
+-- bytes read as one tree at most, a tree is read from a first part that holds it, and what begins a tree, what holds one and what begins none are apart
+pub record IsLawful (A : Type 0) (F : Form A) : Type 0 where
+  pub unique : (bytes : List ℕ) (a b : A) (r q : List ℕ) → F.Reads bytes a r → F.Reads bytes b q → (a ≡ b) × (r ≡ q)
+  pub front : (bytes : List ℕ) (a : A) (rest : List ℕ) (m : ℕ) → F.Reads bytes a rest → length (F.print a) ≤ m → (left : List ℕ) × F.Reads (take m bytes) a left
+  pub begun : (bytes : List ℕ) (a : A) (rest : List ℕ) → F.Begins bytes → F.Reads bytes a rest → ⊥
+  pub never : (bytes : List ℕ) (n : ℕ) (a : A) (rest : List ℕ) → F.BeginsNone (take n bytes) → F.Reads bytes a rest → ⊥
+  pub apart : (bytes : List ℕ) (n : ℕ) → F.Begins bytes → F.BeginsNone (take n bytes) → ⊥
+
+front_of : {A : Type 0} (Is : A → Type 0) (print : A → List ℕ) (bytes : List ℕ) (a : A) (rest : List ℕ) (m : ℕ) → Is a × (bytes ≡ print a ++ rest)
+    → length (print a) ≤ m → (left : List ℕ) × (Is a × (take m bytes ≡ print a ++ left))
+front_of Is print bytes a rest m reads short =
+    let text : List ℕ = print a in
+    let on : m ≡ length text + (m - length text) = omega arith in (
+      take (m - length text) rest,
+      (
+        reads.0,
+        ap (λ (t : List ℕ). take m t) reads.1 ∙ ap (λ (k : ℕ). take k (text ++ rest)) on
+            ∙ take-append-add text rest (m - length text),
+      ),
+    )
+
+-- what reads as a tree goes on from each of its first parts
+never_of_whole : {A : Type 0} (Reads : List ℕ → A → List ℕ → Type 0) (bytes more : List ℕ) (n : ℕ) (a : A) (rest : List ℕ)
+    → ((extra : List ℕ) (b : A) (r : List ℕ) → Reads (take n bytes ++ extra) b r → ⊥) → Reads (bytes ++ more) a rest → ⊥
+never_of_whole Reads bytes more n a rest none reads =
+    let same : take n bytes ++ (drop n bytes ++ more) ≡ bytes ++ more =
+    sym (append_assoc (take n bytes) (drop n bytes) more)
+    ∙ ap (λ (t : List ℕ). t ++ more) (take-append-drop n bytes) in
+    none (drop n bytes ++ more) a rest (rw same reads)
+
+-- the same where nothing follows
+never_whole : {A : Type 0} (Reads : List ℕ → A → List ℕ → Type 0) (bytes : List ℕ) (n : ℕ) (a : A) (rest : List ℕ)
+    → ((extra : List ℕ) (b : A) (r : List ℕ) → Reads (take n bytes ++ extra) b r → ⊥) → Reads bytes a rest → ⊥
+never_whole Reads bytes n a rest none reads =
+    never_of_whole Reads bytes [] n a rest none (subst (λ (t : List ℕ). Reads t a rest) (sym (append-nil bytes)) reads)
+
+take_front : {A : Type 0} (n m : ℕ) (xs : List A) → n ≤ m → take n (take m xs) ≡ take n xs
+take_front zero m xs le = refl
+take_front (suc n) zero xs le = absurd (omega arith)
+take_front (suc n) (suc m) [] le = refl
+take_front (suc n) (suc m) (x ∷ xs) le = ap (λ (t : List _). x ∷ t) (take_front n m xs (omega arith))
 
 abbrev Uri : ℕ → Type 0
 Uri b = is_uri_byte b ≡ true
@@ -46,21 +92,7 @@ shown_reads ends word token = (
   append_assoc (print_blank ends) word (32 ∷ tail) ∙ sym (print_request-append (shown ends word) []),
 )
 
--- ---- a first part of what begins a head begins one
-
-never_of_whole : (bytes more : List ℕ) (n : ℕ) (h : RequestHead) (rest : List ℕ) → NeverHasRequest (take n bytes)
-    → ReadsRequest (bytes ++ more) h rest → ⊥
-never_of_whole bytes more n h rest never reads =
-    let same : take n bytes ++ (drop n bytes ++ more) ≡ bytes ++ more =
-    sym (append_assoc (take n bytes) (drop n bytes) more)
-    ∙ ap (λ (t : List ℕ). t ++ more) (take-append-drop n bytes) in
-    never (drop n bytes ++ more) h rest (rw same reads)
-
-take_front : {A : Type 0} (n m : ℕ) (xs : List A) → n ≤ m → take n (take m xs) ≡ take n xs
-take_front zero m xs le = refl
-take_front (suc n) zero xs le = absurd (omega arith)
-take_front (suc n) (suc m) [] le = refl
-take_front (suc n) (suc m) (x ∷ xs) le = ap (λ (t : List _). x ∷ t) (take_front n m xs (omega arith))
+-- ---- a first part of what begins a request's head begins one
 
 -- what ends before the target goes on to the head that is shown
 none_before_target : (bytes front target : List ℕ) (n : ℕ) (h : RequestHead) (more : List ℕ) → bytes ≡ front ++ target
@@ -68,7 +100,7 @@ none_before_target : (bytes front target : List ℕ) (n : ℕ) (h : RequestHead)
 none_before_target bytes front target n h more split under reads never =
     let same : take n bytes ≡ take n front =
     ap (λ (t : List ℕ). take n t) split ∙ take-append-le n front target under in
-    never_of_whole front more n h [] (subst NeverHasRequest same never) reads
+    never_of_whole ReadsRequest front more n h [] (subst NeverHasRequest same never) reads
 
 -- what ends in the target is more of it
 still_in_target : (bytes front target : List ℕ) (n : ℕ) → bytes ≡ front ++ target → length front < n
@@ -78,7 +110,7 @@ still_in_target bytes front target n split over =
     ap (λ (t : List ℕ). take n t) split ∙ ap (λ (k : ℕ). take k (front ++ target)) on
     ∙ take-append-add front target (n - length front)
 
-none_of_target : (bytes : List ℕ) (n : ℕ) → EndsInTarget bytes → BeginsNone (take n bytes) → ⊥
+none_of_target : (bytes : List ℕ) (n : ℕ) → EndsInTarget bytes → request_form.BeginsNone (take n bytes) → ⊥
 none_of_target bytes n (ends, word, target, token, all, is) none =
     let front : List ℕ = (print_blank ends ++ word) ++ 32 ∷ [] in
     let split : bytes ≡ front ++ target =
@@ -101,57 +133,86 @@ none_of_target bytes n (ends, word, target, token, all, is) none =
       | inr under ↦ none_before_target bytes front target n (shown ends word) tail split under reads none.0
     ]
 
-none_of_begun : (bytes : List ℕ) (n : ℕ) → BeginsHead bytes → BeginsNone (take n bytes) → ⊥
-none_of_begun bytes n (never_yet, inl (more, h, reads)) none = never_of_whole bytes more n h [] none.0 reads
+none_of_begun : (bytes : List ℕ) (n : ℕ) → request_form.Begins bytes → request_form.BeginsNone (take n bytes) → ⊥
+none_of_begun bytes n (never_yet, inl (more, h, reads)) none = never_of_whole ReadsRequest bytes more n h [] none.0 reads
 none_of_begun bytes n (never_yet, inr target) none = none_of_target bytes n target none
 
--- ---- pairs of verdicts on a head
+-- ---- the grammars
 
-front_of : (bytes : List ℕ) (h : RequestHead) (rest : List ℕ) (m : ℕ) → ReadsRequest bytes h rest
-    → length (print_request h) ≤ m → (left : List ℕ) × ReadsRequest (take m bytes) h left
-front_of bytes h rest m reads short =
-    let text : List ℕ = print_request h in
-    let on : m ≡ length text + (m - length text) = omega arith in (
-      take (m - length text) rest,
-      (
-        reads.0,
-        ap (λ (t : List ℕ). take m t) reads.1 ∙ ap (λ (k : ℕ). take k (text ++ rest)) on
-            ∙ take-append-add text rest (m - length text),
-      ),
-    )
+request_laws : IsLawful RequestHead request_form
+request_laws = record {
+  unique = request_unique;
+  front = front_of IsRequestHead print_request;
+  begun = λ bytes h rest begins reads. begins.0 h rest reads;
+  never = λ bytes n h rest none reads. never_whole ReadsRequest bytes n h rest none.0 reads;
+  apart = none_of_begun;
+}
 
-whole_long : (room : ℕ) (bytes : List ℕ) (h : RequestHead) (rest : List ℕ) → SaysHead room bytes (whole h rest) → SaysHead room bytes long → ⊥
-whole_long room bytes h rest a b =
-    let front = front_of bytes h rest room a.0 a.1 in
-    b.1.0 h front.0 front.1
+response_laws : IsLawful ResponseHead response_form
+response_laws = record {
+  unique = response_unique;
+  front = front_of IsResponseHead print_response;
+  begun = λ bytes h rest begins reads. begins.0 h rest reads;
+  never = λ bytes n h rest none reads. never_whole ReadsResponse bytes n h rest none reads;
+  apart = λ bytes n begins none. never_of_whole ReadsResponse bytes begins.1.0 n begins.1.1 [] none begins.1.2;
+}
 
-whole_bad : (room : ℕ) (bytes : List ℕ) (h : RequestHead) (rest : List ℕ) → SaysHead room bytes (whole h rest) → SaysHead room bytes bad → ⊥
-whole_bad room bytes h rest a (n, le, none) = never_of_whole bytes [] n h rest none.0 (rw append-nil a.0)
+line_laws : IsLawful ChunkLine line_form
+line_laws = record {
+  unique = chunk_line_unique;
+  front = front_of IsChunkLine print_chunk_line;
+  begun = λ bytes l rest begins reads. begins.0 l rest reads;
+  never = λ bytes n l rest none reads. never_whole ReadsChunkLine bytes n l rest none reads;
+  apart = λ bytes n begins none. never_of_whole ReadsChunkLine bytes begins.1.0 n begins.1.1 [] none begins.1.2;
+}
 
-long_bad : (room : ℕ) (bytes : List ℕ) → SaysHead room bytes long → SaysHead room bytes bad → ⊥
-long_bad room bytes a (n, le, none) =
+trailer_laws : IsLawful Section trailer_form
+trailer_laws = record {
+  unique = λ bytes s t r q a b.
+      let same = section_unique bytes s.0 t.0 s.1 t.1 r q a b in
+      (both s t same.0 same.1, same.2);
+  front = λ bytes s rest m reads short. front_of {A = Section} (λ x. All IsField x.0) (λ x. print_section x.0 x.1) bytes s rest m reads short;
+  begun = λ bytes s rest begins reads. begins.0 s.0 s.1 rest reads;
+  never = λ bytes n s rest none reads. never_whole trailer_form.Reads bytes n s rest (λ extra b r. none extra b.0 b.1 r) reads;
+  apart = λ bytes n begins none. never_of_whole trailer_form.Reads bytes begins.1.0 n (begins.1.1, begins.1.2) []
+      (λ extra b r. none extra b.0 b.1 r) begins.1.3;
+}
+  where
+    both : (s t : Section) → s.0 ≡ t.0 → s.1 ≡ t.1 → s ≡ t
+    both (fs, a) (gs, b) p q = cc
+
+-- ---- pairs of verdicts on a piece
+
+whole_long : {A : Type 0} (F : Form A) → IsLawful A F → (room : ℕ) (bytes : List ℕ) (a : A) (rest : List ℕ) → SaysPiece F room bytes (whole a rest)
+    → SaysPiece F room bytes long → ⊥
+whole_long F laws room bytes a rest p q =
+    let front = laws.front bytes a rest room p.0 p.1 in
+    laws.begun (take room bytes) a front.0 q.1 front.1
+
+long_bad : {A : Type 0} (F : Form A) → IsLawful A F → (room : ℕ) (bytes : List ℕ) → SaysPiece F room bytes long → SaysPiece F room bytes bad → ⊥
+long_bad F laws room bytes p (n, le, none) =
     let same : take n (take room bytes) ≡ take n bytes = take_front n room bytes le in
-    none_of_begun (take room bytes) n a.1 (rw same none)
+    laws.apart (take room bytes) n p.1 (subst F.BeginsNone (sym same) none)
 
-pub one_head : (room : ℕ) → OneVerdict (SaysHead room)
-one_head room bytes (whole h r) (whole k q) a b =
-    let same = request_unique bytes h k r q a.0 b.0 in
-    ap (λ (x : RequestHead). whole x r) same.0 ∙ ap (whole k) same.1
-one_head room bytes (whole h r) ended a b = absurd (b.1.0 h r a.0)
-one_head room bytes (whole h r) long a b = absurd (whole_long room bytes h r a b)
-one_head room bytes (whole h r) bad a b = absurd (whole_bad room bytes h r a b)
-one_head room bytes ended (whole k q) a b = absurd (a.1.0 k q b.0)
-one_head room bytes ended ended a b = refl
-one_head room bytes ended long a b = absurd (omega (arith, a.0, b.0))
-one_head room bytes ended bad a b = absurd (none_of_begun bytes b.0 a.1 b.2)
-one_head room bytes long (whole k q) a b = absurd (whole_long room bytes k q b a)
-one_head room bytes long ended a b = absurd (omega (arith, a.0, b.0))
-one_head room bytes long long a b = refl
-one_head room bytes long bad a b = absurd (long_bad room bytes a b)
-one_head room bytes bad (whole k q) a b = absurd (whole_bad room bytes k q b a)
-one_head room bytes bad ended a b = absurd (none_of_begun bytes a.0 b.1 a.2)
-one_head room bytes bad long a b = absurd (long_bad room bytes b a)
-one_head room bytes bad bad a b = refl
+pub one_piece : {A : Type 0} (F : Form A) → IsLawful A F → (room : ℕ) → OneVerdict (SaysPiece F room)
+one_piece F laws room bytes (whole h r) (whole k q) a b =
+    let same = laws.unique bytes h k r q a.0 b.0 in
+    cc (same.0, same.1)
+one_piece F laws room bytes (whole h r) ended a b = absurd (laws.begun bytes h r b.1 a.0)
+one_piece F laws room bytes (whole h r) long a b = absurd (whole_long F laws room bytes h r a b)
+one_piece F laws room bytes (whole h r) bad a b = absurd (laws.never bytes b.0 h r b.2 a.0)
+one_piece F laws room bytes ended (whole k q) a b = absurd (laws.begun bytes k q a.1 b.0)
+one_piece F laws room bytes ended ended a b = refl
+one_piece F laws room bytes ended long a b = absurd (omega (arith, a.0, b.0))
+one_piece F laws room bytes ended bad a b = absurd (laws.apart bytes b.0 a.1 b.2)
+one_piece F laws room bytes long (whole k q) a b = absurd (whole_long F laws room bytes k q b a)
+one_piece F laws room bytes long ended a b = absurd (omega (arith, a.0, b.0))
+one_piece F laws room bytes long long a b = refl
+one_piece F laws room bytes long bad a b = absurd (long_bad F laws room bytes a b)
+one_piece F laws room bytes bad (whole k q) a b = absurd (laws.never bytes a.0 k q a.2 b.0)
+one_piece F laws room bytes bad ended a b = absurd (laws.apart bytes a.0 b.1 a.2)
+one_piece F laws room bytes bad long a b = absurd (long_bad F laws room bytes b a)
+one_piece F laws room bytes bad bad a b = refl
 
 -- ---- pairs of verdicts on what stands behind
 
@@ -181,13 +242,16 @@ stops_one J one bytes bad bad s t = refl
 both_whole : {A : Type 0} (a b : A) (r q : List ℕ) → whole a r ≡ whole b q → (a ≡ b) × (r ≡ q)
 both_whole a b r q e = (cc, cc)
 
-then_one : {A B : Type 0} (J : List ℕ → Verdict A → Type 0) (next : A → List ℕ → Verdict B) → OneVerdict J → OneVerdict (Then J next)
-then_one J next one bytes v w (inl (a, r, j, e)) (inl (b, q, k, f)) =
+pub then_one : {A B : Type 0} (J : List ℕ → Verdict A → Type 0) (Next : A → List ℕ → Verdict B → Type 0) → OneVerdict J
+    → ((a : A) → OneVerdict (Next a)) → OneVerdict (Then J Next)
+then_one J Next one after bytes v w (inl (a, r, j, e)) (inl (b, q, k, f)) =
     let same = both_whole a b r q (one bytes (whole a r) (whole b q) j k) in
-    e ∙ ap (λ x. next x r) same.0 ∙ ap (next b) same.1 ∙ sym f
-then_one J next one bytes v w (inl (a, r, j, e)) (inr s) = absurd (stops_whole J one bytes a r w j s)
-then_one J next one bytes v w (inr s) (inl (b, q, k, f)) = absurd (stops_whole J one bytes b q v k s)
-then_one J next one bytes v w (inr s) (inr t) = stops_one J one bytes v w s t
+    let there : Next b q v = subst (λ x. Next x q v) same.0 (subst (λ x. Next a x v) same.1 e) in
+    after b q v w there f
+then_one J Next one after bytes v w (inl (a, r, j, e)) (inr s) = absurd (stops_whole J one bytes a r w j s)
+then_one J Next one after bytes v w (inr s) (inl (b, q, k, f)) = absurd (stops_whole J one bytes b q v k s)
+then_one J Next one after bytes v w (inr s) (inr t) = stops_one J one bytes v w s t
 
 pub one_request : OneVerdict SaysRequest
-one_request = then_one (SaysHead most_head) (λ h rest. behind_head (judge h) h rest) (one_head most_head)
+one_request = then_one (SaysPiece request_form most_head) (λ h rest w. w ≡ behind_head (judge h) h rest) (one_piece request_form request_laws most_head)
+    (λ h rest v w e f. e ∙ sym f)

@@ -4,6 +4,7 @@ pub mod Memory
 pub mod Sent
 pub mod Targets
 pub mod Verdicts
+pub mod Pieces
 pub mod Heads
 pub mod Framing
 pub mod Messages

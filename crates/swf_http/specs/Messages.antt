@@ -9,7 +9,8 @@ use Rattle.swf_http.specs.declared.judge.Judgement.{Judgement}
 use Rattle.swf_http.specs.declared.judge.Judgement.TheVariants.{Bad, TooLong, Sized}
 use Rattle.swf_http.specs.declared.message.Request.{Request}
 use Rattle.swf_http.specs.Verdicts.{Verdict, whole, ended, long, bad, Then}
-use Rattle.swf_http.specs.Heads.{most_head, SaysHead}
+use Rattle.swf_http.specs.Heads.{most_head}
+use Rattle.swf_http.specs.Pieces.{request_form, SaysPiece}
 use Rattle.swf_http.specs.Framing.{judge}
 
 -- a head and a body
@@ -35,7 +36,7 @@ behind_head (Sized n) h rest = with_head h (body_of n rest)
 
 -- what bytes say of a request
 abbrev pub SaysRequest : List ℕ → Verdict Message → Type 0
-SaysRequest bytes v = Then (SaysHead most_head) (λ h rest. behind_head (judge h) h rest) bytes v
+SaysRequest bytes v = Then (SaysPiece request_form most_head) (λ h rest w. w ≡ behind_head (judge h) h rest) bytes v
 
 -- a name and a value as a header: the name in lower case, and each byte of the value as the character of that number
 abbrev pub header_of : List ℕ × List ℕ → Header

@@ -15,9 +15,9 @@ Stops J bytes ended = J bytes ended
 Stops J bytes long = J bytes long
 Stops J bytes bad = J bytes bad
 
--- first the one, and then the verdict that follows from it and the bytes behind it
-abbrev pub Then : {A B : Type 0} → (List ℕ → Verdict A → Type 0) → (A → List ℕ → Verdict B) → List ℕ → Verdict B → Type 0
-Then {A} J next bytes v = ((a : A) × (rest : List ℕ) × J bytes (whole a rest) × (v ≡ next a rest)) ⊎ Stops J bytes v
+-- first the one, and then what follows from it and the bytes behind it
+abbrev pub Then : {A B : Type 0} → (List ℕ → Verdict A → Type 0) → (A → List ℕ → Verdict B → Type 0) → List ℕ → Verdict B → Type 0
+Then {A} J Next bytes v = ((a : A) × (rest : List ℕ) × J bytes (whole a rest) × Next a rest v) ⊎ Stops J bytes v
 
 -- all bytes have one verdict at most
 abbrev pub OneVerdict : {A : Type 0} → (List ℕ → Verdict A → Type 0) → Type 0

@@ -4,7 +4,7 @@ ghost use Rattle.httparse.specs.Grammar.{RequestHead};
 ghost use Rattle.httparse.specs.Spans.{IsRequestAt, IsRequestWithin};
 ghost use Rattle.swf_http.specs.Framing.{size_of, judged, judge_fields, judge};
 
-use crate::look::Found;
+use crate::found::FoundRequest;
 use http1::fields::KnownFields;
 use http1::framing::{Framing, FramingError, MethodKind, request_framing};
 
@@ -54,7 +54,7 @@ fn judge_fields(minor: u8, known: &KnownFields, count: usize) -> Judgement
 }
 
 /// What a head that was found in some bytes leads to.
-pub(crate) fn judge(bytes: &[u8], found: &Found) -> Judgement
+pub(crate) fn judge(bytes: &[u8], found: &FoundRequest) -> Judgement
     requires { IsRequestWithin bytes.now found.now.headers.items found.now.spans }
     ensures { (h : RequestHead) → IsRequestAt bytes.now found.now.headers.items found.now.spans h → result ≡ judge h }
 {

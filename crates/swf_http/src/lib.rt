@@ -2,15 +2,15 @@
 #![tactic(auto)]
 
 mod fault;
+mod found;
 mod grow;
-mod head;
 mod judge;
 mod laws;
-mod look;
 mod memory_sink;
 mod memory_source;
 mod message;
 mod parts;
+mod piece;
 mod read;
 mod send;
 mod sink;

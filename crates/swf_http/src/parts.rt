@@ -4,10 +4,10 @@ ghost use Rattle.std.specs.Char.{to_ascii_lowercase};
 ghost use Rattle.std.specs.Str.{IsUtf8};
 ghost use Rattle.httparse.specs.Grammar.{RequestHead};
 ghost use Rattle.httparse.specs.Spans.{IsHeaderWithin, IsRequestAt, header_bytes};
-ghost use Rattle.swf_http.specs.Heads.{IsFound};
+ghost use Rattle.swf_http.specs.Heads.{IsFoundRequest};
 ghost use Rattle.swf_http.specs.Messages.{IsParts, headers_of};
 
-use crate::look::Found;
+use crate::found::FoundRequest;
 use httparse::spans::HeaderSpan;
 use std::alloc::{AllocError, Global};
 use swf_calls::{Header, Headers};
@@ -69,8 +69,8 @@ fn headers_at(alloc: Global, bytes: &[u8], spans: &[HeaderSpan]) -> Result<Heade
 }
 
 /// The parts of a head that was found in some bytes.
-pub(crate) fn parts_at(alloc: Global, bytes: &[u8], found: &Found) -> Result<Parts, AllocError>
-    requires { IsFound bytes.now found.now }
+pub(crate) fn parts_at(alloc: Global, bytes: &[u8], found: &FoundRequest) -> Result<Parts, AllocError>
+    requires { IsFoundRequest bytes.now found.now }
     ensures { (h : RequestHead) → IsRequestAt bytes.now found.now.headers.items found.now.spans h
         → IfOk result (λ parts. IsParts h parts.method parts.target parts.headers) }
 {

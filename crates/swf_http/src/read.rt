@@ -6,9 +6,10 @@ ghost use Rattle.swf_http.specs.Sources.{Splits, ReadCause};
 ghost use Rattle.swf_http.specs.Verdicts.{Answers};
 
 use crate::grow::grow;
-use crate::head::read_head;
+use crate::found::FoundRequest;
 use crate::judge::{Judgement, judge};
 use crate::parts::parts_at;
+use crate::piece::read_piece;
 use crate::{HttpFault, Request, Source};
 use std::alloc::Global;
 
@@ -45,7 +46,7 @@ pub fn read_request<S: Source>(alloc: Global, from: &mut S) -> Result<Request, H
     ensures beside { S.beside from.new ≡ S.beside from.old }
 {
     let mut buffer = Vec::new(alloc);
-    let found = read_head(alloc, MOST_HEAD, from, &mut buffer)?;
+    let found = read_piece::<FoundRequest, S>(alloc, from, &mut buffer, 0, MOST_HEAD)?;
     let size = match judge(buffer.as_slice(), &found) {
         Judgement::Bad => return Err(HttpFault::BadMessage),
         Judgement::TooLong => return Err(HttpFault::TooLong),

@@ -4,7 +4,7 @@ use Rattle.httparse.specs.Spans.{IsRequestAt}
 use Rattle.swf_http.specs.declared.judge.Judgement.TheVariants.{Bad, TooLong}
 use Rattle.swf_http.specs.Sources.{Splits}
 use Rattle.swf_http.specs.Verdicts.{whole, long, bad}
-use Rattle.swf_http.proofs.ReadLemmas.{says_whole}
+use Rattle.swf_http.proofs.ReadLemmas.{says_request}
 use Rattle.swf_http.proofs.RequestLemmas.{head_fault, says_judged, says_body, body_fault}
 use Rattle.swf_http.proofs.read.read_request.Goals as goal
 
@@ -25,8 +25,8 @@ returns-in-Bad-clause-says g c = λ x told.
     let is = c.in_ok-found.ensures.found in
     let splits = c.in_ok-found.ensures.says x (begun x c.new-buffer.result.items (g.S.Source.left c.args.from.now) c.new-buffer.ensures.items told) in
     says_judged x is.1.0 (drop found.spans.len x) Bad bad
-    (says_whole 65536 x c.read_head.new.buffer.items (g.S.Source.left c.read_head.new.from) found is.1.0 splits is.1.1 is.0.section.len_fits
-    (omega (arith, c.in_ok-found.ensures.size, c.read_head.new.buffer.ok.0)))
+    (says_request 65536 x c.read_piece.new.buffer.items (g.S.Source.left c.read_piece.new.from) found is.1.0 splits is.1.1 is.0.section.len_fits
+    (omega (arith, c.in_ok-found.ensures.size, c.read_piece.new.buffer.ok.0)))
     (c.in-Bad.ensures is.1.0 (subst (λ (t : List ℕ). IsRequestAt t found.headers.items found.spans is.1.0) (sym c.as_slice.ensures.value) is.1.1))
     refl
 
@@ -36,8 +36,8 @@ returns-in-TooLong-clause-says g c = λ x told.
     let is = c.in_ok-found.ensures.found in
     let splits = c.in_ok-found.ensures.says x (begun x c.new-buffer.result.items (g.S.Source.left c.args.from.now) c.new-buffer.ensures.items told) in
     says_judged x is.1.0 (drop found.spans.len x) TooLong long
-    (says_whole 65536 x c.read_head.new.buffer.items (g.S.Source.left c.read_head.new.from) found is.1.0 splits is.1.1 is.0.section.len_fits
-    (omega (arith, c.in_ok-found.ensures.size, c.read_head.new.buffer.ok.0)))
+    (says_request 65536 x c.read_piece.new.buffer.items (g.S.Source.left c.read_piece.new.from) found is.1.0 splits is.1.1 is.0.section.len_fits
+    (omega (arith, c.in_ok-found.ensures.size, c.read_piece.new.buffer.ok.0)))
     (c.in-TooLong.ensures is.1.0 (subst (λ (t : List ℕ). IsRequestAt t found.headers.items found.spans is.1.0) (sym c.as_slice.ensures.value) is.1.1))
     refl
 
@@ -50,8 +50,8 @@ returns-in_err-body-clause-says g c =
     let splits = c.in_ok-found.ensures.says x (begun x c.new-buffer.result.items (g.S.Source.left c.args.from.now) c.new-buffer.ensures.items told) in
     rw (p.1, p.2)
     (body_fault x is.1.0 (drop found.spans.len x) c.in-Sized.size c.in_err-body.field-0.0
-    (says_whole 65536 x c.read_head.new.buffer.items (g.S.Source.left c.read_head.new.from) found is.1.0 splits is.1.1 is.0.section.len_fits
-    (omega (arith, c.in_ok-found.ensures.size, c.read_head.new.buffer.ok.0)))
+    (says_request 65536 x c.read_piece.new.buffer.items (g.S.Source.left c.read_piece.new.from) found is.1.0 splits is.1.1 is.0.section.len_fits
+    (omega (arith, c.in_ok-found.ensures.size, c.read_piece.new.buffer.ok.0)))
     (c.in-Sized.ensures is.1.0 (subst (λ (t : List ℕ). IsRequestAt t found.headers.items found.spans is.1.0) (sym c.as_slice.ensures.value) is.1.1))
     (c.in_err-body.ensures.says x splits))
 
@@ -64,8 +64,8 @@ returns-clause-says g c = λ x told.
       (is.1.0, body.0),
       body.1,
       says_body x is.1.0 (drop found.spans.len x) c.in-Sized.size (whole body.0 body.1)
-          (says_whole 65536 x c.read_head.new.buffer.items (g.S.Source.left c.read_head.new.from) found is.1.0 splits is.1.1 is.0.section.len_fits
-          (omega (arith, c.in_ok-found.ensures.size, c.read_head.new.buffer.ok.0)))
+          (says_request 65536 x c.read_piece.new.buffer.items (g.S.Source.left c.read_piece.new.from) found is.1.0 splits is.1.1 is.0.section.len_fits
+          (omega (arith, c.in_ok-found.ensures.size, c.read_piece.new.buffer.ok.0)))
           (c.in-Sized.ensures is.1.0 (subst (λ (t : List ℕ). IsRequestAt t found.headers.items found.spans is.1.0) (sym c.as_slice.ensures.value) is.1.1))
           body.2,
       (c.in_ok-parts.ensures is.1.0 (subst (λ (t : List ℕ). IsRequestAt t found.headers.items found.spans is.1.0) (sym c.as_slice-2.ensures.value) is.1.1), body.3),

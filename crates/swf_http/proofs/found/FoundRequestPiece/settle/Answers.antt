@@ -1,6 +1,6 @@
 use Rattle.std.proofs.Common.{length, arith}
 use Rattle.swf_http.proofs.CountLemmas.{no_room}
-use Rattle.swf_http.proofs.look.settle.Goals as goal
+use Rattle.swf_http.proofs.found.FoundRequestPiece.settle.Goals as goal
 
 pub unreachable-requires : goal.unreachable-requires
 unreachable-requires c =
