@@ -3,6 +3,12 @@ pub mod SentLemmas
 pub mod TargetLemmas
 pub mod CountLemmas
 pub mod ReadLemmas
+pub mod ThroughLemmas
 pub mod VerdictLemmas
+pub mod ResponseVerdicts
 pub mod JudgeLemmas
+pub mod FollowLemmas
+pub mod ContentLemmas
 pub mod RequestLemmas
+pub mod ResponseLemmas
+pub mod TrailerLemmas

@@ -1,16 +1,22 @@
 -- From what was read so far to what all bytes say.
-use Rattle.std.proofs.Common.{◌≡◌, ℕ, ◌+◌, ◌-◌, ◌<◌, ◌≤◌, List, ◌++◌, length, take, drop, refl, sym, ap, ◌∙◌, subst, true, false, arith, append_assoc, append-nil, length-append, length-drop, take-append-drop, nat_le, Option, Some, Result, Ok, Err}
+use Rattle.std.proofs.Common.{◌≡◌, ℕ, ◌+◌, ◌-◌, ◌<◌, ◌≤◌, List, [], ◌++◌, length, take, drop, refl, sym, ap, ◌∙◌, subst, true, false, arith, append_assoc, append-nil, length-append, length-drop, take-append-drop, nat_le, Option, Some, Result, Ok, Err}
 use Rattle.std.proofs.lemmas.Bool.{le-leb, false_from_ne_true, leb-true}
 use Rattle.std.proofs.lemmas.List.{drop-append-le, take-append-le, take_all}
 use Rattle.std.proofs.Math.Seq.{take-append_seam}
-use Rattle.httparse.specs.Grammar.{RequestHead, ReadsRequest}
-use Rattle.httparse.specs.Spans.{IsRequestAt}
-use Rattle.httparse.proofs.GrammarLemmas.{ReadsRequest-append}
+use Rattle.httparse.specs.Grammar.{RequestHead, ResponseHead, ChunkLine, print_chunk_line, print_section}
+use Rattle.httparse.specs.Spans.{IsRequestAt, IsResponseAt, IsChunkLineAt}
+use Rattle.httparse.proofs.GrammarLemmas.{ReadsRequest-append, ReadsResponse-append, ReadsSection-append}
+use Rattle.httparse.proofs.ChunkLemmas.{ReadsChunkLine-append}
 use Rattle.swf_http.specs.declared.fault.HttpFault.{HttpFault}
 use Rattle.swf_http.specs.declared.fault.HttpFault.TheVariants.{Read, Ended, TooLong, BadMessage, OutOfMemory}
 use Rattle.swf_http.specs.declared.found.FoundRequest.{FoundRequest}
-use Rattle.swf_http.specs.Pieces.{Form, request_form, SaysPiece, Settles}
-use Rattle.swf_http.specs.Messages.{body_of}
+use Rattle.swf_http.specs.declared.found.FoundResponse.{FoundResponse}
+use Rattle.swf_http.specs.declared.found.FoundLine.{FoundLine}
+use Rattle.swf_http.specs.declared.found.FoundTrailer.{FoundTrailer}
+use Rattle.swf_http.specs.Stands.{IsFoundLine, IsTrailerAt}
+use Rattle.swf_http.specs.Pieces.{Form, Section, request_form, response_form, line_form, trailer_form, SaysPiece, Settles}
+use Rattle.swf_http.specs.Bodies.{body_of, rest_of}
+use Rattle.swf_http.specs.Limits.{most_body}
 use Rattle.swf_http.specs.Sources.{Grows, Splits, IsReadFault}
 use Rattle.swf_http.specs.Verdicts.{Verdict, whole, ended, long, FaultSays}
 
@@ -83,17 +89,49 @@ pub settles_at : {A P : Type 0} (F : Form A) (Stands : List ℕ → P → Type 0
 settles_at {P = P} F Stands a b r q bytes same settles =
     subst (λ (t : List ℕ). Settles F Stands t q) bytes (subst (λ (v : Result (Option P) HttpFault). Settles F Stands a v) same settles)
 
--- a head that was found is that of all bytes
+-- what a tree is read from begins with as many bytes as it has
+pub len_within : (print now : List ℕ) (len : ℕ) → now ≡ print ++ drop len now → len ≡ length print → len ≤ length now
+len_within print now len is len_is =
+    let same = ap length is in
+    omega (arith, length-append print (drop len now), same, len_is)
+
+-- a tree that was found is that of all bytes
+pub says_found : {A : Type 0} (F : Form A)
+    → ((bytes : List ℕ) (a : A) (rest more : List ℕ) → F.Reads bytes a rest → F.Reads (bytes ++ more) a (rest ++ more))
+    → (room : ℕ) (y now : List ℕ) (left : Option (List ℕ)) (a : A) (len : ℕ) → Splits y now left → F.Reads now a (drop len now)
+    → len ≡ length (F.print a) → len ≤ length now → length now ≤ room → SaysPiece F room y (whole a (drop len y))
+says_found F on room y now left a len s reads len_is within short =
+    let further : F.Reads (now ++ s.rest) a (drop len now ++ s.rest) = on now a (drop len now) s.rest reads in
+    let after : drop len now ++ s.rest ≡ drop len y =
+    sym (drop-append-le len now s.rest within) ∙ ap (λ (t : List ℕ). drop len t) (sym s.whole_is) in
+    (subst (λ (t : List ℕ). F.Reads t a (drop len y)) (sym s.whole_is) (subst (F.Reads (now ++ s.rest) a) after further),
+        omega (arith, len_is, within, short))
+
 pub says_request : (room : ℕ) (y now : List ℕ) (left : Option (List ℕ)) (found : FoundRequest) (h : RequestHead) → Splits y now left
     → IsRequestAt now found.headers.items found.spans h → found.spans.len ≤ length now → length now ≤ room
     → SaysPiece request_form room y (whole h (drop found.spans.len y))
 says_request room y now left found h s at within short =
-    let reads : ReadsRequest (now ++ s.rest) h (drop found.spans.len now ++ s.rest) =
-    ReadsRequest-append now h (drop found.spans.len now) s.rest at.reads in
-    let after : drop found.spans.len now ++ s.rest ≡ drop found.spans.len y =
-    sym (drop-append-le found.spans.len now s.rest within) ∙ ap (λ (t : List ℕ). drop found.spans.len t) (sym s.whole_is) in
-    (subst (λ (t : List ℕ). ReadsRequest t h (drop found.spans.len y)) (sym s.whole_is) (subst (ReadsRequest (now ++ s.rest) h) after reads),
-        omega (arith, at.len, within, short))
+    says_found request_form ReadsRequest-append room y now left h found.spans.len s at.reads at.len within short
+
+pub says_response : (room : ℕ) (y now : List ℕ) (left : Option (List ℕ)) (found : FoundResponse) (h : ResponseHead) → Splits y now left
+    → IsResponseAt now found.headers.items found.spans h → found.spans.len ≤ length now → length now ≤ room
+    → SaysPiece response_form room y (whole h (drop found.spans.len y))
+says_response room y now left found h s at within short =
+    says_found response_form ReadsResponse-append room y now left h found.spans.len s at.reads at.len within short
+
+pub line_within : (now : List ℕ) (found : FoundLine) → IsFoundLine now found → found.len ≤ length now
+line_within now found (l, at) = len_within (print_chunk_line l) now found.len at.reads.1 at.len_is
+
+pub says_line : (room : ℕ) (y now : List ℕ) (left : Option (List ℕ)) (found : FoundLine) (l : ChunkLine) → Splits y now left
+    → IsChunkLineAt now found.len found.size l → length now ≤ room → SaysPiece line_form room y (whole l (drop found.len y))
+says_line room y now left found l s at short =
+    says_found line_form ReadsChunkLine-append room y now left l found.len s at.reads at.len_is (line_within now found (l, at)) short
+
+pub says_trailer : (room : ℕ) (y now : List ℕ) (left : Option (List ℕ)) (found : FoundTrailer) (s : Section) → Splits y now left
+    → IsTrailerAt now found s → length now ≤ room → SaysPiece trailer_form room y (whole s (drop found.len y))
+says_trailer room y now left found s splits at short =
+    says_found trailer_form (λ bytes x rest more. ReadsSection-append bytes x.0 x.1 rest more) room y now left s found.len splits at.reads at.len_is
+    (len_within (print_section s.0 s.1) now found.len at.reads.1 at.len_is) short
 
 -- ---- a body
 
@@ -114,3 +152,18 @@ body_short y now at n same short =
     let less : length (drop at now) < n = omega (arith, length-drop at now, short) in
     let fails : nat_le n (length (drop at now)) ≡ false = false_from_ne_true (nat_le n (length (drop at now))) (λ le. omega (arith, less, leb-true n (length (drop at now)) le)) in
     rw (same, fails) refl
+
+pub rest_there : (x now body : List ℕ) (at : ℕ) → x ≡ now → length now - at ≤ most_body → body ≡ drop at now
+    → (a : List ℕ) × (rest : List ℕ) × (whole a rest ≡ rest_of (drop at x)) × (body ≡ a)
+rest_there x now body at same short is =
+    let fits : length (drop at now) ≤ most_body = omega (arith, length-drop at now, short) in
+    let under : nat_le (length (drop at now)) most_body ≡ true = le-leb (length (drop at now)) most_body fits in
+    (drop at now, [], rw (same, under) refl, is)
+
+pub rest_long : (x now : List ℕ) (left : Option (List ℕ)) (at : ℕ) → Splits x now left → most_body < length now - at → long ≡ rest_of (drop at x)
+rest_long x now left at s over =
+    let same = ap length s.whole_is in
+    let more : most_body < length (drop at x) = omega (arith, length-append now s.rest, length-drop at x, same, over) in
+    let fails : nat_le (length (drop at x)) most_body ≡ false =
+    false_from_ne_true (nat_le (length (drop at x)) most_body) (λ le. omega (arith, more, leb-true (length (drop at x)) most_body le)) in
+    rw fails refl

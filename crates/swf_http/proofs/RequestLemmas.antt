@@ -6,9 +6,10 @@ use Rattle.swf_http.specs.declared.fault.HttpFault.TheVariants.{Read, Ended, Too
 use Rattle.swf_http.specs.declared.judge.Judgement.{Judgement}
 use Rattle.swf_http.specs.declared.judge.Judgement.TheVariants as Judged
 use Rattle.swf_http.specs.Framing.{judge}
-use Rattle.swf_http.specs.Heads.{most_head}
+use Rattle.swf_http.specs.Limits.{most_head}
 use Rattle.swf_http.specs.Pieces.{request_form, SaysPiece}
-use Rattle.swf_http.specs.Messages.{Message, SaysRequest, behind_head, with_head, body_of}
+use Rattle.swf_http.specs.Bodies.{body_of}
+use Rattle.swf_http.specs.Requests.{Message, SaysRequest, behind_head, with_head}
 use Rattle.swf_http.specs.Verdicts.{Verdict, whole, ended, long, bad, FaultSays}
 
 pub head_fault : (y : List ℕ) (e : HttpFault) → FaultSays (SaysPiece request_form most_head) y e → FaultSays SaysRequest y e

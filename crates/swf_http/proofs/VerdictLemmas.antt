@@ -10,8 +10,8 @@ use Rattle.httparse.specs.Grammar.{LineEnd, lf, print_end, print_blank, print_ve
 use Rattle.httparse.proofs.GrammarLemmas.{request_unique, print_request-append, response_unique, section_unique}
 use Rattle.httparse.proofs.ChunkLemmas.{chunk_line_unique}
 use Rattle.swf_http.specs.Pieces.{Form, request_form, response_form, line_form, trailer_form, Section, SaysPiece}
-use Rattle.swf_http.specs.Heads.{most_head}
-use Rattle.swf_http.specs.Messages.{Message, SaysRequest, behind_head}
+use Rattle.swf_http.specs.Limits.{most_head}
+use Rattle.swf_http.specs.Requests.{Message, SaysRequest, behind_head}
 use Rattle.swf_http.specs.Framing.{judge}
 use Rattle.swf_http.specs.Verdicts.{Verdict, whole, ended, long, bad, Stops, Then, OneVerdict}
 
@@ -139,7 +139,7 @@ none_of_begun bytes n (never_yet, inr target) none = none_of_target bytes n targ
 
 -- ---- the grammars
 
-request_laws : IsLawful RequestHead request_form
+pub request_laws : IsLawful RequestHead request_form
 request_laws = record {
   unique = request_unique;
   front = front_of IsRequestHead print_request;
@@ -148,7 +148,7 @@ request_laws = record {
   apart = none_of_begun;
 }
 
-response_laws : IsLawful ResponseHead response_form
+pub response_laws : IsLawful ResponseHead response_form
 response_laws = record {
   unique = response_unique;
   front = front_of IsResponseHead print_response;
@@ -157,7 +157,7 @@ response_laws = record {
   apart = λ bytes n begins none. never_of_whole ReadsResponse bytes begins.1.0 n begins.1.1 [] none begins.1.2;
 }
 
-line_laws : IsLawful ChunkLine line_form
+pub line_laws : IsLawful ChunkLine line_form
 line_laws = record {
   unique = chunk_line_unique;
   front = front_of IsChunkLine print_chunk_line;
@@ -166,7 +166,7 @@ line_laws = record {
   apart = λ bytes n begins none. never_of_whole ReadsChunkLine bytes begins.1.0 n begins.1.1 [] none begins.1.2;
 }
 
-trailer_laws : IsLawful Section trailer_form
+pub trailer_laws : IsLawful Section trailer_form
 trailer_laws = record {
   unique = λ bytes s t r q a b.
       let same = section_unique bytes s.0 t.0 s.1 t.1 r q a b in
@@ -216,14 +216,14 @@ one_piece F laws room bytes bad bad a b = refl
 
 -- ---- pairs of verdicts on what stands behind
 
-stops_whole : {A B : Type 0} (J : List ℕ → Verdict A → Type 0) → OneVerdict J → (bytes : List ℕ) (a : A) (rest : List ℕ) (w : Verdict B)
+pub stops_whole : {A B : Type 0} (J : List ℕ → Verdict A → Type 0) → OneVerdict J → (bytes : List ℕ) (a : A) (rest : List ℕ) (w : Verdict B)
     → J bytes (whole a rest) → Stops J bytes w → ⊥
 stops_whole J one bytes a rest (whole b r) j s = absurd s
 stops_whole J one bytes a rest ended j s = cc (one bytes (whole a rest) ended j s)
 stops_whole J one bytes a rest long j s = cc (one bytes (whole a rest) long j s)
 stops_whole J one bytes a rest bad j s = cc (one bytes (whole a rest) bad j s)
 
-stops_one : {A B : Type 0} (J : List ℕ → Verdict A → Type 0) → OneVerdict J → (bytes : List ℕ) (v w : Verdict B)
+pub stops_one : {A B : Type 0} (J : List ℕ → Verdict A → Type 0) → OneVerdict J → (bytes : List ℕ) (v w : Verdict B)
     → Stops J bytes v → Stops J bytes w → v ≡ w
 stops_one J one bytes (whole a r) w s t = absurd s
 stops_one J one bytes ended (whole a r) s t = absurd t
@@ -239,7 +239,7 @@ stops_one J one bytes bad ended s t = cc (one bytes bad ended s t)
 stops_one J one bytes bad long s t = cc (one bytes bad long s t)
 stops_one J one bytes bad bad s t = refl
 
-both_whole : {A : Type 0} (a b : A) (r q : List ℕ) → whole a r ≡ whole b q → (a ≡ b) × (r ≡ q)
+pub both_whole : {A : Type 0} (a b : A) (r q : List ℕ) → whole a r ≡ whole b q → (a ≡ b) × (r ≡ q)
 both_whole a b r q e = (cc, cc)
 
 pub then_one : {A B : Type 0} (J : List ℕ → Verdict A → Type 0) (Next : A → List ℕ → Verdict B → Type 0) → OneVerdict J

@@ -9,16 +9,9 @@ use Rattle.http1.specs.declared.framing.Framing.{Framing}
 use Rattle.http1.specs.declared.framing.Framing.TheVariants.{NoBody, Length, Chunked, UntilClose}
 use Rattle.http1.specs.declared.framing.FramingError.{FramingError}
 use Rattle.http1.specs.declared.framing.MethodKind.TheVariants.{Other}
+use Rattle.swf_http.specs.Limits.{most_body, most_fields}
 use Rattle.swf_http.specs.declared.judge.Judgement.{Judgement}
 use Rattle.swf_http.specs.declared.judge.Judgement.TheVariants.{Bad, TooLong, Sized}
-
--- the most fields of a head
-abbrev pub most_fields : ℕ
-most_fields = 100
-
--- the most bytes of a body
-abbrev pub most_body : ℕ
-most_body = 1048576
 
 -- the length of a request's body: it is given, or 0; none where the body would be chunked or the fields disagree
 abbrev pub size_of : Result Framing FramingError → Option ℕ

@@ -5,6 +5,12 @@ pub mod Sent
 pub mod Targets
 pub mod Verdicts
 pub mod Pieces
-pub mod Heads
+pub mod Stands
+pub mod Limits
 pub mod Framing
-pub mod Messages
+pub mod Following
+pub mod Bodies
+pub mod Fields
+pub mod Requests
+pub mod Chunks
+pub mod Responses

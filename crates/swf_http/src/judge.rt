@@ -9,10 +9,10 @@ use http1::fields::KnownFields;
 use http1::framing::{Framing, FramingError, MethodKind, request_framing};
 
 /// The most fields of a head.
-const MOST_FIELDS: usize = 100;
+pub(crate) const MOST_FIELDS: usize = 100;
 
 /// The most bytes of a body.
-const MOST_BODY: u64 = 1_048_576;
+pub(crate) const MOST_BODY: usize = 1_048_576;
 
 /// What a head leads to: no message, too long a one, or a body of so many bytes.
 #[derive(Clone, Copy)]
@@ -38,7 +38,7 @@ fn judged(size: Option<u64>, many: bool) -> Judgement
 {
     match size {
         None => Judgement::Bad,
-        Some(size) => if many || size > MOST_BODY {
+        Some(size) => if many || size > MOST_BODY as u64 {
             Judgement::TooLong
         } else {
             Judgement::Sized(size)

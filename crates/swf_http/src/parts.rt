@@ -4,8 +4,9 @@ ghost use Rattle.std.specs.Char.{to_ascii_lowercase};
 ghost use Rattle.std.specs.Str.{IsUtf8};
 ghost use Rattle.httparse.specs.Grammar.{RequestHead};
 ghost use Rattle.httparse.specs.Spans.{IsHeaderWithin, IsRequestAt, header_bytes};
-ghost use Rattle.swf_http.specs.Heads.{IsFoundRequest};
-ghost use Rattle.swf_http.specs.Messages.{IsParts, headers_of};
+ghost use Rattle.swf_http.specs.Stands.{IsFoundRequest};
+ghost use Rattle.swf_http.specs.Fields.{headers_of};
+ghost use Rattle.swf_http.specs.Requests.{IsParts};
 
 use crate::found::FoundRequest;
 use httparse::spans::HeaderSpan;
@@ -54,8 +55,8 @@ fn spelled(alloc: Global, bytes: &[u8]) -> Result<Text, AllocError>
     }
 }
 
-// The headers that stand at some spans.
-fn headers_at(alloc: Global, bytes: &[u8], spans: &[HeaderSpan]) -> Result<Headers, AllocError>
+/// The headers that stand at some spans.
+pub(crate) fn headers_at(alloc: Global, bytes: &[u8], spans: &[HeaderSpan]) -> Result<Headers, AllocError>
     requires { All (IsHeaderWithin (length bytes.now)) spans.now }
     ensures { IfOk result (λ headers. headers ≡ headers_of (map (header_bytes bytes.now) spans.now)) }
 {

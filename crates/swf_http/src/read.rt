@@ -1,11 +1,11 @@
 // Requests from a source.
-ghost use Rattle.std.specs.Prelude.{◌≡◌, ◌≤◌, List, ℕ, drop, vec_len};
+ghost use Rattle.std.specs.Prelude.{◌≡◌};
 ghost use Rattle.std.specs.Option.{ForSome};
-ghost use Rattle.swf_http.specs.Messages.{IsRequest, SaysRequest, body_of};
-ghost use Rattle.swf_http.specs.Sources.{Splits, ReadCause};
+ghost use Rattle.swf_http.specs.Requests.{IsRequest, SaysRequest};
+ghost use Rattle.swf_http.specs.Sources.{ReadCause};
 ghost use Rattle.swf_http.specs.Verdicts.{Answers};
 
-use crate::grow::grow;
+use crate::body::read_body;
 use crate::found::FoundRequest;
 use crate::judge::{Judgement, judge};
 use crate::parts::parts_at;
@@ -13,30 +13,8 @@ use crate::piece::read_piece;
 use crate::{HttpFault, Request, Source};
 use std::alloc::Global;
 
-/// The most bytes of a head.
-const MOST_HEAD: usize = 65_536;
-
-/// Reads the body of so many bytes that begins at a place of a buffer. It takes no memory before they are there.
-fn read_body<S: Source>(
-    alloc: Global,
-    from: &mut S,
-    buffer: &mut Vec<u8>,
-    at: usize,
-    size: usize,
-) -> Result<Vec<u8>, HttpFault>
-    requires { at ≤ vec_len buffer.old }
-    ensures says { (bytes : List ℕ) → Splits bytes buffer.old.items (S.left from.old)
-        → Answers (λ behind v. v ≡ body_of size behind) (λ items body. body.items ≡ items) (drop at bytes) result }
-    ensures cause { ReadCause result (S.faults from.old) (S.faults from.new) }
-    ensures beside { S.beside from.new ≡ S.beside from.old }
-{
-    'pieces: while buffer.len() - at < size {
-        if grow(from, buffer, at.saturating_add(size))? == 0 {
-            return Err(HttpFault::Ended);
-        }
-    }
-    Ok(buffer[at..at + size].to_vec(alloc)?)
-}
+/// The most bytes of a head, with the responses before it that are read past.
+pub(crate) const MOST_HEAD: usize = 65_536;
 
 /// Reads a request: a head of at most 65,536 bytes and 100 fields, and a body of at most 1,048,576 bytes. It reads by pieces, of
 /// which the last may go past the request. `Ended` where the source ends within it, and `BadMessage` where the bytes begin none.

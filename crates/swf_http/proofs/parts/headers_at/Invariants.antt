@@ -1,7 +1,7 @@
 use Rattle.std.proofs.Common.{◌≡◌, map, drop, fold}
 use Rattle.httparse.specs.Spans.{header_bytes}
 use Rattle.swf_calls.specs.Headers.{with_field}
-use Rattle.swf_http.specs.Messages.{header_of, headers_of}
+use Rattle.swf_http.specs.Fields.{header_of, headers_of}
 use Rattle.swf_http.proofs.parts.headers_at.Given as goal
 
 -- the headers so far, with those that are left

@@ -1,25 +1,21 @@
 -- Whole requests.
-use Rattle.std.specs.Prelude.{◌≡◌, ℕ, nat_le, List, [], length, take, drop, map, chars, fold, if◌then◌else◌}
-use Rattle.std.specs.Char.{to_ascii_lowercase}
+use Rattle.std.specs.Prelude.{◌≡◌, ℕ, List, map, chars}
 use Rattle.httparse.specs.Grammar.{RequestHead}
 use Rattle.httparse.specs.Spans.{name_and_value}
-use Rattle.swf_calls.specs.Headers.{with_field}
 use Rattle.swf_calls.specs.declared.headers.Header.{Header}
 use Rattle.swf_http.specs.declared.judge.Judgement.{Judgement}
 use Rattle.swf_http.specs.declared.judge.Judgement.TheVariants.{Bad, TooLong, Sized}
 use Rattle.swf_http.specs.declared.message.Request.{Request}
 use Rattle.swf_http.specs.Verdicts.{Verdict, whole, ended, long, bad, Then}
-use Rattle.swf_http.specs.Heads.{most_head}
+use Rattle.swf_http.specs.Limits.{most_head}
 use Rattle.swf_http.specs.Pieces.{request_form, SaysPiece}
 use Rattle.swf_http.specs.Framing.{judge}
+use Rattle.swf_http.specs.Fields.{headers_of}
+use Rattle.swf_http.specs.Bodies.{body_of}
 
 -- a head and a body
 abbrev pub Message : Type 0
 Message = RequestHead × List ℕ
-
--- what bytes say of a body of so many
-abbrev pub body_of : ℕ → List ℕ → Verdict (List ℕ)
-body_of n bytes = if nat_le n (length bytes) then whole (take n bytes) (drop n bytes) else ended
 
 -- a head before a body
 abbrev pub with_head : RequestHead → Verdict (List ℕ) → Verdict Message
@@ -37,14 +33,6 @@ behind_head (Sized n) h rest = with_head h (body_of n rest)
 -- what bytes say of a request
 abbrev pub SaysRequest : List ℕ → Verdict Message → Type 0
 SaysRequest bytes v = Then (SaysPiece request_form most_head) (λ h rest w. w ≡ behind_head (judge h) h rest) bytes v
-
--- a name and a value as a header: the name in lower case, and each byte of the value as the character of that number
-abbrev pub header_of : List ℕ × List ℕ → Header
-header_of pair = record { name = map to_ascii_lowercase pair.0; value = pair.1 }
-
--- names and values as headers; equal names have one value, which joins theirs
-abbrev pub headers_of : List (List ℕ × List ℕ) → List Header
-headers_of pairs = fold (λ headers pair. with_field (header_of pair) headers) [] pairs
 
 -- the parts of a head, as values
 pub record IsParts (h : RequestHead) (method target : List ℕ) (headers : List Header) : Type 0 where

@@ -1,9 +1,9 @@
 use Rattle.std.proofs.Common.{◌≡◌, ◌∙◌, drop, arith, ℕ, List}
 use Rattle.std.proofs.lemmas.Result.{err_from_is_err_and}
-use Rattle.swf_http.specs.Messages.{body_of}
+use Rattle.swf_http.specs.Bodies.{body_of}
 use Rattle.swf_http.specs.Verdicts.{Verdict}
 use Rattle.swf_http.proofs.ReadLemmas.{splits_on, all_read, read_fault_says, body_there, body_short}
-use Rattle.swf_http.proofs.read.read_body.Goals as goal
+use Rattle.swf_http.proofs.body.read_body.Goals as goal
 
 pub returns-in_err-grow-clause-says : goal.returns-in_err-grow-clause-says
 returns-in_err-grow-clause-says g c =
