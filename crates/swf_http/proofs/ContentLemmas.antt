@@ -1,5 +1,5 @@
 -- Chunks one by one.
-use Rattle.std.proofs.Common.{◌≡◌, ℕ, zero, suc, true, false, ◌+◌, ◌-◌, ◌<◌, ◌≤◌, ◌==◌, ◌&&◌, ◌||◌, nat_lt, nat_le, if◌then◌else◌, Bool, List, [], ◌∷◌, ◌++◌, length, get_or, take, drop, refl, sym, ap, ◌∙◌, subst, arith, length-append, length-drop, drop-cons, drop-drop, get_or-drop, inl, inr, Option}
+use Rattle.std.proofs.Common.{◌≡◌, ℕ, suc, true, false, ◌+◌, ◌-◌, ◌<◌, ◌≤◌, ◌==◌, ◌&&◌, ◌||◌, nat_lt, nat_le, if◌then◌else◌, Bool, List, [], ◌∷◌, ◌++◌, length, get_or, take, drop, refl, sym, ap, ◌∙◌, subst, arith, length-append, length-drop, drop-cons, drop-drop, get_or-drop, inl, inr, Option}
 use Rattle.std.proofs.lemmas.Bool.{cases_Bool, cases_lt, lt-ltb, ltb-true, le-leb, leb-true, eqb-true, false_from_ne_true}
 use Rattle.std.proofs.lemmas.List.{take-append-le, drop-append-le, drop_all, get_or_append_left}
 use Rattle.httparse.specs.Grammar.{ChunkLine, print_chunk_line, chunk_size}
@@ -9,8 +9,8 @@ use Rattle.httparse.specs.Spans.{IsChunkLineAt}
 use Rattle.swf_http.specs.declared.found.FoundLine.{FoundLine}
 use Rattle.swf_http.proofs.ReadLemmas.{splits_behind, says_line}
 use Rattle.swf_http.specs.Limits.{most_body}
-use Rattle.swf_http.specs.Pieces.{line_form, trailer_form, Section, SaysPiece}
-use Rattle.swf_http.specs.Chunks.{closed, content_of, ends_with, room_behind, BehindLine, SaysChunks, SaysChunked}
+use Rattle.swf_http.specs.Pieces.{line_form, trailer_form, SaysPiece}
+use Rattle.swf_http.specs.Chunks.{closed, content_of, ends_with, room_behind, BehindLine, SaysChunked}
 use Rattle.swf_http.specs.Sources.{Splits}
 use Rattle.swf_http.specs.Verdicts.{Verdict, whole, ended, long, bad, Stops, Then, FaultSays}
 
@@ -27,7 +27,7 @@ same_end a b c d t u r q p e f g = rw (p, e, f, g) refl
 -- content and a line end are there
 pub content_is : (x now : List ℕ) (left : Option (List ℕ)) (at size : ℕ) → Splits x now left → at + size + 2 ≤ length now
     → content_of size (drop at x)
-        ≡ (if get_or now (at + size) 0 == 13 && get_or now (at + size + 1) 0 == 10 then whole (take size (drop at now)) (drop (at + size + 2) x) else bad)
+    ≡ (if get_or now (at + size) 0 == 13 && get_or now (at + size + 1) 0 == 10 then whole (take size (drop at now)) (drop (at + size + 2) x) else bad)
 content_is x now left at size s there =
     let b : List ℕ = drop at x in
     let same = ap length s.whole_is in
@@ -115,9 +115,15 @@ cut_says x at size e within short fault =
 pub chunk_last : (content : List ℕ) (room : ℕ) (y mid : List ℕ) (l : ChunkLine) (v : Verdict (List ℕ)) → SaysPiece line_form room y (whole l mid) → chunk_size l ≡ 0
     → Then (SaysPiece trailer_form (room_behind room l)) (λ s after w. w ≡ ends_with content s after) mid v → SaysChunked content room y v
 chunk_last content room y mid l v says none on =
-    let is : (chunk_size l == 0) ≡ true = rw none refl in
-    (0, inl (l, mid, says,
-    subst (λ (b : Bool). BehindLine b (nat_lt most_body (length content + chunk_size l)) content (chunk_size l) (room_behind room l) mid v) (sym is) on))
+    let is : (chunk_size l == 0) ≡ true = rw none refl in (
+      0,
+      inl (
+        l,
+        mid,
+        says,
+        subst (λ (b : Bool). BehindLine b (nat_lt most_body (length content + chunk_size l)) content (chunk_size l) (room_behind room l) mid v) (sym is) on,
+      ),
+    )
 
 not_last : (l : ChunkLine) → 0 < chunk_size l → (chunk_size l == 0) ≡ false
 not_last l some = false_from_ne_true (chunk_size l == 0) (λ e. omega (arith, some, eqb-true (chunk_size l) 0 e))
@@ -126,20 +132,32 @@ not_last l some = false_from_ne_true (chunk_size l == 0) (λ e. omega (arith, so
 pub chunk_long : (content : List ℕ) (room : ℕ) (y mid : List ℕ) (l : ChunkLine) → SaysPiece line_form room y (whole l mid) → 0 < chunk_size l
     → most_body < length content + chunk_size l → SaysChunked content room y long
 chunk_long content room y mid l says some over =
-    let test : nat_lt most_body (length content + chunk_size l) ≡ true = lt-ltb most_body (length content + chunk_size l) over in
-    (0, inl (l, mid, says,
-    subst (λ (b : Bool). BehindLine b (nat_lt most_body (length content + chunk_size l)) content (chunk_size l) (room_behind room l) mid long) (sym (not_last l some))
-    (subst (λ (b : Bool). BehindLine false b content (chunk_size l) (room_behind room l) mid long) (sym test) refl)))
+    let test : nat_lt most_body (length content + chunk_size l) ≡ true = lt-ltb most_body (length content + chunk_size l) over in (
+      0,
+      inl (
+        l,
+        mid,
+        says,
+        subst (λ (b : Bool). BehindLine b (nat_lt most_body (length content + chunk_size l)) content (chunk_size l) (room_behind room l) mid long) (sym (not_last l some))
+            (subst (λ (b : Bool). BehindLine false b content (chunk_size l) (room_behind room l) mid long) (sym test) refl),
+      ),
+    )
 
 -- a chunk that is not whole
 pub chunk_stops : (content : List ℕ) (room : ℕ) (y mid : List ℕ) (l : ChunkLine) (v : Verdict (List ℕ)) → SaysPiece line_form room y (whole l mid)
     → 0 < chunk_size l → length content + chunk_size l ≤ most_body → Stops (Content (chunk_size l)) mid v → SaysChunked content room y v
 chunk_stops content room y mid l v says some fits stops =
     let test : nat_lt most_body (length content + chunk_size l) ≡ false =
-    false_from_ne_true (nat_lt most_body (length content + chunk_size l)) (λ e. omega (arith, fits, ltb-true most_body (length content + chunk_size l) e)) in
-    (0, inl (l, mid, says,
-    subst (λ (b : Bool). BehindLine b (nat_lt most_body (length content + chunk_size l)) content (chunk_size l) (room_behind room l) mid v) (sym (not_last l some))
-    (subst (λ (b : Bool). BehindLine false b content (chunk_size l) (room_behind room l) mid v) (sym test) stops)))
+    false_from_ne_true (nat_lt most_body (length content + chunk_size l)) (λ e. omega (arith, fits, ltb-true most_body (length content + chunk_size l) e)) in (
+      0,
+      inl (
+        l,
+        mid,
+        says,
+        subst (λ (b : Bool). BehindLine b (nat_lt most_body (length content + chunk_size l)) content (chunk_size l) (room_behind room l) mid v) (sym (not_last l some))
+            (subst (λ (b : Bool). BehindLine false b content (chunk_size l) (room_behind room l) mid v) (sym test) stops),
+      ),
+    )
 
 -- one chunk more
 pub chunk_more : (content more : List ℕ) (room : ℕ) (y mid rest : List ℕ) (l : ChunkLine) (v : Verdict (List ℕ)) → SaysPiece line_form room y (whole l mid)

@@ -1,5 +1,5 @@
 -- From what was read so far to what all bytes say.
-use Rattle.std.proofs.Common.{◌≡◌, ℕ, ◌+◌, ◌-◌, ◌<◌, ◌≤◌, List, [], ◌++◌, length, take, drop, refl, sym, ap, ◌∙◌, subst, true, false, arith, append_assoc, append-nil, length-append, length-drop, take-append-drop, nat_le, Option, Some, Result, Ok, Err}
+use Rattle.std.proofs.Common.{◌≡◌, ℕ, ◌+◌, ◌-◌, ◌<◌, ◌≤◌, List, [], ◌++◌, length, take, drop, refl, sym, ap, ◌∙◌, subst, true, false, arith, append_assoc, append-nil, length-append, length-drop, take-append-drop, nat_le, Option, Some, Result, Err}
 use Rattle.std.proofs.lemmas.Bool.{le-leb, false_from_ne_true, leb-true}
 use Rattle.std.proofs.lemmas.List.{drop-append-le, take-append-le, take_all}
 use Rattle.std.proofs.Math.Seq.{take-append_seam}
@@ -48,6 +48,10 @@ read_fault_says J bytes Ended is = absurd is
 read_fault_says J bytes TooLong is = absurd is
 read_fault_says J bytes BadMessage is = absurd is
 read_fault_says J bytes OutOfMemory is = tt
+
+-- nothing was read yet
+pub begun : (x items : List ℕ) (left : Option (List ℕ)) → items ≡ [] → left ≡ Some x → Splits x items left
+begun x items left empty told = record { rest = x; left_is = told; whole_is = rw empty refl }
 
 -- ---- a piece
 
@@ -103,9 +107,10 @@ pub says_found : {A : Type 0} (F : Form A)
 says_found F on room y now left a len s reads len_is within short =
     let further : F.Reads (now ++ s.rest) a (drop len now ++ s.rest) = on now a (drop len now) s.rest reads in
     let after : drop len now ++ s.rest ≡ drop len y =
-    sym (drop-append-le len now s.rest within) ∙ ap (λ (t : List ℕ). drop len t) (sym s.whole_is) in
-    (subst (λ (t : List ℕ). F.Reads t a (drop len y)) (sym s.whole_is) (subst (F.Reads (now ++ s.rest) a) after further),
-        omega (arith, len_is, within, short))
+    sym (drop-append-le len now s.rest within) ∙ ap (λ (t : List ℕ). drop len t) (sym s.whole_is) in (
+      subst (λ (t : List ℕ). F.Reads t a (drop len y)) (sym s.whole_is) (subst (F.Reads (now ++ s.rest) a) after further),
+      omega (arith, len_is, within, short),
+    )
 
 pub says_request : (room : ℕ) (y now : List ℕ) (left : Option (List ℕ)) (found : FoundRequest) (h : RequestHead) → Splits y now left
     → IsRequestAt now found.headers.items found.spans h → found.spans.len ≤ length now → length now ≤ room

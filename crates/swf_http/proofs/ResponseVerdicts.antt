@@ -1,7 +1,7 @@
 -- Bytes have one verdict on a response at most.
-use Rattle.std.proofs.Common.{◌≡◌, ℕ, zero, suc, true, false, ◌+◌, ◌-◌, ◌<◌, ◌≤◌, ◌==◌, nat_lt, Bool, List, [], ◌++◌, length, refl, sym, ap, ◌∙◌, subst, arith, inl, inr}
+use Rattle.std.proofs.Common.{◌≡◌, ℕ, zero, suc, true, false, ◌+◌, ◌-◌, ◌<◌, ◌≤◌, ◌==◌, nat_lt, Bool, List, [], ◌++◌, length, sym, ap, ◌∙◌, subst, arith, inl, inr}
 use Rattle.std.proofs.lemmas.Bool.{false_from_ne_true, eqb-true, ltb-true}
-use Rattle.httparse.specs.Grammar.{ResponseHead, print_response, ChunkLine, print_chunk_line, chunk_size}
+use Rattle.httparse.specs.Grammar.{ResponseHead, print_response, ChunkLine, chunk_size}
 use Rattle.http1.specs.declared.framing.Framing.{Framing}
 use Rattle.http1.specs.declared.framing.Framing.TheVariants.{NoBody, Length, Chunked, UntilClose}
 use Rattle.swf_http.specs.declared.follow.Follow.{Follow}
@@ -11,7 +11,7 @@ use Rattle.swf_http.specs.Pieces.{response_form, line_form, trailer_form, SaysPi
 use Rattle.swf_http.specs.Following.{follow_of}
 use Rattle.swf_http.specs.Chunks.{BehindLine, content_of, ends_with, room_behind, SaysChunks, SaysChunked}
 use Rattle.swf_http.specs.Responses.{Framed, Follows, SaysHeadAfter, SaysHead, SaysBody, SaysResponse}
-use Rattle.swf_http.specs.Verdicts.{Verdict, whole, Stops, Then, OneVerdict}
+use Rattle.swf_http.specs.Verdicts.{Verdict, whole, Then, OneVerdict}
 use Rattle.swf_http.proofs.VerdictLemmas.{response_laws, line_laws, trailer_laws, one_piece, both_whole, stops_whole, stops_one, then_one}
 
 -- ---- heads

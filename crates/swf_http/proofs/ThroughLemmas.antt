@@ -1,8 +1,8 @@
 -- What a part of a message says, the message says.
-use Rattle.std.proofs.Common.{◌≡◌, List, ℕ, inr, Result, Ok, Err}
+use Rattle.std.proofs.Common.{List, ℕ, inr, Result, Ok, Err}
 use Rattle.swf_http.specs.declared.fault.HttpFault.{HttpFault}
 use Rattle.swf_http.specs.declared.fault.HttpFault.TheVariants.{Read, Ended, TooLong, BadMessage, OutOfMemory}
-use Rattle.swf_http.specs.Verdicts.{Verdict, whole, ended, long, bad, Stops, Then, FaultSays, Answers}
+use Rattle.swf_http.specs.Verdicts.{Verdict, whole, ended, long, bad, Then, FaultSays, Answers}
 
 pub fault_through : {A B : Type 0} (J : List ℕ → Verdict A → Type 0) (K : List ℕ → Verdict B → Type 0) (y z : List ℕ)
     → (J y ended → K z ended) → (J y long → K z long) → (J y bad → K z bad) → (e : HttpFault) → FaultSays J y e → FaultSays K z e

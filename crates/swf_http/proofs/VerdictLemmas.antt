@@ -11,7 +11,7 @@ use Rattle.httparse.proofs.GrammarLemmas.{request_unique, print_request-append, 
 use Rattle.httparse.proofs.ChunkLemmas.{chunk_line_unique}
 use Rattle.swf_http.specs.Pieces.{Form, request_form, response_form, line_form, trailer_form, Section, SaysPiece}
 use Rattle.swf_http.specs.Limits.{most_head}
-use Rattle.swf_http.specs.Requests.{Message, SaysRequest, behind_head}
+use Rattle.swf_http.specs.Requests.{SaysRequest, behind_head}
 use Rattle.swf_http.specs.Framing.{judge}
 use Rattle.swf_http.specs.Verdicts.{Verdict, whole, ended, long, bad, Stops, Then, OneVerdict}
 

@@ -1,7 +1,7 @@
 -- A chunked body (RFC 9112, section 7.1): chunks, each a line and its content, then a line of size 0 and a trailer.
 use Rattle.std.specs.Prelude.{◌≡◌, ℕ, suc, zero, ◌+◌, ◌-◌, ◌<◌, ◌≤◌, ◌==◌, Bool, true, false, ◌&&◌, nat_lt, List, [], ◌∷◌, ◌++◌, length, take, drop, if◌then◌else◌}
 use Rattle.httparse.specs.Grammar.{ChunkLine, print_chunk_line, chunk_size}
-use Rattle.swf_http.specs.Limits.{most_body, most_fields, most_lines}
+use Rattle.swf_http.specs.Limits.{most_body, most_fields}
 use Rattle.swf_http.specs.Verdicts.{Verdict, whole, ended, long, bad, Stops, Then}
 use Rattle.swf_http.specs.Pieces.{Section, line_form, trailer_form, SaysPiece}
 

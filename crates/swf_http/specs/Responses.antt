@@ -8,7 +8,7 @@ use Rattle.swf_http.specs.declared.follow.Follow.{Follow}
 use Rattle.swf_http.specs.declared.follow.Follow.TheVariants.{Bad, TooLong, Interim, Body}
 use Rattle.swf_http.specs.declared.message.Response.{Response}
 use Rattle.swf_http.specs.Limits.{most_head, most_lines}
-use Rattle.swf_http.specs.Verdicts.{Verdict, whole, ended, long, bad, Then}
+use Rattle.swf_http.specs.Verdicts.{Verdict, whole, long, bad, Then}
 use Rattle.swf_http.specs.Pieces.{response_form, SaysPiece}
 use Rattle.swf_http.specs.Following.{follow_of}
 use Rattle.swf_http.specs.Fields.{headers_of}

@@ -50,9 +50,9 @@ fn read_content<S: Source>(
     ensures most { OnOk result ((most : ℕ) → vec_len buffer.old ≤ most → at + size + 2 ≤ most → vec_len buffer.new ≤ most) }
     ensures says { (bytes : List ℕ) → Splits bytes buffer.old.items (S.left from.old)
         → MatchResult result
-            (λ _. Splits bytes buffer.new.items (S.left from.new)
-                × (content_of size (drop at bytes) ≡ whole (take size (drop at buffer.new.items)) (drop (at + size + 2) bytes)))
-            (FaultSays (λ behind v. v ≡ content_of size behind) (drop at bytes)) }
+        (λ _. Splits bytes buffer.new.items (S.left from.new)
+        × (content_of size (drop at bytes) ≡ whole (take size (drop at buffer.new.items)) (drop (at + size + 2) bytes)))
+        (FaultSays (λ behind v. v ≡ content_of size behind) (drop at bytes)) }
     ensures cause { ReadCause result (S.faults from.old) (S.faults from.new) }
     ensures beside { S.beside from.new ≡ S.beside from.old }
 {

@@ -68,13 +68,7 @@ fn followed(framing: Option<Framing>, many: bool, interim: bool) -> Follow
     }
 }
 
-fn follow_fields(
-    head: bool,
-    status: u16,
-    minor: u8,
-    known: &KnownFields,
-    count: usize,
-) -> Follow
+fn follow_fields(head: bool, status: u16, minor: u8, known: &KnownFields, count: usize) -> Follow
     ensures { result ≡ follow_fields head status minor known.now count }
 {
     let framing = framing_of(head, status, minor, known);
@@ -88,5 +82,11 @@ pub(crate) fn follow_of(head: bool, bytes: &[u8], found: &FoundResponse) -> Foll
 {
     let headers = &found.headers[..found.spans.headers];
     let known = KnownFields::from_spans(bytes, headers);
-    follow_fields(head, found.spans.code, found.spans.version, &known, headers.len())
+    follow_fields(
+        head,
+        found.spans.code,
+        found.spans.version,
+        &known,
+        headers.len(),
+    )
 }

@@ -7,7 +7,10 @@ ghost use Rattle.swf_http.specs.Stands.{Finds, IsFoundRequest, IsFoundResponse, 
 use crate::HttpFault;
 use crate::piece::Piece;
 use crate::target::ends_in_target;
-use httparse::spans::{EMPTY_HEADER_SPAN, HeaderSpan, RequestSpans, ResponseSpans, parse_headers, parse_request, parse_response};
+use httparse::spans::{
+    EMPTY_HEADER_SPAN, HeaderSpan, RequestSpans, ResponseSpans, parse_headers, parse_request,
+    parse_response,
+};
 use httparse::{Error, Status, parse_chunk_size};
 use std::alloc::{AllocError, Global};
 

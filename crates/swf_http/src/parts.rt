@@ -56,7 +56,11 @@ fn spelled(alloc: Global, bytes: &[u8]) -> Result<Text, AllocError>
 }
 
 /// The headers that stand at some spans.
-pub(crate) fn headers_at(alloc: Global, bytes: &[u8], spans: &[HeaderSpan]) -> Result<Headers, AllocError>
+pub(crate) fn headers_at(
+    alloc: Global,
+    bytes: &[u8],
+    spans: &[HeaderSpan],
+) -> Result<Headers, AllocError>
     requires { All (IsHeaderWithin (length bytes.now)) spans.now }
     ensures { IfOk result (λ headers. headers ≡ headers_of (map (header_bytes bytes.now) spans.now)) }
 {
@@ -70,7 +74,11 @@ pub(crate) fn headers_at(alloc: Global, bytes: &[u8], spans: &[HeaderSpan]) -> R
 }
 
 /// The parts of a head that was found in some bytes.
-pub(crate) fn parts_at(alloc: Global, bytes: &[u8], found: &FoundRequest) -> Result<Parts, AllocError>
+pub(crate) fn parts_at(
+    alloc: Global,
+    bytes: &[u8],
+    found: &FoundRequest,
+) -> Result<Parts, AllocError>
     requires { IsFoundRequest bytes.now found.now }
     ensures { (h : RequestHead) → IsRequestAt bytes.now found.now.headers.items found.now.spans h
         → IfOk result (λ parts. IsParts h parts.method parts.target parts.headers) }

@@ -39,10 +39,10 @@ fn read_final<S: Source>(
     ensures within { IfOk result (λ f. (f.at ≤ vec_len buffer.new) × IsResponseWithin (drop f.at buffer.new.items) f.found.headers.items f.found.spans) }
     ensures says { (bytes : List ℕ) → Splits bytes buffer.old.items (S.left from.old)
         → MatchResult result
-            (λ f. Splits bytes buffer.new.items (S.left from.new)
-                × ((h : ResponseHead) × IsResponseAt (drop f.at buffer.new.items) f.found.headers.items f.found.spans h
-                    × SaysHead head most_head bytes (whole (h, f.framing) (drop (f.at + f.found.spans.len) bytes))))
-            (FaultSays (SaysHead head most_head) bytes) }
+        (λ f. Splits bytes buffer.new.items (S.left from.new)
+        × ((h : ResponseHead) × IsResponseAt (drop f.at buffer.new.items) f.found.headers.items f.found.spans h
+        × SaysHead head most_head bytes (whole (h, f.framing) (drop (f.at + f.found.spans.len) bytes))))
+        (FaultSays (SaysHead head most_head) bytes) }
     ensures cause { ReadCause result (S.faults from.old) (S.faults from.new) }
     ensures beside { S.beside from.new ≡ S.beside from.old }
 {
@@ -84,7 +84,11 @@ fn read_framed<S: Source>(
 /// Reads a response to a request; `head` says that no body follows, as after HEAD. Responses of status 100 to 199 are read past. All
 /// heads have at most 65,536 bytes, the head 100 fields, the body 1,048,576 bytes, and its chunk lines and trailer 16,777,216. `Ended`
 /// where the source ends within the response, and `BadMessage` where the bytes begin none, or one whose status is not from 100 to 599.
-pub fn read_response<S: Source>(alloc: Global, from: &mut S, head: bool) -> Result<Response, HttpFault>
+pub fn read_response<S: Source>(
+    alloc: Global,
+    from: &mut S,
+    head: bool,
+) -> Result<Response, HttpFault>
     ensures says { ForSome (S.left from.old) (λ bytes. Answers (SaysResponse head) IsResponse bytes result) }
     ensures cause { ReadCause result (S.faults from.old) (S.faults from.new) }
     ensures beside { S.beside from.new ≡ S.beside from.old }
@@ -92,7 +96,11 @@ pub fn read_response<S: Source>(alloc: Global, from: &mut S, head: bool) -> Resu
     let mut buffer = Vec::new(alloc);
     let last = read_final(alloc, from, &mut buffer, head)?;
     let spans = last.found.spans;
-    let headers = headers_at(alloc, &buffer[last.at..], &last.found.headers[..spans.headers])?;
+    let headers = headers_at(
+        alloc,
+        &buffer[last.at..],
+        &last.found.headers[..spans.headers],
+    )?;
     let body = read_framed(alloc, from, &mut buffer, last.at + spans.len, last.framing)?;
     Ok(Response {
         status: spans.code,

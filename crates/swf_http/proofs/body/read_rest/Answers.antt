@@ -1,4 +1,4 @@
-use Rattle.std.proofs.Common.{◌∙◌, ap, drop, arith, List, ℕ}
+use Rattle.std.proofs.Common.{◌∙◌, arith}
 use Rattle.swf_http.proofs.ReadLemmas.{splits_on, all_read, rest_there, rest_long, slice_is}
 use Rattle.swf_http.proofs.body.read_rest.Goals as goal
 

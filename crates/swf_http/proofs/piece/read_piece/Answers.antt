@@ -1,6 +1,5 @@
-use Rattle.std.proofs.Common.{◌∙◌, refl, ap, sym, subst, arith, length-drop, drop, List, ℕ, Option, Some, None, Ok, Err}
+use Rattle.std.proofs.Common.{◌∙◌, refl, ap, arith, length-drop, drop, List, ℕ, Some, None, Ok, Err}
 use Rattle.std.proofs.lemmas.Result.{err_from_is_err_and}
-use Rattle.swf_http.specs.declared.fault.HttpFault.{HttpFault}
 use Rattle.swf_http.proofs.ReadLemmas.{splits_behind, slice_is, settle_fault_says, settles_at, says_long, says_ended}
 use Rattle.swf_http.proofs.piece.read_piece.Goals as goal
 

@@ -1,16 +1,11 @@
-use Rattle.std.proofs.Common.{◌≡◌, [], sym, subst, refl, drop, arith, List, ℕ, Option, Some}
+use Rattle.std.proofs.Common.{sym, subst, refl, drop, arith, List, ℕ}
 use Rattle.std.proofs.lemmas.Result.{err_from_is_err_and}
 use Rattle.httparse.specs.Spans.{IsRequestAt}
 use Rattle.swf_http.specs.declared.judge.Judgement.TheVariants.{Bad, TooLong}
-use Rattle.swf_http.specs.Sources.{Splits}
 use Rattle.swf_http.specs.Verdicts.{whole, long, bad}
-use Rattle.swf_http.proofs.ReadLemmas.{says_request}
+use Rattle.swf_http.proofs.ReadLemmas.{begun, says_request}
 use Rattle.swf_http.proofs.RequestLemmas.{head_fault, says_judged, says_body, body_fault}
 use Rattle.swf_http.proofs.read.read_request.Goals as goal
-
--- nothing was read yet
-begun : (x items : List ℕ) (left : Option (List ℕ)) → items ≡ [] → left ≡ Some x → Splits x items left
-begun x items left empty told = record { rest = x; left_is = told; whole_is = rw empty refl }
 
 pub returns-in_err-found-clause-says : goal.returns-in_err-found-clause-says
 returns-in_err-found-clause-says g c =

@@ -1,4 +1,4 @@
-use Rattle.std.proofs.Common.{◌≡◌, ◌+◌, ◌-◌, ◌≤◌, List, [], ℕ, drop, vec_len}
+use Rattle.std.proofs.Common.{◌≡◌, ◌-◌, ◌≤◌, List, ℕ, drop, vec_len}
 use Rattle.swf_http.specs.Limits.{most_head}
 use Rattle.swf_http.specs.Responses.{Framed, SaysHead}
 use Rattle.swf_http.specs.Sources.{Splits}
