@@ -1,5 +1,5 @@
 // Where the parts of a message stand at the front of some bytes.
-ghost use Rattle.std.specs.Prelude.{◌≡◌, ◌+◌, ◌/◌, length, vec_len, IfOk};
+ghost use Rattle.std.specs.Prelude.{◌≡◌, ◌+◌, ◌≤◌, ◌/◌, length, vec_len, IfOk};
 ghost use Rattle.httparse.specs.Grammar.{RequestHead, ResponseHead, ChunkLine};
 ghost use Rattle.swf_http.specs.Pieces.{Settles, Section, request_form, response_form, line_form, trailer_form};
 ghost use Rattle.swf_http.specs.Stands.{Finds, IsFoundRequest, IsFoundResponse, IsFoundLine, IsFoundTrailer};
@@ -58,6 +58,38 @@ fn room_for(alloc: Global, bytes: &[u8]) -> Result<Vec<HeaderSpan>, AllocError>
     vec![in alloc; EMPTY_HEADER_SPAN; bytes.len() / 3 + 1]
 }
 
+// Whether an empty line ends behind so many of the bytes, and stands at their front or follows a line that is not empty.
+fn has_empty_line(bytes: &[u8], seen: usize) -> bool
+    requires { seen ≤ length bytes.now }
+{
+    for at in seen..bytes.len() {
+        if bytes[at] == b'\n' && ends_empty_line(&bytes[..at]) {
+            return true;
+        }
+    }
+    false
+}
+
+// Whether a line feed behind these bytes ends an empty line that stands at their front or follows a line that is not empty.
+fn ends_empty_line(bytes: &[u8]) -> bool {
+    match without_return(bytes) {
+        [] => true,
+        [before @ .., b'\n'] => !matches!(
+            without_return(before).last(),
+            None | Some(b'\n' | b'\r')
+        ),
+        _ => false,
+    }
+}
+
+// The bytes without a carriage return at their end.
+fn without_return(bytes: &[u8]) -> &[u8] {
+    match bytes {
+        [before @ .., b'\r'] => before,
+        _ => bytes,
+    }
+}
+
 // Looks for a request's head in the bytes so far.
 fn look_at(bytes: &[u8], headers: &mut [HeaderSpan]) -> Look
     ensures { Finds bytes.now headers.new result }
@@ -89,6 +121,10 @@ impl Piece for FoundRequest {
             Look::Many => unreachable!(),
         }
     }
+
+    fn may_end(bytes: &[u8], seen: usize) -> bool {
+        has_empty_line(bytes, seen)
+    }
 }
 
 impl Piece for FoundResponse {
@@ -109,6 +145,10 @@ impl Piece for FoundResponse {
             Err(_) => Err(HttpFault::BadMessage),
         }
     }
+
+    fn may_end(bytes: &[u8], seen: usize) -> bool {
+        has_empty_line(bytes, seen)
+    }
 }
 
 impl Piece for FoundLine {
@@ -126,6 +166,10 @@ impl Piece for FoundLine {
             Ok(Status::Partial) => Ok(None),
             Err(_) => Err(HttpFault::BadMessage),
         }
+    }
+
+    fn may_end(bytes: &[u8], seen: usize) -> bool {
+        bytes[seen..].contains(&b'\n')
     }
 }
 
@@ -149,5 +193,9 @@ impl Piece for FoundTrailer {
             Err(Error::TooManyHeaders) => unreachable!(),
             Err(_) => Err(HttpFault::BadMessage),
         }
+    }
+
+    fn may_end(bytes: &[u8], seen: usize) -> bool {
+        has_empty_line(bytes, seen)
     }
 }

@@ -3,6 +3,7 @@ ghost use Rattle.std.specs.Prelude.{◌≡◌, ◌+◌, ◌<◌, ◌≤◌, List
 ghost use Rattle.std.specs.Option.{ForSome};
 ghost use Rattle.swf_http.specs.Sources.{Grows, Splits, IsReadFault, ReadCause};
 
+use crate::piece::Piece;
 use crate::{HttpFault, Source};
 use swf_store::Failed;
 
@@ -34,13 +35,16 @@ pub(crate) fn grow<S: Source>(
     }
 }
 
-/// Reads pieces until a line feed came, the buffer has so many bytes, or the source ends. Says whether it did not end.
-pub(crate) fn fill<S: Source>(
+/// Reads pieces until one of a message that begins at a place of a buffer may be whole, its bytes are twice as many, the buffer has so
+/// many bytes, or the source ends. Says whether it did not end.
+pub(crate) fn fill<P: Piece, S: Source>(
     from: &mut S,
     buffer: &mut Vec<u8>,
+    at: usize,
     most: usize,
 ) -> Result<bool, HttpFault>
-    requires { vec_len buffer.old < most }
+    requires at { at ≤ vec_len buffer.old }
+    requires room { vec_len buffer.old < most }
     ensures size { OnOk result ((vec_len buffer.old ≤ vec_len buffer.new) × (vec_len buffer.new ≤ most)) }
     ensures grows { IfOk result (λ more. more ≡ true → vec_len buffer.old < vec_len buffer.new) }
     ensures splits { (bytes : List ℕ) → Splits bytes buffer.old.items (S.left from.old) → OnOk result (Splits bytes buffer.new.items (S.left from.new)) }
@@ -49,12 +53,14 @@ pub(crate) fn fill<S: Source>(
     ensures faults { IsReadFault result }
     ensures beside { S.beside from.new ≡ S.beside from.old }
 {
+    let seen = buffer.len() - at;
     'pieces: loop {
-        let before = buffer.len();
+        let before = buffer.len() - at;
         if grow(from, buffer, most)? == 0 {
             return Ok(false);
         }
-        if buffer.len() >= most || buffer[before..].contains(&b'\n') {
+        let piece = &buffer[at..];
+        if buffer.len() >= most || piece.len() / 2 >= seen || P::may_end(piece, before) {
             return Ok(true);
         }
     }

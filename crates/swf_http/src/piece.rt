@@ -1,5 +1,5 @@
 // The parts of a message that have a grammar, read from a source.
-ghost use Rattle.std.specs.Prelude.{◌≡◌, ◌≤◌, ◌-◌, List, ℕ, drop, vec_len, MatchResult, IfOk, OnOk};
+ghost use Rattle.std.specs.Prelude.{◌≡◌, ◌≤◌, ◌-◌, List, ℕ, drop, length, vec_len, MatchResult, IfOk, OnOk};
 ghost use Rattle.swf_http.specs.Pieces.{Form, SaysPiece, Settles};
 ghost use Rattle.swf_http.specs.Sources.{Splits, ReadCause};
 ghost use Rattle.swf_http.specs.Verdicts.{FaultSays};
@@ -21,9 +21,13 @@ pub trait Piece: Drop {
     /// Looks for one at the front of the bytes so far.
     fn settle(alloc: Global, bytes: &[u8]) -> Result<Option<Self>, HttpFault>
         ensures { Settles form stands bytes.now result };
+
+    /// Whether one may end behind so many of the bytes. It says when to look, and no answer of a reader hangs on it.
+    fn may_end(bytes: &[u8], seen: usize) -> bool
+        requires { seen ≤ length bytes.now };
 }
 
-/// Reads a piece that begins at a place of a buffer and ends before another. It looks at the bytes again only where a line feed came.
+/// Reads a piece that begins at a place of a buffer and ends before another. It looks at the bytes again only where one may be whole, or they are twice as many.
 pub(crate) fn read_piece<P: Piece, S: Source>(
     alloc: Global,
     from: &mut S,
@@ -51,6 +55,6 @@ pub(crate) fn read_piece<P: Piece, S: Source>(
         if !more {
             return Err(HttpFault::Ended);
         }
-        more = fill(from, buffer, most)?;
+        more = fill::<P, S>(from, buffer, at, most)?;
     }
 }
