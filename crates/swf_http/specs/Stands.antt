@@ -1,22 +1,12 @@
--- Where the parts of a message stand in bytes, and what a look for a request's head finds.
+-- Where the parts of a message stand in bytes.
 use Rattle.std.specs.Prelude.{◌≡◌, ℕ, List, length, drop}
 use Rattle.httparse.specs.Grammar.{RequestHead, ResponseHead, ChunkLine, ReadsSection, print_section}
-use Rattle.httparse.specs.Spans.{IsRequestAt, IsRequestWithin, RequestExceeds, IsResponseAt, IsResponseWithin, IsChunkLineAt}
-use Rattle.httparse.specs.declared.spans.HeaderSpan.{HeaderSpan}
-use Rattle.swf_http.specs.declared.found.Look.{Look}
-use Rattle.swf_http.specs.declared.found.Look.TheVariants.{Whole, More, Bad, Many}
+use Rattle.httparse.specs.Spans.{IsRequestAt, IsRequestWithin, IsResponseAt, IsResponseWithin, IsChunkLineAt}
 use Rattle.swf_http.specs.declared.found.FoundRequest.{FoundRequest}
 use Rattle.swf_http.specs.declared.found.FoundResponse.{FoundResponse}
 use Rattle.swf_http.specs.declared.found.FoundLine.{FoundLine}
 use Rattle.swf_http.specs.declared.found.FoundTrailer.{FoundTrailer}
-use Rattle.swf_http.specs.Pieces.{request_form, Section}
-
--- what a look at some bytes finds, with room for so many fields
-abbrev pub Finds : List ℕ → List HeaderSpan → Look → Type 0
-Finds bytes headers (Whole spans) = IsRequestWithin bytes headers spans × ((h : RequestHead) × IsRequestAt bytes headers spans h)
-Finds bytes headers More = request_form.Begins bytes
-Finds bytes headers Bad = request_form.BeginsNone bytes
-Finds bytes headers Many = RequestExceeds (length headers) bytes
+use Rattle.swf_http.specs.Pieces.{Section}
 
 -- the bytes begin with a request's head, and its parts stand there
 abbrev pub IsFoundRequest : List ℕ → FoundRequest → Type 0

@@ -2,7 +2,7 @@
 ghost use Rattle.std.specs.Prelude.{◌≡◌, ◌+◌, ◌≤◌, ◌/◌, length, vec_len, IfOk};
 ghost use Rattle.httparse.specs.Grammar.{RequestHead, ResponseHead, ChunkLine};
 ghost use Rattle.swf_http.specs.Pieces.{Settles, Section, request_form, response_form, line_form, trailer_form};
-ghost use Rattle.swf_http.specs.Stands.{Finds, IsFoundRequest, IsFoundResponse, IsFoundLine, IsFoundTrailer};
+ghost use Rattle.swf_http.specs.Stands.{IsFoundRequest, IsFoundResponse, IsFoundLine, IsFoundTrailer};
 
 use crate::HttpFault;
 use crate::piece::Piece;
@@ -13,15 +13,6 @@ use httparse::spans::{
 };
 use httparse::{Error, Status, parse_chunk_size};
 use std::alloc::{AllocError, Global};
-
-/// What bytes hold of a request's head.
-#[derive(Clone, Copy)]
-pub enum Look {
-    Whole(RequestSpans),
-    More,
-    Bad,
-    Many,
-}
 
 /// Where the parts of a request's head stand. Its fields are the first of the headers.
 #[derive(Drop)]
@@ -90,19 +81,6 @@ fn without_return(bytes: &[u8]) -> &[u8] {
     }
 }
 
-// Looks for a request's head in the bytes so far.
-fn look_at(bytes: &[u8], headers: &mut [HeaderSpan]) -> Look
-    ensures { Finds bytes.now headers.new result }
-{
-    match parse_request(bytes, headers) {
-        Ok(Status::Complete(spans)) => Look::Whole(spans),
-        Ok(Status::Partial) => Look::More,
-        Err(Error::TooManyHeaders) => Look::Many,
-        Err(_) if ends_in_target(bytes) => Look::More,
-        Err(_) => Look::Bad,
-    }
-}
-
 impl Piece for FoundRequest {
     ghost Tree = { RequestHead };
 
@@ -114,11 +92,12 @@ impl Piece for FoundRequest {
         ensures { Settles request_form IsFoundRequest bytes.now result }
     {
         let mut headers = room_for(alloc, bytes)?;
-        match look_at(bytes, headers.as_mut_slice()) {
-            Look::Whole(spans) => Ok(Some(FoundRequest { spans, headers })),
-            Look::More => Ok(None),
-            Look::Bad => Err(HttpFault::BadMessage),
-            Look::Many => unreachable!(),
+        match parse_request(bytes, headers.as_mut_slice()) {
+            Ok(Status::Complete(spans)) => Ok(Some(FoundRequest { spans, headers })),
+            Ok(Status::Partial) => Ok(None),
+            Err(Error::TooManyHeaders) => unreachable!(),
+            Err(_) if ends_in_target(bytes) => Ok(None),
+            Err(_) => Err(HttpFault::BadMessage),
         }
     }
 
