@@ -6,8 +6,8 @@ pub mod ReadLemmas
 pub mod ThroughLemmas
 pub mod VerdictLemmas
 pub mod ResponseVerdicts
+pub mod FieldLemmas
 pub mod JudgeLemmas
-pub mod FollowLemmas
 pub mod ContentLemmas
 pub mod RequestLemmas
 pub mod ResponseLemmas

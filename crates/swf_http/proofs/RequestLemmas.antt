@@ -1,8 +1,7 @@
 -- From a head and a body to a request.
-use Rattle.std.proofs.Common.{◌≡◌, ◌∙◌, ap, ℕ, List, inl, inr}
+use Rattle.std.proofs.Common.{◌≡◌, ◌∙◌, ap, ℕ, List, inl}
 use Rattle.httparse.specs.Grammar.{RequestHead}
 use Rattle.swf_http.specs.declared.fault.HttpFault.{HttpFault}
-use Rattle.swf_http.specs.declared.fault.HttpFault.TheVariants.{Read, Ended, TooLong, BadMessage, OutOfMemory}
 use Rattle.swf_http.specs.declared.judge.Judgement.{Judgement}
 use Rattle.swf_http.specs.declared.judge.Judgement.TheVariants as Judged
 use Rattle.swf_http.specs.Framing.{judge}
@@ -10,14 +9,8 @@ use Rattle.swf_http.specs.Limits.{most_head}
 use Rattle.swf_http.specs.Pieces.{request_form, SaysPiece}
 use Rattle.swf_http.specs.Bodies.{body_of}
 use Rattle.swf_http.specs.Requests.{Message, SaysRequest, behind_head, with_head}
+use Rattle.swf_http.proofs.ThroughLemmas.{fault_through}
 use Rattle.swf_http.specs.Verdicts.{Verdict, whole, ended, long, bad, FaultSays}
-
-pub head_fault : (y : List ℕ) (e : HttpFault) → FaultSays (SaysPiece request_form most_head) y e → FaultSays SaysRequest y e
-head_fault y Read f = tt
-head_fault y Ended f = inr f
-head_fault y TooLong f = inr f
-head_fault y BadMessage f = inr f
-head_fault y OutOfMemory f = tt
 
 -- what a head that was judged leads to
 pub says_judged : (y : List ℕ) (h : RequestHead) (mid : List ℕ) (j : Judgement) (v : Verdict Message) → SaysPiece request_form most_head y (whole h mid) → j ≡ judge h
@@ -31,8 +24,6 @@ says_body y h mid n v says judged e = says_judged y h mid (Judged.Sized n) (with
 
 pub body_fault : (y : List ℕ) (h : RequestHead) (mid : List ℕ) (n : ℕ) (e : HttpFault) → SaysPiece request_form most_head y (whole h mid) → Judged.Sized n ≡ judge h
     → FaultSays (λ (behind : List ℕ) (v : Verdict (List ℕ)). v ≡ body_of n behind) mid e → FaultSays SaysRequest y e
-body_fault y h mid n Read says judged f = tt
-body_fault y h mid n Ended says judged f = says_body y h mid n ended says judged f
-body_fault y h mid n TooLong says judged f = says_body y h mid n long says judged f
-body_fault y h mid n BadMessage says judged f = says_body y h mid n bad says judged f
-body_fault y h mid n OutOfMemory says judged f = tt
+body_fault y h mid n e says judged f =
+    fault_through (λ (behind : List ℕ) (v : Verdict (List ℕ)). v ≡ body_of n behind) SaysRequest mid y (says_body y h mid n ended says judged)
+    (says_body y h mid n long says judged) (says_body y h mid n bad says judged) e f

@@ -1,8 +1,7 @@
 -- From heads and a body to a response.
-use Rattle.std.proofs.Common.{◌≡◌, ◌∙◌, ◌-◌, ◌<◌, ap, sym, subst, refl, ℕ, suc, Bool, List, length, map, take, drop, inl, inr, arith, ◌+◌, ◌≤◌, length-drop, drop-drop, Option}
-use Rattle.httparse.specs.Grammar.{Field, ResponseHead, print_response}
-use Rattle.httparse.specs.Spans.{IsResponseAt, header_bytes, name_and_value}
-use Rattle.httparse.specs.declared.spans.HeaderSpan.{HeaderSpan}
+use Rattle.std.proofs.Common.{◌≡◌, ◌-◌, ◌<◌, sym, subst, refl, ℕ, suc, Bool, List, length, take, drop, inl, inr, arith, ◌+◌, ◌≤◌, length-drop, drop-drop, Option}
+use Rattle.httparse.specs.Grammar.{ResponseHead, print_response}
+use Rattle.httparse.specs.Spans.{IsResponseAt}
 use Rattle.http1.specs.declared.framing.Framing.{Framing}
 use Rattle.swf_http.specs.declared.fault.HttpFault.{HttpFault}
 use Rattle.swf_http.specs.declared.fault.HttpFault.TheVariants.{Read, Ended, TooLong, BadMessage, OutOfMemory}
@@ -14,7 +13,6 @@ use Rattle.swf_http.specs.Pieces.{response_form, SaysPiece}
 use Rattle.swf_http.specs.Responses.{Framed, Follows, SaysHead, SaysBody, SaysResponse}
 use Rattle.swf_http.specs.Verdicts.{Verdict, whole, FaultSays}
 use Rattle.swf_http.specs.declared.found.FoundResponse.{FoundResponse}
-use Rattle.swf_http.specs.Fields.{headers_of}
 use Rattle.swf_http.specs.Sources.{Splits}
 use Rattle.swf_http.proofs.CountLemmas.{response_length}
 use Rattle.swf_http.proofs.ReadLemmas.{splits_behind, slice_is, says_response}
@@ -72,8 +70,3 @@ pub head_fits : (at most : ℕ) (items : List ℕ) (found : FoundResponse) (h : 
 head_fits at most items found h is fits within room =
     let some = response_length h is.reads.0.fields in
     (omega (arith, is.len, some), omega (arith, length-drop at items, fits, within), omega (arith, is.len))
-
-pub headers_same : (a b : List ℕ) (spans headers : List HeaderSpan) (fields : List Field) → a ≡ b → spans ≡ headers
-    → map (header_bytes b) headers ≡ map name_and_value fields → headers_of (map (header_bytes a) spans) ≡ headers_of (map name_and_value fields)
-headers_same a b spans headers fields bytes same are =
-    ap (λ (t : List ℕ). headers_of (map (header_bytes t) spans)) bytes ∙ ap (λ (t : List HeaderSpan). headers_of (map (header_bytes b) t)) same ∙ ap headers_of are

@@ -1,17 +1,22 @@
-use Rattle.std.proofs.Common.{sym, subst, refl, drop, arith, List, ℕ}
+use Rattle.std.proofs.Common.{◌≡◌, sym, subst, refl, drop, arith, List, ℕ}
 use Rattle.std.proofs.lemmas.Result.{err_from_is_err_and}
 use Rattle.httparse.specs.Spans.{IsRequestAt}
 use Rattle.swf_http.specs.declared.judge.Judgement.TheVariants.{Bad, TooLong}
 use Rattle.swf_http.specs.Verdicts.{whole, long, bad}
 use Rattle.swf_http.proofs.ReadLemmas.{begun, says_request}
-use Rattle.swf_http.proofs.RequestLemmas.{head_fault, says_judged, says_body, body_fault}
+use Rattle.swf_http.proofs.RequestLemmas.{says_judged, says_body, body_fault}
+use Rattle.swf_http.proofs.ThroughLemmas.{then_fault}
+use Rattle.swf_http.specs.Framing.{judge}
+use Rattle.swf_http.specs.Limits.{most_head}
+use Rattle.swf_http.specs.Pieces.{request_form, SaysPiece}
+use Rattle.swf_http.specs.Requests.{behind_head}
 use Rattle.swf_http.proofs.read.read_request.Goals as goal
 
 pub returns-in_err-found-clause-says : goal.returns-in_err-found-clause-says
 returns-in_err-found-clause-says g c =
     let p = err_from_is_err_and c.from_residual.result c.from_residual.ensures.1 in
     λ x told. rw (p.1, p.2)
-    (head_fault x c.in_err-found.field-0.0
+    (then_fault (SaysPiece request_form most_head) (λ h rest w. w ≡ behind_head (judge h) h rest) x c.in_err-found.field-0.0
     (c.in_err-found.ensures.says x (begun x c.new-buffer.result.items (g.S.Source.left c.args.from.now) c.new-buffer.ensures.items told)))
 
 pub returns-in-Bad-clause-says : goal.returns-in-Bad-clause-says

@@ -2,8 +2,8 @@ use Rattle.std.proofs.Common.{◌∙◌, ◌+◌, ◌-◌, ◌<◌, ◌≤◌, r
 use Rattle.std.proofs.lemmas.Result.{err_from_is_err_and}
 use Rattle.swf_http.specs.declared.follow.Follow.TheVariants.{Bad, TooLong, Body}
 use Rattle.swf_http.specs.Limits.{most_head}
-use Rattle.swf_http.specs.Responses.{SaysHead}
-use Rattle.swf_http.specs.Verdicts.{whole, long, bad}
+use Rattle.swf_http.specs.Responses.{Framed, SaysHead}
+use Rattle.swf_http.specs.Verdicts.{Verdict, whole, long, bad}
 use Rattle.swf_http.proofs.ThroughLemmas.{fault_on}
 use Rattle.swf_http.proofs.ResponseLemmas.{head_stops, head_last, head_more, head_read, at_slice, head_fits}
 use Rattle.swf_http.proofs.response.read_final.Goals as goal
@@ -54,7 +54,7 @@ returns-in-Body-clause-says g c = λ x s.
     let items = c.read_piece.new.buffer.items in
     let rest : List ℕ = drop (at + found.spans.len) x in
     let splits = c.in_ok-found.ensures.says x (c.heads.invariant.splits x s) in
-    let v = whole (is.1.0, c.in-Body.framing) rest in (
+    let v : Verdict Framed = whole (is.1.0, c.in-Body.framing) rest in (
       splits,
       (
         is.1.0,

@@ -6,7 +6,8 @@ use Rattle.swf_http.specs.Responses.{Framed, SaysHead, SaysBody}
 use Rattle.swf_http.specs.Verdicts.{whole, Then}
 use Rattle.swf_http.proofs.ReadLemmas.{begun, slice_is}
 use Rattle.swf_http.proofs.ThroughLemmas.{then_fault}
-use Rattle.swf_http.proofs.ResponseLemmas.{body_stops, says_whole_response, headers_same}
+use Rattle.swf_http.proofs.ResponseLemmas.{body_stops, says_whole_response}
+use Rattle.swf_http.proofs.FieldLemmas.{headers_same}
 use Rattle.swf_http.proofs.response.read_response.Goals as goal
 
 pub returns-in_err-last-clause-says : goal.returns-in_err-last-clause-says

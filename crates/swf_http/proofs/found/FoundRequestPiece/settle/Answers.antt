@@ -12,8 +12,9 @@ unreachable-requires c =
 pub returns-in-Err : goal.returns-in-Err
 returns-in-Err c =
     let never = c.in-Err.ensures.invalid (λ many.
-        no_room c.args.bytes.now (length c.as_mut_slice.result.now)
-        (omega (arith, c.as_mut_slice.ensures.len, c.in_ok-headers.ensures))
-        (c.in-Err.ensures.too_many (ap Err many))) in
-    (λ h rest reads. never [] h rest (subst (λ (t : List ℕ). ReadsRequest t h rest) (sym (append-nil c.args.bytes.now)) reads),
-        inr (c.ends_in_target.ensures.0 c.if-ends_in_target.true))
+    no_room c.args.bytes.now (length c.as_mut_slice.result.now)
+    (omega (arith, c.as_mut_slice.ensures.len, c.in_ok-headers.ensures))
+    (c.in-Err.ensures.too_many (ap Err many))) in (
+      λ h rest reads. never [] h rest (subst (λ (t : List ℕ). ReadsRequest t h rest) (sym (append-nil c.args.bytes.now)) reads),
+      inr (c.ends_in_target.ensures.0 c.if-ends_in_target.true),
+    )
