@@ -5,7 +5,7 @@ ghost use Rattle.swf_http.specs.Sources.{Splits, ReadCause};
 ghost use Rattle.swf_http.specs.Verdicts.{Answers};
 
 use crate::grow::grow;
-use crate::judge::MOST_BODY;
+use crate::sizes::MOST_BODY;
 use crate::{HttpFault, Source};
 use std::alloc::Global;
 

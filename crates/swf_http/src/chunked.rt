@@ -1,7 +1,7 @@
 // Chunked bodies.
 ghost use Rattle.std.specs.Prelude.{◌≡◌, ◌+◌, ◌-◌, ◌≤◌, ◌<◌, ◌^◌, ◌==◌, ◌&&◌, ◌||◌, nat_le, [], List, ℕ, drop, take, vec_len, length, slice_index, if◌then◌else◌, MatchResult, OnOk};
 ghost use Rattle.swf_http.specs.Chunks.{content_of, ends_with, SaysChunked};
-ghost use Rattle.swf_http.specs.Limits.{most_lines};
+ghost use Rattle.swf_http.specs.Limits.{most_head, most_lines};
 ghost use Rattle.swf_http.specs.Pieces.{SaysPiece, trailer_form};
 ghost use Rattle.swf_http.specs.Sources.{Splits, ReadCause};
 ghost use Rattle.swf_http.specs.Verdicts.{Answers, FaultSays, Then, whole};
@@ -9,13 +9,10 @@ ghost use Rattle.swf_http.specs.declared.fault.HttpFault.TheVariants.{Ended as S
 
 use crate::found::{FoundLine, FoundTrailer};
 use crate::grow::grow;
-use crate::judge::{MOST_BODY, MOST_FIELDS};
 use crate::piece::read_piece;
+use crate::sizes::{MOST_BODY, MOST_FIELDS, MOST_LINES};
 use crate::{HttpFault, Source};
 use std::alloc::Global;
-
-/// The most bytes of a body's chunk lines and trailer.
-const MOST_LINES: usize = 16_777_216;
 
 // Whether a line ends at a place with CR LF.
 fn closes_at(bytes: &[u8], at: usize) -> bool
@@ -101,7 +98,7 @@ fn read_chunks<S: Source>(
     content: &mut Vec<u8>,
 ) -> Result<(), HttpFault>
     requires start { start ≤ vec_len buffer.old }
-    requires fits { vec_len buffer.old ≤ 65536 }
+    requires fits { vec_len buffer.old ≤ most_head }
     requires none { content.old.items ≡ [] }
     ensures says { (bytes : List ℕ) → Splits bytes buffer.old.items (S.left from.old)
         → Answers (SaysChunked [] most_lines) (λ items _. content.new.items ≡ items) (drop start bytes) result }
@@ -135,7 +132,7 @@ pub(crate) fn read_chunked<S: Source>(
     at: usize,
 ) -> Result<Vec<u8>, HttpFault>
     requires at { at ≤ vec_len buffer.old }
-    requires fits { vec_len buffer.old ≤ 65536 }
+    requires fits { vec_len buffer.old ≤ most_head }
     ensures says { (bytes : List ℕ) → Splits bytes buffer.old.items (S.left from.old)
         → Answers (SaysChunked [] most_lines) (λ items body. body.items ≡ items) (drop at bytes) result }
     ensures cause { ReadCause result (S.faults from.old) (S.faults from.new) }

@@ -6,7 +6,7 @@ ghost use Rattle.http1.specs.Framing.{is_bodiless_status};
 ghost use Rattle.swf_http.specs.Following.{framing_of, is_large, followed, follow_fields, follow_of};
 
 use crate::found::FoundResponse;
-use crate::judge::{MOST_BODY, MOST_FIELDS};
+use crate::sizes::{MOST_BODY, MOST_FIELDS};
 use http1::fields::KnownFields;
 use http1::framing::{Framing, MethodKind, response_framing};
 

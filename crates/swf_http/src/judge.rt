@@ -5,14 +5,9 @@ ghost use Rattle.httparse.specs.Spans.{IsRequestAt, IsRequestWithin};
 ghost use Rattle.swf_http.specs.Framing.{size_of, judged, judge_fields, judge};
 
 use crate::found::FoundRequest;
+use crate::sizes::{MOST_BODY, MOST_FIELDS};
 use http1::fields::KnownFields;
 use http1::framing::{Framing, FramingError, MethodKind, request_framing};
-
-/// The most fields of a head.
-pub(crate) const MOST_FIELDS: usize = 100;
-
-/// The most bytes of a body.
-pub(crate) const MOST_BODY: usize = 1_048_576;
 
 /// What a head leads to: no message, too long a one, or a body of so many bytes.
 #[derive(Clone, Copy)]

@@ -11,7 +11,7 @@ pub struct Request {
     pub body: Vec<u8>,
 }
 
-/// A response.
+/// A response, of status 100 to 599. The headers stand by ascending name; the body has at most 1,048,576 bytes where it was read.
 #[derive(Drop)]
 pub struct Response {
     pub status: u16,

@@ -14,7 +14,7 @@ use crate::follow::{Follow, follow_of};
 use crate::found::FoundResponse;
 use crate::parts::headers_at;
 use crate::piece::read_piece;
-use crate::read::MOST_HEAD;
+use crate::sizes::MOST_HEAD;
 use crate::{HttpFault, Response, Source};
 use http1::framing::Framing;
 use std::alloc::Global;
@@ -81,9 +81,10 @@ fn read_framed<S: Source>(
     }
 }
 
-/// Reads a response to a request; `head` says that no body follows, as after HEAD. Responses of status 100 to 199 are read past. All
-/// heads have at most 65,536 bytes, the head 100 fields, the body 1,048,576 bytes, and its chunk lines and trailer 16,777,216. `Ended`
-/// where the source ends within the response, and `BadMessage` where the bytes begin none, or one whose status is not from 100 to 599.
+/// Reads a response; `head` says that no body follows, as after HEAD. Those of status 100 to 199 are read past. All heads have at
+/// most 65,536 bytes, each of them and a trailer 100 fields, the body 1,048,576 bytes, and its chunk lines and trailer 16,777,216. It
+/// reads by pieces, of which the last may go past the response. `Ended` where the source ends within it, and `BadMessage` where the
+/// bytes begin none, or one whose status is not from 100 to 599.
 pub fn read_response<S: Source>(
     alloc: Global,
     from: &mut S,

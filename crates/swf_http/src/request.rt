@@ -10,11 +10,9 @@ use crate::found::FoundRequest;
 use crate::judge::{Judgement, judge};
 use crate::parts::parts_at;
 use crate::piece::read_piece;
+use crate::sizes::MOST_HEAD;
 use crate::{HttpFault, Request, Source};
 use std::alloc::Global;
-
-/// The most bytes of a head, with the responses before it that are read past.
-pub(crate) const MOST_HEAD: usize = 65_536;
 
 /// Reads a request: a head of at most 65,536 bytes and 100 fields, and a body of at most 1,048,576 bytes. It reads by pieces, of
 /// which the last may go past the request. `Ended` where the source ends within it, and `BadMessage` where the bytes begin none.

@@ -10,7 +10,7 @@ use Rattle.swf_http.specs.Framing.{judge}
 use Rattle.swf_http.specs.Limits.{most_head}
 use Rattle.swf_http.specs.Pieces.{request_form, SaysPiece}
 use Rattle.swf_http.specs.Requests.{behind_head}
-use Rattle.swf_http.proofs.read.read_request.Goals as goal
+use Rattle.swf_http.proofs.request.read_request.Goals as goal
 
 pub returns-in_err-found-clause-says : goal.returns-in_err-found-clause-says
 returns-in_err-found-clause-says g c =
