@@ -1,5 +1,9 @@
 -- Headers as the members of an object: a name and its value (RFC 9110, section 5).
-use Rattle.std.specs.Prelude.{List, [], ◌∷◌, Option, Some, None, option_map}
+use Rattle.std.specs.Prelude.{ℕ, suc, List, [], ◌∷◌, ◌++◌, codes, Option, Some, None, option_map, Result, Ok, Err}
+use Rattle.std.specs.Ordering.{nat_cmp}
+use Rattle.std.specs.declared.cmp.Ordering.{Ordering}
+use Rattle.std.specs.declared.cmp.Ordering.TheVariants.{Less, Equal, Greater}
+use Rattle.std.specs.Cmp.Lexicographic.{slice_cmp}
 use Rattle.swf_value.specs.Value.{Value, text, object, Members, no_members, member}
 use Rattle.swf_calls.specs.declared.headers.Header.{Header}
 
@@ -16,3 +20,26 @@ headers_in (member k v ms) = None
 abbrev pub headers_of : Value → Option (List Header)
 headers_of (object ms) = headers_in ms
 headers_of v = None
+
+-- a field before a header, joined to it, or behind it
+abbrev pub placed : Ordering → Header → Header → List Header → List Header → List Header
+placed Less field h hs more = field ∷ h ∷ hs
+placed Equal field h hs more = (record { name = field.name; value = h.value ++ codes ", " ++ field.value }) ∷ hs
+placed Greater field h hs more = h ∷ more
+
+-- ascending headers with one more field, whose value is joined to that of its name (RFC 9110, section 5.2)
+abbrev pub with_field : Header → List Header → List Header
+with_field field [] = field ∷ []
+with_field field (h ∷ hs) = placed (slice_cmp nat_cmp field.name h.name) field h hs (with_field field hs)
+
+-- one place further where a name stands behind a header
+abbrev pub stepped : Ordering → Result ℕ ℕ → Result ℕ ℕ
+stepped Less place = Err 0
+stepped Equal place = Ok 0
+stepped Greater (Ok n) = Ok (suc n)
+stepped Greater (Err n) = Err (suc n)
+
+-- where a name stands among headers, or would stand
+abbrev pub place_in : List ℕ → List Header → Result ℕ ℕ
+place_in name [] = Err 0
+place_in name (h ∷ hs) = stepped (slice_cmp nat_cmp name h.name) (place_in name hs)

@@ -1,12 +1,13 @@
 // The headers of a message.
-ghost use Rattle.std.specs.Prelude.{◌≡◌, [], IfOk, option_map};
+ghost use Rattle.std.specs.Prelude.{◌≡◌, ◌++◌, [], codes, IfOk, OnOk, OnErr, option_map};
 ghost use Rattle.swf_value.specs.Value.{object, Ascending};
 ghost use Rattle.swf_value.specs.Node.{members_of};
-ghost use Rattle.swf_calls.specs.Headers.{header_members, headers_in, headers_of};
+ghost use Rattle.swf_calls.specs.Headers.{header_members, headers_in, headers_of, place_in, with_field};
 
 use std::alloc::{AllocError, Global};
+use std::cmp::Ordering;
 use std::marker::Model;
-use swf_text::Text;
+use swf_text::{Text, TextBuilder};
 use swf_value::{Json, JsonNode, Member};
 
 /// A name and its value.
@@ -65,6 +66,15 @@ impl Headers {
         Ok(Headers { fields })
     }
 
+    /// Adds a field. Where its name is there already, its value joins the other behind `, `.
+    #[tactic(auto, using(crate::proofs::FieldLemmas::still_ascends))]
+    pub fn add(&mut self, alloc: Global, field: Header) -> Result<(), AllocError>
+        ensures ok { OnOk result (self.new ≡ with_field field self.old) }
+        ensures err { OnErr result (self.new ≡ self.old) }
+    {
+        add_field(alloc, &mut self.fields, field)
+    }
+
     /// The headers that an object's members are, if each of them is a text.
     #[tactic(auto, using(crate::proofs::HeaderLemmas::fields_ascend))]
     pub(crate) fn read(alloc: Global, value: &Json) -> Result<Option<Headers>, AllocError>
@@ -86,6 +96,49 @@ impl Headers {
         let members = field_members(alloc, &self.fields)?;
         Json::object(alloc, members)
     }
+}
+
+/// Where a name stands among headers, or else where it would stand.
+fn place_of(fields: &[Header], name: &Text) -> Result<usize, usize>
+    ensures place { result ≡ place_in name.now fields.now }
+{
+    let mut place = 0;
+    'fields: while place < fields.len() {
+        match name.cmp(&fields[place].name) {
+            Ordering::Less => return Err(place),
+            Ordering::Equal => return Ok(place),
+            Ordering::Greater => place += 1,
+        }
+    }
+    Err(place)
+}
+
+/// Two values as one.
+fn joined(alloc: Global, first: &Text, second: &Text) -> Result<Text, AllocError>
+    ensures { IfOk result (λ t. t ≡ first.now ++ codes ", " ++ second.now) }
+{
+    let mut text = TextBuilder::new(alloc);
+    text.push_text(first)?;
+    text.push_ascii(", ")?;
+    text.push_text(second)?;
+    text.into_text(alloc)
+}
+
+fn add_field(alloc: Global, fields: &mut Vec<Header>, field: Header) -> Result<(), AllocError>
+    ensures ok { OnOk result (fields.new.items ≡ with_field field fields.old.items) }
+    ensures err { OnErr result (fields.new.items ≡ fields.old.items) }
+{
+    match place_of(fields, &field.name) {
+        Ok(place) => {
+            let value = joined(alloc, &fields[place].value, &field.value)?;
+            fields[place] = Header {
+                name: field.name,
+                value,
+            };
+        }
+        Err(place) => fields.insert(place, field)?,
+    }
+    Ok(())
 }
 
 fn copy_fields(alloc: Global, fields: &[Header]) -> Result<Vec<Header>, AllocError>

@@ -1,0 +1,14 @@
+pub mod SinkLemmas
+pub mod SentLemmas
+pub mod TargetLemmas
+pub mod CountLemmas
+pub mod ReadLemmas
+pub mod ThroughLemmas
+pub mod VerdictLemmas
+pub mod ResponseVerdicts
+pub mod FieldLemmas
+pub mod JudgeLemmas
+pub mod ContentLemmas
+pub mod RequestLemmas
+pub mod ResponseLemmas
+pub mod TrailerLemmas

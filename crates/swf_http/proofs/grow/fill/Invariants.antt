@@ -1,0 +1,15 @@
+use Rattle.std.proofs.Common.{◌≡◌, ◌-◌, ◌≤◌, ◌<◌, List, ℕ, vec_len}
+use Rattle.swf_http.specs.Sources.{Splits}
+use Rattle.swf_http.proofs.grow.fill.Given as goal
+
+abbrev pub invariant-pieces : goal.invariant-pieces
+invariant-pieces g l = record {
+  size : vec_len l.fn.buffer ≤ vec_len l.buffer;
+  under : vec_len l.buffer < l.most;
+  splits : (x : List ℕ) → Splits x l.fn.buffer.items (g.S.Source.left l.fn.from) → Splits x l.buffer.items (g.S.Source.left l.from);
+  beside : g.S.Source.beside l.from ≡ g.S.Source.beside l.fn.from;
+  faults : g.S.Source.faults l.from ≡ g.S.Source.faults l.fn.from;
+}
+
+abbrev pub decreases-pieces : goal.decreases-pieces
+decreases-pieces g l = l.most - vec_len l.buffer

@@ -1,0 +1,16 @@
+pub mod Sources
+pub mod Sinks
+pub mod Memory
+pub mod Sent
+pub mod Targets
+pub mod Verdicts
+pub mod Pieces
+pub mod Stands
+pub mod Limits
+pub mod Framing
+pub mod Following
+pub mod Bodies
+pub mod Fields
+pub mod Requests
+pub mod Chunks
+pub mod Responses
