@@ -7,10 +7,10 @@ use crate::piece::Piece;
 use crate::{HttpFault, Source};
 use swf_store::Failed;
 
-/// The bytes that are read at once.
-const PIECE: usize = 4096;
+/// The most bytes that are read at once.
+const AT_ONCE: usize = 4096;
 
-/// Reads a piece to the end of a buffer, which has at most so many bytes then. None comes only at the end.
+/// Reads some bytes to the end of a buffer, which has at most so many then. None come only at the end.
 pub(crate) fn grow<S: Source>(
     from: &mut S,
     buffer: &mut Vec<u8>,
@@ -23,9 +23,9 @@ pub(crate) fn grow<S: Source>(
     ensures faults { IsReadFault result }
     ensures beside { S.beside from.new ≡ S.beside from.old }
 {
-    let mut piece = [0u8; PIECE];
-    let room = (most - buffer.len()).min(PIECE);
-    let window = &mut piece[..room];
+    let mut block = [0u8; AT_ONCE];
+    let room = (most - buffer.len()).min(AT_ONCE);
+    let window = &mut block[..room];
     match from.read(window) {
         Ok(count) => {
             buffer.extend_from_slice(&window[..count])?;
@@ -35,8 +35,8 @@ pub(crate) fn grow<S: Source>(
     }
 }
 
-/// Reads pieces until one of a message that begins at a place of a buffer may be whole, its bytes are twice as many, the buffer has so
-/// many bytes, or the source ends. Says whether it did not end.
+/// Reads on until the piece that begins at a place of a buffer may be whole, there are twice as many of its bytes, the buffer has so many,
+/// or the source ends. Says whether it did not end.
 pub(crate) fn fill<P: Piece, S: Source>(
     from: &mut S,
     buffer: &mut Vec<u8>,
