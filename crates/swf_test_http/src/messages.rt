@@ -285,13 +285,31 @@ const REQUESTS: [(&str, &str); 12] = [
     ("\r\n\r\nGET / HTTP/1.0\r\n\r\n", "GET|/||"),
 ];
 
+// Whether that is read of a response, in pieces of whatever size.
+fn is_told(alloc: Global, bytes: &[u8], head: bool, want: &str) -> Result<bool, AllocError> {
+    for piece in [1, 7, 5000] {
+        if tell_response(alloc, bytes, piece, head)?.as_str() != want {
+            return Ok(false);
+        }
+    }
+    Ok(true)
+}
+
+// The same of a request.
+fn is_told_request(alloc: Global, bytes: &[u8], want: &str) -> Result<bool, AllocError> {
+    for piece in [1, 7, 5000] {
+        if tell_request(alloc, bytes, piece)?.as_str() != want {
+            return Ok(false);
+        }
+    }
+    Ok(true)
+}
+
 #[test]
 fn responses(rt: HostRuntime) -> Result<(), Fail> {
     for (bytes, head, want) in RESPONSES {
-        for piece in [1, 7, 5000] {
-            let told = tell_response(rt.alloc(), bytes.as_bytes(), piece, head)?;
-            assert_eq!(rt; told.as_str(), want, "{bytes}");
-        }
+        let is_told = is_told(rt.alloc(), bytes.as_bytes(), head, want)?;
+        assert_eq!(rt; is_told, true, "{bytes}");
     }
     Ok(())
 }
@@ -299,10 +317,8 @@ fn responses(rt: HostRuntime) -> Result<(), Fail> {
 #[test]
 fn requests(rt: HostRuntime) -> Result<(), Fail> {
     for (bytes, want) in REQUESTS {
-        for piece in [1, 7, 5000] {
-            let told = tell_request(rt.alloc(), bytes.as_bytes(), piece)?;
-            assert_eq!(rt; told.as_str(), want, "{bytes}");
-        }
+        let is_told = is_told_request(rt.alloc(), bytes.as_bytes(), want)?;
+        assert_eq!(rt; is_told, true, "{bytes}");
     }
     Ok(())
 }
