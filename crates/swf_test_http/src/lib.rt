@@ -5,3 +5,5 @@
 mod limits;
 #[cfg(test)]
 mod messages;
+#[cfg(test)]
+mod writes;
