@@ -28,3 +28,6 @@ pub mod Answer
 pub mod Pending
 pub mod Codes
 pub mod Printed
+pub mod Call
+pub mod Function
+pub mod Reply

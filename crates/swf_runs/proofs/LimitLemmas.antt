@@ -14,7 +14,7 @@ use Rattle.swf_meaning.specs.Around.{seen}
 use Rattle.swf_meaning.specs.Complete.{Stepped, step_of, complete}
 use Rattle.swf_meaning.specs.Fork.{count, most_branches, put, outputs, joined, settled, after_branch, competes}
 use Rattle.swf_meaning.specs.Line.{Line, Site}
-use Rattle.swf_meaning.specs.Node.{Node, Fresh, Live, Done, Fault, Inside, At, Later, Sleep, Hear, Forked, Nodes, no_nodes, branch, Round, Running}
+use Rattle.swf_meaning.specs.Node.{Node, Fresh, Live, Done, Fault, Inside, At, Later, Sleep, Hear, Await, Forked, Nodes, no_nodes, branch, Round, Running}
 use Rattle.swf_meaning.specs.Offer.{or_same, takes_by, offered, offered_inside, offered_among, offered_one}
 use Rattle.swf_meaning.specs.Parts.{kind_of, listen_in}
 use Rattle.swf_meaning.specs.Put.{keeping, put_at, put_inside, put_branch}
@@ -52,6 +52,7 @@ made_inside s r (At round i (Fault p)) few h = omega (arith, few)
 made_inside s r (Later n m) few h = omega (arith, few)
 made_inside s r (Sleep m) few h = omega (arith, few)
 made_inside s r (Hear bound hs) few h = omega (arith, few)
+made_inside s r (Await a q o) few h = omega (arith, few)
 made_inside s r (Forked no_nodes) few h = absurd h
 made_inside s r (Forked (branch n ns)) few h = omega (arith, h.0, one_each (branch n ns) h.1, branches_in-fork r (branch n ns))
 
@@ -139,6 +140,7 @@ mutual
   inside_few s l bs r (Later n until) m few h = h
   inside_few s l bs r (Sleep until) m few h = h
   inside_few s l bs r (Hear bound hs) m few h = h
+  inside_few s l bs r (Await a q o) m few h = h
   inside_few s l [] r (Forked ns) m few h = omega (arith, h)
   inside_few s l (b ∷ bs) r (Forked ns) m few h = branch_few s l r ns b (put_branch l b bs ns m) few (among_few s l b bs ns m few h)
 
@@ -164,6 +166,7 @@ mutual
   offered_inside_few e r (Later n m) = refl
   offered_inside_few e r (Sleep m) = refl
   offered_inside_few e r (Hear bound hs) = or_same_few r bound hs (takes_by (listen_in (kind_of r.task)) bound hs e)
+  offered_inside_few e r (Await a q o) = refl
   offered_inside_few e r (Forked ns) = branches_in-fork r (offered_among e ns).0 ∙ offered_among_few e ns ∙ sym (branches_in-fork r ns)
 
   offered_among_few : (e : Event) (ns : Nodes) → strands_among (offered_among e ns).0 ≡ strands_among ns

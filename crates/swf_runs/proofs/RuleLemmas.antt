@@ -29,13 +29,13 @@ use Rattle.swf_meaning.specs.Listen.{bound_by, correlations, heard_by, is_satisf
 use Rattle.swf_meaning.specs.Lists.{list_of, guard_of, begins_with, iteration_decided, iteration_guarded, iteration, list_ended, arrives, comes_to, workflow_ended, goes_to}
 use Rattle.swf_meaning.specs.Local.{moved_on, caught_by, failed, rule, local}
 use Rattle.swf_meaning.specs.Next.{Goal, Place, ListEnd, WorkflowEnd, task_at, ended, next}
-use Rattle.swf_meaning.specs.Node.{Node, Fresh, Live, Done, Fault, Inside, At, Later, Sleep, Hear, Forked, Nodes, no_nodes, branch, Round, Seq, Each, Try, Catch, Fun, Sub, Running}
+use Rattle.swf_meaning.specs.Node.{Node, Fresh, Live, Done, Fault, Inside, At, Later, Sleep, Hear, Await, Forked, Nodes, no_nodes, branch, Round, Seq, Each, Try, Catch, Fun, Sub, Running}
 use Rattle.swf_meaning.specs.Parts.{Catching, kind_of, common_of, listen_in, try_in}
 use Rattle.swf_meaning.specs.Put.{put_at}
 use Rattle.swf_meaning.specs.Raise.{raised_by}
 use Rattle.swf_meaning.specs.Rule.{◌>>=◌, fails, value_of}
 use Rattle.swf_meaning.specs.Switch.{taken, default_of, flow_by}
-use Rattle.swf_meaning.specs.Top.{Top, Begins, Moves, Fails, Retries, Sleeps, Hears, Splits, Ends, Breaks, top_at, line_at}
+use Rattle.swf_meaning.specs.Top.{Top, Begins, Moves, Fails, Retries, Sleeps, Hears, Awaits, Splits, Ends, Breaks, top_at, line_at}
 use Rattle.swf_meaning.specs.Try.{Verdict, Pass, Again, Handle, Stay, Give, verdict, by_verdict}
 use Rattle.swf_meaning.specs.declared.heard.Heard.{Heard}
 use Rattle.swf_runs.proofs.OnceLemmas.{mapped_some}
@@ -67,6 +67,7 @@ IsMadeInside s (At round i n) = IsBeginning n
 IsMadeInside s (Later n m) = Unit {0}
 IsMadeInside s (Sleep m) = Unit {0}
 IsMadeInside s (Hear bound hs) = Unit {0}
+IsMadeInside s (Await a q o) = Unit {0}
 IsMadeInside s (Forked ns) = IsSplit s ns
 
 -- a node that a rule makes: it is done or in an error, its list begins or goes on, it waits or listens, or it splits
