@@ -30,10 +30,17 @@ abbrev pub with_body : Option Value → Members → Members
 with_body None ms = ms
 with_body (Some v) ms = member (codes "body") v ms
 
+-- what stands beside the body
+abbrev pub head_members : Request → Members
+head_members r = member (codes "headers") (object (header_members r.headers)) (member (codes "method") (text (method_name r.method)) (member (codes "uri") (text r.uri) no_members))
+
+-- a request without its body, `{"headers":{..},"method":M,"uri":U}`
+abbrev pub head_value : Request → Value
+head_value r = object (head_members r)
+
 -- `{"body":..,"headers":{..},"method":M,"uri":U}`
 abbrev pub request_value : Request → Value
-request_value r =
-    object (with_body r.body (member (codes "headers") (object (header_members r.headers)) (member (codes "method") (text (method_name r.method)) (member (codes "uri") (text r.uri) no_members))))
+request_value r = object (with_body r.body (head_members r))
 
 pub request_code : Coded Request
 request_code = hlevel (codes_of, value_code)
@@ -60,6 +67,9 @@ begins_blank (c ∷ cs) = is_blank c
 abbrev pub is_field_value : List ℕ → Bool
 is_field_value t = list_all (λ c. is_visible c || is_blank c) t && not (begins_blank t) && not (begins_blank (reverse t))
 
--- headers that can be sent
+-- a header, and headers, that can be sent
+abbrev pub is_sendable : Header → Bool
+is_sendable h = is_field_name h.name && is_field_value h.value
+
 abbrev pub are_sendable : List Header → Bool
-are_sendable hs = list_all (λ h. is_field_name h.name && is_field_value h.value) hs
+are_sendable hs = list_all is_sendable hs

@@ -90,7 +90,7 @@ impl Headers {
     }
 
     /// The object that has them as its members.
-    pub(crate) fn json(&self, alloc: Global) -> Result<Json, AllocError>
+    pub fn json(&self, alloc: Global) -> Result<Json, AllocError>
         ensures { IfOk result (λ value. value ≡ object (header_members self.now)) }
     {
         let members = field_members(alloc, &self.fields)?;

@@ -3,8 +3,8 @@ use Rattle.std.specs.Prelude.{◌∷◌, ◌&&◌, ℕ, pos, List, [], Bool, tru
 use Rattle.std.specs.Fmt.{signed_decimal}
 use Rattle.swf_value.specs.Members.{put}
 use Rattle.swf_value.specs.Value.{Value, null, boolean, int, text, list, object, Members, no_members, member}
-use Rattle.swf_calls.specs.Headers.{header_members}
-use Rattle.swf_calls.specs.Request.{Request, are_sendable, method_name}
+use Rattle.swf_calls.specs.Headers.{header_members, with_field}
+use Rattle.swf_calls.specs.Request.{Request, are_sendable, head_value, is_sendable}
 use Rattle.swf_calls.specs.declared.headers.Header.{Header}
 use Rattle.swf_calls.specs.declared.reply.CallReply.{CallReply}
 use Rattle.swf_calls.specs.declared.reply.CallReply.TheVariants as replies
@@ -61,19 +61,19 @@ header_text t (text x) = Ok x
 header_text t (list ds) = fails t kinds.Expression (codes "cannot expand")
 header_text t (object ms) = fails t kinds.Expression (codes "cannot expand")
 
--- one that can be sent
-abbrev pub one_header : Task → Header → Result Header Problem
-one_header t h = if are_sendable (h ∷ []) then Ok h else fails t kinds.Expression (codes "cannot expand")
+-- what can be sent
+abbrev pub or_unsendable : {A : Type 0} → Task → Bool → A → Result A Problem
+or_unsendable t true a = Ok a
+or_unsendable t false a = fails t kinds.Expression (codes "cannot expand")
 
--- headers by ascending name, each filled and then judged
-abbrev pub headers_by : Task → List Variable → Value → List Field → Result (List Header) Problem
-headers_by t vars u [] = Ok []
-headers_by t vars u (f ∷ fs) = do
+-- headers by ascending name, each filled, judged and put beside those before it
+abbrev pub headers_by : Task → List Variable → Value → List Field → List Header → Result (List Header) Problem
+headers_by t vars u [] hs = Ok hs
+headers_by t vars u (f ∷ fs) hs = do
   w ← value_of t (fill f.value vars u)
   x ← header_text t w
-  h ← one_header t (record { name = f.name; value = x })
-  hs ← headers_by t vars u fs
-  Ok (h ∷ hs)
+  h ← or_unsendable t (is_sendable (record { name = f.name; value = x })) (record { name = f.name; value = x })
+  headers_by t vars u fs (with_field h hs)
 
 abbrev pub body_by : Task → List Variable → Value → Option Template → Result (Option Value) Problem
 body_by t vars u None = Ok None
@@ -86,7 +86,8 @@ abbrev pub requested : Line → Running → HttpSpec → Result Request Problem
 requested l r h = do
   query ← filled_members r.task (within l r) r.input h.query no_members
   uri ← uri_by r.task (within l r) r.input query h.endpoint
-  headers ← headers_by r.task (within l r) r.input h.headers
+  fields ← headers_by r.task (within l r) r.input h.headers []
+  headers ← or_unsendable r.task (are_sendable fields) fields
   body ← body_by r.task (within l r) r.input h.body
   Ok (record { method = h.method; uri = uri; headers = headers; body = body })
 
@@ -103,15 +104,11 @@ calling_http s l r h = do
 abbrev pub is_answered : Bool → ℕ → Bool
 is_answered redirect status = nat_le 200 status && nat_le status (if redirect then 399 else 299)
 
--- what tells the request of a response
-abbrev pub sent_value : Request → Value
-sent_value q = object (member (codes "headers") (object (header_members q.headers)) (member (codes "method") (text (method_name q.method)) (member (codes "uri") (text q.uri) no_members)))
-
 -- what a call gives: the content, or the whole response
 abbrev pub response_value : Bool → Request → ℕ → List Header → Value → Value
 response_value false q status headers content = content
 response_value true q status headers content =
-    object (member (codes "content") content (member (codes "headers") (object (header_members headers)) (member (codes "request") (sent_value q) (member (codes "statusCode") (int (pos status)) no_members))))
+    object (member (codes "content") content (member (codes "headers") (object (header_members headers)) (member (codes "request") (head_value q) (member (codes "statusCode") (int (pos status)) no_members))))
 
 -- a communication error with a status of its own
 abbrev pub communication : {A : Type 0} → Task → ℕ → Option (List ℕ) → Result A Problem

@@ -1,5 +1,5 @@
 -- What a label needs, and what it changes.
-use Rattle.std.specs.Prelude.{◌+◌, ◌||◌, ℕ, List, [], ◌∷◌, ◌++◌, Bool, false, length, map, not, nat_le, Option, Some, None, option_map, option_and_then, if◌then◌else◌}
+use Rattle.std.specs.Prelude.{◌+◌, ◌&&◌, ◌||◌, ℕ, List, [], ◌∷◌, ◌++◌, Bool, false, length, map, not, nat_le, Option, Some, None, option_map, option_and_then, if◌then◌else◌}
 use Rattle.std.specs.List.{list_any}
 use Rattle.swf_value.specs.Value.{Value}
 use Rattle.swf_calls.specs.declared.reply.CallReply.{CallReply}
@@ -18,7 +18,7 @@ use Rattle.swf_runs.specs.Keys.{same_key}
 use Rattle.swf_meaning.specs.Offer.{offered_all, takers}
 use Rattle.swf_meaning.specs.declared.key.Key.{Key}
 use Rattle.swf_meaning.specs.declared.key.Key.TheVariants.{Document as OfDocument, Instance as OfInstance, Event as OfEvent, Activity as OfActivity, Moment as OfMoment}
-use Rattle.swf_meaning.specs.Reply.{is_open as is_open_in, with_reply}
+use Rattle.swf_meaning.specs.Reply.{is_of, is_open as is_open_in, with_reply}
 use Rattle.swf_meaning.specs.World.{Instance, World, step_at, new_instance, with_step}
 
 abbrev pub most_documents : ℕ
@@ -75,13 +75,13 @@ with_event w e = record (counted (OfEvent e.source e.id) w) { instances = offere
 abbrev pub told : World → Event → Option World
 told w e = if is_used (OfEvent e.source e.id) w then None else Some (with_event w e)
 
--- the activity is a call that awaits its answer
+-- the activity is a call of its instance that awaits its answer
 abbrev pub is_open : List ℕ → World → Bool
-is_open a w = list_any (λ i. is_open_in a i.node) w.instances
+is_open a w = list_any (λ i. is_of a i.id && is_open_in a i.node) w.instances
 
 -- an instance after an answer came
 abbrev pub replied_one : List ℕ → CallReply → Instance → Instance
-replied_one a r i = record i { node = with_reply a r i.node }
+replied_one a r i = if is_of a i.id then record i { node = with_reply a r i.node } else i
 
 abbrev pub with_answer : World → List ℕ → CallReply → World
 with_answer w a r = record (counted (OfActivity a) w) { instances = map (replied_one a r) w.instances }
