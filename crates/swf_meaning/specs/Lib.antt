@@ -23,7 +23,6 @@ pub mod Local
 pub mod World
 pub mod Offer
 pub mod Shared
-pub mod Built
 pub mod Answer
 pub mod Pending
 pub mod Codes

@@ -18,7 +18,8 @@ use Rattle.swf_meaning.specs.declared.key.Key.{Key}
 use Rattle.swf_meaning.specs.declared.key.Key.TheVariants.{Document as OfDocument, Instance as OfInstance, Event as OfEvent, Activity as OfActivity, Moment as OfMoment}
 use Rattle.swf_meaning.specs.World.{World, empty, new_instance}
 use Rattle.swf_meaning.specs.Documents.{document_at}
-use Rattle.swf_runs.specs.After.{is_used, with_document, loaded, load_faults, if_none, accepted, most_documents, with_instance, most_instances, with_event, stepped, sent, with_instances, counted, after}
+use Rattle.swf_validate.specs.Accepts.{faults}
+use Rattle.swf_runs.specs.After.{is_used, with_document, loaded, if_none, accepted, most_documents, with_instance, most_instances, with_event, stepped, sent, with_instances, counted, after}
 use Rattle.swf_runs.specs.Runs.{run_from, Legal}
 
 -- what is mapped to a value is a value
@@ -67,7 +68,7 @@ if_none_some e [] d h = same_Some e d h
 if_none_some e (f ∷ fs) d h = cc
 
 pub accepted_is : (v : Value) (d : Document) → accepted v ≡ Some d → document_of v ≡ d
-accepted_is v d e = if_none_some (document_of v) (load_faults v) d e
+accepted_is v d e = if_none_some (document_of v) (faults v) d e
 
 -- the key of a document is the key that its value gives
 pub doc_key_read : (v : Value) (d : Document) → accepted v ≡ Some d → doc_key v ≡ d.key

@@ -12,7 +12,6 @@ use Rattle.swf_document.specs.declared.document.Document.{Document}
 use Rattle.swf_meaning.specs.declared.label.Label.{Label}
 use Rattle.swf_meaning.specs.declared.label.Label.TheVariants.{Load, Start, Event as Told, Reply, Moment, Step}
 use Rattle.swf_document.specs.declared.fault.Fault.{Fault}
-use Rattle.swf_meaning.specs.Built.{not_built}
 use Rattle.swf_meaning.specs.Documents.{Loaded, document_at}
 use Rattle.swf_runs.specs.Keys.{same_key}
 use Rattle.swf_meaning.specs.Offer.{offered_all, takers}
@@ -41,21 +40,13 @@ with_document w v d = record (counted (OfDocument d.key) w) { documents = w.docu
 abbrev pub loaded : World → Value → Document → Option World
 loaded w v d = if is_used (OfDocument d.key) w || nat_le most_documents (length w.documents) then None else Some (with_document w v d)
 
--- the faults for which a value cannot be loaded: those of its document, and else the first task of a kind that is not built
-abbrev pub or_not_built : Document → List Fault → List Fault
-or_not_built d [] = not_built d
-or_not_built d (f ∷ fs) = f ∷ fs
-
-abbrev pub load_faults : Value → List Fault
-load_faults v = or_not_built (document_of v) (faults v)
-
 abbrev pub if_none : Document → List Fault → Option Document
 if_none d [] = Some d
 if_none d (f ∷ fs) = None
 
--- the document of a value that can be loaded
+-- the document of a value that can be loaded: of one that has no faults
 abbrev pub accepted : Value → Option Document
-accepted v = if_none (document_of v) (load_faults v)
+accepted v = if_none (document_of v) (faults v)
 
 abbrev pub with_instance : World → Instance → World
 with_instance w i = record (counted (OfInstance i.id) w) { instances = w.instances ++ i ∷ [] }

@@ -18,7 +18,8 @@ use Rattle.swf_meaning.specs.World.{World, Instance, new_instance, step_at, with
 use Rattle.swf_meaning.specs.Answer.{instance_at}
 use Rattle.swf_meaning.specs.Strands.{can_go}
 use Rattle.swf_meaning.specs.Documents.{document_at}
-use Rattle.swf_runs.specs.After.{after, loaded, load_faults, accepted, is_used, counted, most_documents, most_instances, with_document, with_instance, with_event, with_instances, sent, taken_by}
+use Rattle.swf_validate.specs.Accepts.{faults}
+use Rattle.swf_runs.specs.After.{after, loaded, accepted, is_used, counted, most_documents, most_instances, with_document, with_instance, with_event, with_instances, sent, taken_by}
 use Rattle.swf_tasks.specs.Prepares.{applied}
 use Rattle.swf_tasks.specs.Taken.{offered_own}
 use Rattle.swf_tasks.specs.declared.prepared.Prepared.{Prepared}
@@ -82,11 +83,11 @@ no_cause true r e = cc
 no_cause false r e = refl
 
 -- a value that cannot be loaded is refused for its faults
-pub not_loaded : (w : World) (v : Value) (fs : List Fault) → (accepted v ≡ None) × (load_faults v ≡ fs) → refusal w (Load v) ≡ Some (ForFaults fs)
-not_loaded w v fs h = ap (refusal_of_load w (load_faults v)) h.0 ∙ ap (λ fs. Some (ForFaults fs)) h.1
+pub not_loaded : (w : World) (v : Value) (fs : List Fault) → (accepted v ≡ None) × (faults v ≡ fs) → refusal w (Load v) ≡ Some (ForFaults fs)
+not_loaded w v fs h = ap (refusal_of_load w (faults v)) h.0 ∙ ap (λ fs. Some (ForFaults fs)) h.1
 
 -- the change of a load that is not refused
-pub load_prepares : {E : Type 0} (w : World) (v : Value) (d : Document) (made : Result Change E) → accepted v ≡ Some d → refusal_of_load w (load_faults v) (Some d) ≡ None → IfOk made (λ c. c ≡ load_of v d) → Prepares w (Load v) (or_memory made)
+pub load_prepares : {E : Type 0} (w : World) (v : Value) (d : Document) (made : Result Change E) → accepted v ≡ Some d → refusal_of_load w (faults v) (Some d) ≡ None → IfOk made (λ c. c ≡ load_of v d) → Prepares w (Load v) (or_memory made)
 load_prepares w v d made e t m =
     let p = no_duplicate (used_at (keys.Document d.key) w.keys) (cause (nat_le most_documents (length w.documents)) Full None) t in
     let new : is_used (keys.Document d.key) w ≡ false = sym (used_some (keys.Document d.key) w.keys) ∙ ap is_some p.0 in
@@ -94,7 +95,7 @@ load_prepares w v d made e t m =
     made_or_not w (Load v) (load_of v d) made m (
       record { named = refl; used_is = refl; new = new },
       ap (option_and_then (loaded w v)) e ∙ (λ i. cond (new i || few i) None (Some (with_document w v d))),
-      ap (refusal_of_load w (load_faults v)) e ∙ t,
+      ap (refusal_of_load w (faults v)) e ∙ t,
       refl,
     )
 

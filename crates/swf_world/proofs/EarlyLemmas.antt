@@ -6,7 +6,8 @@ use Rattle.swf_meaning.specs.declared.label.Label.TheVariants.{Load, Start, Even
 use Rattle.swf_document.specs.declared.document.Document.{Document}
 use Rattle.swf_document.specs.declared.fault.Fault.{Fault}
 use Rattle.swf_meaning.specs.Documents.{document_at}
-use Rattle.swf_runs.specs.After.{accepted, load_faults}
+use Rattle.swf_validate.specs.Accepts.{faults}
+use Rattle.swf_runs.specs.After.{accepted}
 use Rattle.swf_meaning.specs.Answer.{instance_at}
 use Rattle.swf_meaning.specs.declared.key.Key.{Key}
 use Rattle.swf_meaning.specs.declared.key.Key.TheVariants as keys
@@ -70,7 +71,7 @@ step_early now strand (Some i) = by _
 -- a refusal of a world whose keys were used early is early
 pub refusal_early : (w : World) (l : Label) (r : Refusal) → AllByRecursion IsEarly w.keys → refusal w l ≡ Some r → IsEarlyRefusal r
 unfolding Early
-refusal_early w (Load v) r a e = load_early w (load_faults v) (accepted v) a r e
+refusal_early w (Load v) r a e = load_early w (faults v) (accepted v) a r e
 refusal_early w (Start id key input) r a e = duplicate_early (keys.Instance id) w.keys _ a (start_early w (document_at key w.documents)) r e
 refusal_early w (Event x) r a e = duplicate_early (keys.Event x.source x.id) w.keys None a none_early r e
 refusal_early w (Reply x y) r a e = duplicate_early (keys.Activity x) w.keys (refusal_of_reply w x) a (one_early Stale tt) r e

@@ -12,7 +12,8 @@ use Rattle.swf_meaning.specs.declared.key.Key.TheVariants as keys
 use Rattle.swf_meaning.specs.World.{line_of, site_of, World, Instance, step_at, new_instance}
 use Rattle.swf_meaning.specs.Answer.{instance_at}
 use Rattle.swf_meaning.specs.Documents.{Loaded, document_at}
-use Rattle.swf_runs.specs.After.{after, loaded, load_faults, accepted, most_documents, most_instances, with_document, with_instance, with_event, stepped, with_instances}
+use Rattle.swf_validate.specs.Accepts.{faults}
+use Rattle.swf_runs.specs.After.{after, loaded, accepted, most_documents, most_instances, with_document, with_instance, with_event, stepped, with_instances}
 use Rattle.swf_world.specs.declared.refusal.Refusal.{Refusal}
 use Rattle.swf_world.specs.declared.refusal.Refusal.TheVariants.{Stale, Full, Past, NotEnabled}
 use Rattle.swf_world.specs.Changes.{with_moment}
@@ -76,7 +77,7 @@ reply_agrees (Some p) = refl
 reply_agrees None = refl
 
 pub agree : (w : World) (l : Label) → Agree (after w l) (refusal w l)
-agree w (Load v) = by (load_faults v) (accepted v)
+agree w (Load v) = by (faults v) (accepted v)
   where
     by : (fs : List Fault) (o : Option Document) → Agree (option_and_then (loaded w v) o) (refusal_of_load w fs o)
     by fs None = refl
