@@ -14,10 +14,19 @@ round_of rounds.Function = Fun
 round_of (rounds.SubWorkflow s) = Sub s.document s.input s.context
 
 -- a sub-workflow, which has a context of its own
-abbrev pub is_sub : Round → Bool
-is_sub Seq = false
-is_sub (Each items j) = false
-is_sub (Try n) = false
-is_sub (Catch p) = false
-is_sub Fun = false
-is_sub (Sub d v c) = true
+abbrev pub is_sub : DeclaredRound → Bool
+is_sub rounds.Seq = false
+is_sub (rounds.Each t) = false
+is_sub (rounds.Try n) = false
+is_sub (rounds.Catch p) = false
+is_sub rounds.Function = false
+is_sub (rounds.SubWorkflow s) = true
+
+-- the same with another context, where it has one
+abbrev pub keeping_in : DeclaredRound → Value → DeclaredRound
+keeping_in rounds.Seq c = rounds.Seq
+keeping_in (rounds.Each t) c = rounds.Each t
+keeping_in (rounds.Try n) c = rounds.Try n
+keeping_in (rounds.Catch p) c = rounds.Catch p
+keeping_in rounds.Function c = rounds.Function
+keeping_in (rounds.SubWorkflow s) c = rounds.SubWorkflow (record s { context = c })
