@@ -101,8 +101,8 @@ impl Rule<'_> {
         Ok(self.holding(round, 0, begins_with(child, value))?)
     }
 
-    // The task runs its list in a round, and this stands at a place of it.
-    fn holding(&self, round: Round, place: usize, top: Top) -> Result<Made, AllocError>
+    /// The task runs its list in a round, and this stands at a place of it.
+    pub fn holding(&self, round: Round, place: usize, top: Top) -> Result<Made, AllocError>
         requires { place < 2 ^ 64 - 1 }
         ensures { IfOk result (λ m. stepped_of (line_in self.now) m ≡ becomes (line_in self.now) (Live self.now.running.now (At (round_of round) place (made_node top)))) }
     {
