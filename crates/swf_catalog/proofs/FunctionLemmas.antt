@@ -1,6 +1,7 @@
 -- The function of a name stands at the place that the name has.
-use Rattle.std.proofs.Common.{◌≡◌, ◌∙◌, ◌+◌, ◌<◌, ◌≤◌, ℕ, zero, suc, List, Bool, true, false, Option, Some, None, ap, arith, refl, sym}
+use Rattle.std.proofs.Common.{◌≡◌, ◌∙◌, ◌+◌, ◌<◌, ℕ, zero, suc, List, Bool, true, false, Option, Some, None, ap, arith, refl, sym}
 use Rattle.std.specs.Prelude.{if◌then◌else◌, option_and_then}
+use Rattle.std.proofs.lemmas.Option.{same_Some}
 use Rattle.swf_text.specs.Same.{same}
 use Rattle.swf_document.specs.Task.{Task, Tasks, no_tasks, named}
 use Rattle.swf_meaning.specs.Function.{function_in}
@@ -17,3 +18,12 @@ found-from n us (named x t ts) k h = by (same x n)
 
 pub function-found : (n : List ℕ) (ts : Tasks) → function_in n ts ≡ option_and_then (task_at ts) (place_from zero n ts)
 function-found n ts = found-from n ts ts zero (λ j. refl)
+
+-- a place that is found is one of the list
+pub place-within : (n : List ℕ) (ts : Tasks) (k i : ℕ) → place_from k n ts ≡ Some i → i < k + count ts
+place-within n no_tasks k i e = cc
+place-within n (named x t ts) k i e = by (same x n) e
+  where
+    by : (b : Bool) → (if b then Some k else place_from (k + 1) n ts) ≡ Some i → i < k + suc (count ts)
+    by true p = omega (arith, same_Some k i p)
+    by false p = omega (arith, place-within n ts (k + 1) i p)
