@@ -6,4 +6,3 @@ pub mod VersionLemmas
 pub mod DocumentLemmas
 pub mod FunctionLemmas
 pub mod TaskSends
-pub mod FunctionLemmas
