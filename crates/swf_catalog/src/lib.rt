@@ -11,7 +11,6 @@ mod parts;
 mod round;
 mod row;
 mod shared;
-mod sub_workflow;
 mod task;
 mod words;
 
