@@ -68,12 +68,16 @@ Overlooks f = ((r : Running) (ns ms : Nodes) → f (Splits r ns) ≡ f (Splits r
 abbrev pub views : {X : Type 0} → (Top → X) → List (List ℕ × Top) → List (List ℕ × X)
 views f ss = map (λ s. (s.0, f s.1)) ss
 
-views-numbered : {X : Type 0} (f : Top → X) (b : ℕ) (ss : List (List ℕ × Top)) → views f (map (in_branch b) ss) ≡ map (λ s. (b ∷ s.0, s.1)) (views f ss)
+-- as seen from the `fork` whose branch of that number they are in
+abbrev numbered : {X : Type 0} → ℕ → List (List ℕ × X) → List (List ℕ × X)
+numbered b ss = map (λ s. (b ∷ s.0, s.1)) ss
+
+views-numbered : {X : Type 0} (f : Top → X) (b : ℕ) (ss : List (List ℕ × Top)) → views f (map (in_branch b) ss) ≡ numbered b (views f ss)
 views-numbered f b [] = refl
 views-numbered f b (s ∷ ss) = ap (λ xs. (b ∷ s.0, f s.1) ∷ xs) (views-numbered f b ss)
 
 -- of the first branch, and of those behind it
-views-first : {X : Type 0} (f : Top → X) (b : ℕ) (n : Node) (ns : Nodes) → views f (tops_from b (branch n ns)) ≡ map (λ s. (b ∷ s.0, s.1)) (views f (tops n)) ++ views f (tops_from (b + 1) ns)
+views-first : {X : Type 0} (f : Top → X) (b : ℕ) (n : Node) (ns : Nodes) → views f (tops_from b (branch n ns)) ≡ numbered b (views f (tops n)) ++ views f (tops_from (b + 1) ns)
 views-first f b n ns = map-append (λ (s : List ℕ × Top). (s.0, f s.1)) (map (in_branch b) (tops n)) (tops_from (b + 1) ns) ∙ ap (λ xs. xs ++ views f (tops_from (b + 1) ns)) (views-numbered f b (tops n))
 
 mutual
@@ -97,18 +101,18 @@ mutual
   views_among : {X : Type 0} (f : Top → X) → Overlooks f → (a : List ℕ) (p : CallReply) (b : ℕ) (ns : Nodes) → views f (tops_from b (with_reply_among a p ns)) ≡ views f (tops_from b ns)
   views_among f over a p b no_nodes = refl
   views_among f over a p b (branch n ns) = either_branch (λ ms. views f (tops_from b ms) ≡ views f (tops_from b (branch n ns))) a p n ns
-      (views-first f b (with_reply a p n) ns ∙ ap (λ xs. map (λ s. (b ∷ s.0, s.1)) xs ++ views f (tops_from (b + 1) ns)) (views_replied f over a p n) ∙ sym (views-first f b n ns))
-      (views-first f b n (with_reply_among a p ns) ∙ ap (λ xs. map (λ s. (b ∷ s.0, s.1)) (views f (tops n)) ++ xs) (views_among f over a p (b + 1) ns) ∙ sym (views-first f b n ns))
+      (views-first f b (with_reply a p n) ns ∙ ap (λ xs. numbered b xs ++ views f (tops_from (b + 1) ns)) (views_replied f over a p n) ∙ sym (views-first f b n ns))
+      (views-first f b n (with_reply_among a p ns) ∙ ap (λ xs. numbered b (views f (tops n)) ++ xs) (views_among f over a p (b + 1) ns) ∙ sym (views-first f b n ns))
 
 -- ---- their names
 
-names_seen : (ss : List (List ℕ × Top)) → map (λ s. s.0) (views (λ t. tt) ss) ≡ map (λ s. s.0) ss
+names_seen : (ss : List (List ℕ × Top)) → map (λ s. s.0) (views {X = Unit {0}} (λ t. tt) ss) ≡ map (λ s. s.0) ss
 names_seen [] = refl
 names_seen (s ∷ ss) = ap (λ xs. s.0 ∷ xs) (names_seen ss)
 
 pub strands_replied : (a : List ℕ) (p : CallReply) (n : Node) → strands (with_reply a p n) ≡ strands n
 strands_replied a p n =
-    sym (names_seen (tops (with_reply a p n))) ∙ ap (map (λ s. s.0)) (views_replied (λ t. tt) ((λ r ns ms. refl), (λ r b q o c. refl)) a p n) ∙ names_seen (tops n)
+    sym (names_seen (tops (with_reply a p n))) ∙ ap (λ (xs : List (List ℕ × Unit {0})). map (λ s. s.0) xs) (views_replied {X = Unit {0}} (λ t. tt) ((λ r ns ms. refl), (λ r b q o c. refl)) a p n) ∙ names_seen (tops n)
 
 pub branches_replied : (a : List ℕ) (p : CallReply) (n : Node) → branches_in (with_reply a p n) ≡ branches_in n
 branches_replied a p n = ap (λ ss. length ss - 1) (strands_replied a p n)
@@ -117,15 +121,16 @@ branches_replied a p n = ap (λ ss. length ss - 1) (strands_replied a p n)
 
 listeners_seen : (ss : List (List ℕ × Top)) → map (λ s. s.0) (filter (λ s. s.1) (views is_listening ss)) ≡ map (λ s. s.0) (filter (λ s. is_listening s.1) ss)
 listeners_seen [] = refl
-listeners_seen (s ∷ ss) = by (is_listening s.1)
+listeners_seen (s ∷ ss) = by (is_listening s.1) (listeners_seen ss)
   where
-    by : (b : Bool) → map (λ x. x.0) (cond b ((s.0, b) ∷ filter (λ x. x.1) (views is_listening ss)) (filter (λ x. x.1) (views is_listening ss))) ≡ map (λ x. x.0) (cond b (s ∷ filter (λ x. is_listening x.1) ss) (filter (λ x. is_listening x.1) ss))
-    by true = ap (λ xs. s.0 ∷ xs) (listeners_seen ss)
-    by false = listeners_seen ss
+    by : (b : Bool) → map (λ x. x.0) (filter (λ x. x.1) (views is_listening ss)) ≡ map (λ x. x.0) (filter (λ x. is_listening x.1) ss) →
+        map {A = List ℕ × Bool} (λ x. x.0) (cond b ((s.0, b) ∷ filter (λ x. x.1) (views is_listening ss)) (filter (λ x. x.1) (views is_listening ss))) ≡ map {A = List ℕ × Top} (λ x. x.0) (cond b (s ∷ filter (λ x. is_listening x.1) ss) (filter (λ x. is_listening x.1) ss))
+    by true rest = ap (λ xs. s.0 ∷ xs) rest
+    by false rest = rest
 
 pub listening_replied : (a : List ℕ) (p : CallReply) (n : Node) → listening (with_reply a p n) ≡ listening n
 listening_replied a p n =
-    sym (listeners_seen (tops (with_reply a p n))) ∙ ap (λ xs. map (λ s. s.0) (filter (λ s. s.1) xs)) (views_replied is_listening ((λ r ns ms. refl), (λ r b q o c. refl)) a p n) ∙ listeners_seen (tops n)
+    sym (listeners_seen (tops (with_reply a p n))) ∙ ap (λ (xs : List (List ℕ × Bool)). map (λ s. s.0) (filter (λ s. s.1) xs)) (views_replied is_listening ((λ r ns ms. refl), (λ r b q o c. refl)) a p n) ∙ listeners_seen (tops n)
 
 -- what is taken of a strand by its name and what is seen of its top
 given_seen : {X Y : Type 0} (f : Top → X) (g : List ℕ × X → Option Y) (ss : List (List ℕ × Top)) → filter_map g (views f ss) ≡ filter_map (λ s. g (s.0, f s.1)) ss
@@ -136,7 +141,7 @@ given_replied : {X Y : Type 0} (f : Top → X) (g : List ℕ × X → Option Y) 
 given_replied f g over a p n = sym (given_seen f g (tops (with_reply a p n))) ∙ ap (filter_map g) (views_replied f over a p n) ∙ given_seen f g (tops n)
 
 pub waiting_replied : (a : List ℕ) (p : CallReply) (n : Node) → waiting (with_reply a p n) ≡ waiting n
-waiting_replied a p n = given_replied until_top (λ s. option_map (λ m. (s.0, m)) s.1) ((λ r ns ms. refl), (λ r b q o c. refl)) a p n
+waiting_replied a p n = given_replied {X = Option ℕ} {Y = List ℕ × ℕ} until_top (λ s. option_map (λ m. (s.0, m)) s.1) ((λ r ns ms. refl), (λ r b q o c. refl)) a p n
 
 pub waits_replied : (a : List ℕ) (p : CallReply) (n : Node) → waits (with_reply a p n) ≡ waits n
-waits_replied a p n = given_replied until_top (λ s. s.1) ((λ r ns ms. refl), (λ r b q o c. refl)) a p n
+waits_replied a p n = given_replied {X = Option ℕ} until_top (λ s. s.1) ((λ r ns ms. refl), (λ r b q o c. refl)) a p n

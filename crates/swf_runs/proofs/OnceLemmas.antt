@@ -80,11 +80,11 @@ pub replied_some : (w m : World) (a : List ℕ) (r : CallReply) → replied w a 
 replied_some w m a r e =
     let h = refused_some (is_used (OfActivity a) w || not (is_open a w)) (Some (with_answer w a r)) m e in
     let p = or_parts (is_used (OfActivity a) w) (not (is_open a w)) h.0 in
-    (p.0, open (is_open a w) p.1, same_Some (with_answer w a r) m h.1)
+    (p.0, yes (is_open a w) p.1, same_Some (with_answer w a r) m h.1)
   where
-    open : (b : Bool) → not b ≡ false → b ≡ true
-    open true f = refl
-    open false f = cc
+    yes : (b : Bool) → not b ≡ false → b ≡ true
+    yes true f = refl
+    yes false f = cc
 
 -- what a label's key does in the world after it: it was not used, and it is now
 abbrev pub Grown : Option Key → World → World → Type 0
