@@ -1,0 +1,55 @@
+// An answer goes to the instance with whose id the name of its activity begins.
+ghost use Rattle.std.specs.Prelude.{◌≡◌, IfOk, IfSome, is_some, map};
+ghost use Rattle.swf_meaning.specs.Reply.{before_last};
+ghost use Rattle.swf_runs.specs.After.{replied_one};
+ghost use Rattle.swf_instances.specs.Replies.{is_open_among, IsOpenAt};
+
+use crate::instances::Instances;
+use std::alloc::{AllocError, Global};
+use swf_calls::CallReply;
+use swf_text::Text;
+
+impl Instances {
+    /// The number of the instance in which an activity is open: a call that has no answer yet.
+    pub fn awaiting(&self, alloc: Global, activity: &Text) -> Result<Option<usize>, AllocError>
+        ensures open { IfOk result (λ o. is_some o ≡ is_open_among activity.now self.now.instances) }
+        ensures there { IfOk result (λ o. IfSome o (IsOpenAt activity.now self.now.instances)) }
+    {
+        let Some(id) = caller(alloc, activity)? else {
+            return Ok(None);
+        };
+        let Some(number) = self.number_of(&id) else {
+            return Ok(None);
+        };
+        if self.at(number).is_open(activity) {
+            Ok(Some(number))
+        } else {
+            Ok(None)
+        }
+    }
+
+    /// The call that an activity is of the instance of a number gets its answer, and the instance joins the queue. It takes no memory.
+    pub fn reply(&mut self, number: usize, activity: &Text, reply: CallReply)
+        requires { IsOpenAt activity.now self.old.instances number }
+        ensures instances { self.new.instances ≡ map (replied_one activity.now reply) self.old.instances }
+        ensures moment { self.new.moment ≡ self.old.moment }
+    {
+        self.queue.put(number);
+        self.stale.put(number);
+        let instance = &mut self.machines[number];
+        if instance.deliver_reply(activity, reply).is_err() {
+            unreachable!();
+        }
+        self.alarms.set(number, instance.alarm());
+    }
+}
+
+// What stands before the last `/` of an activity's name: the id of its instance.
+fn caller(alloc: Global, activity: &Text) -> Result<Option<Text>, AllocError>
+    ensures { IfOk result (λ id. id ≡ before_last 47 activity.now) }
+{
+    match activity.as_str().rsplit_once('/') {
+        Some((id, _)) => Ok(Some(Text::copy_of(alloc, id)?)),
+        None => Ok(None),
+    }
+}
