@@ -5,3 +5,4 @@ pub mod IterationLemmas
 pub mod VersionLemmas
 pub mod DocumentLemmas
 pub mod TaskSends
+pub mod FunctionLemmas

@@ -1,9 +1,11 @@
-// For what a task runs its list (DSL 1.0.0, reference, "For", "Try" and "Catch").
+// For what a task runs its list (DSL 1.0.0, reference, "For", "Try", "Catch", "Function Call" and "Run").
 ghost use Rattle.std.specs.Prelude.{◌≡◌, ◌<◌, ◌^◌, IfOk};
+ghost use Rattle.swf_catalog.specs.Rounds.{is_sub, keeping_in};
 
+use crate::shared::SharedDocument;
 use std::alloc::AllocError;
 use swf_document::Problem;
-use swf_value::JsonList;
+use swf_value::{Json, JsonList};
 
 /// An iteration of a `for` over some items.
 #[derive(Drop)]
@@ -11,6 +13,27 @@ pub struct Iteration {
     pub items: JsonList,
     pub number: u64,
     ghost few: { number < 2 ^ 53 },
+}
+
+/// The workflow of a document, on a raw input and with a context of its own.
+#[derive(Drop)]
+pub struct SubWorkflow {
+    pub document: SharedDocument,
+    pub input: Json,
+    pub context: Json,
+}
+
+impl SubWorkflow {
+    /// The same with another context. It copies no values.
+    pub fn with_context(&self, context: Json) -> Result<SubWorkflow, AllocError>
+        ensures { IfOk result (λ s. s ≡ record self.now { context = context }) }
+    {
+        Ok(SubWorkflow {
+            document: self.document.copy()?,
+            input: self.input.copy()?,
+            context,
+        })
+    }
 }
 
 /// For what a task runs its list.
@@ -23,6 +46,9 @@ pub enum Round {
     Try { retries: u64 },
     /// To handle an error.
     Catch(Problem),
+    /// As a function that was called.
+    Function,
+    SubWorkflow(SubWorkflow),
 }
 
 impl Round {
@@ -38,6 +64,28 @@ impl Round {
             })),
             Round::Try { retries } => Ok(Round::Try { retries: *retries }),
             Round::Catch(problem) => Ok(Round::Catch(problem.copy()?)),
+            Round::Function => Ok(Round::Function),
+            Round::SubWorkflow(sub) => {
+                let context = sub.context.copy()?;
+                Ok(Round::SubWorkflow(sub.with_context(context)?))
+            }
+        }
+    }
+
+    /// Whether it is a sub-workflow, which has a context of its own.
+    pub fn is_sub(&self) -> bool
+        ensures { result ≡ is_sub self.now }
+    {
+        matches!(self, Round::SubWorkflow(_))
+    }
+
+    /// The same once more, with another context where it has one. It copies no values.
+    pub fn keeping(&self, context: Json) -> Result<Round, AllocError>
+        ensures { IfOk result (λ r. r ≡ keeping_in self.now context) }
+    {
+        match self {
+            Round::SubWorkflow(sub) => Ok(Round::SubWorkflow(sub.with_context(context)?)),
+            _ => self.copy(),
         }
     }
 }
