@@ -1,12 +1,13 @@
 // An answer goes to the instance with whose id the name of its activity begins.
-ghost use Rattle.std.specs.Prelude.{◌≡◌, IfOk, IfSome, is_some, map};
-ghost use Rattle.swf_meaning.specs.Reply.{before_last};
+ghost use Rattle.std.specs.Prelude.{◌≡◌, IfOk, IfSome, is_some, map, true};
+ghost use Rattle.swf_meaning.specs.Reply.{before_last, is_open, with_reply};
 ghost use Rattle.swf_runs.specs.After.{replied_one};
 ghost use Rattle.swf_instances.specs.Replies.{is_open_among, IsOpenAt};
 
 use crate::instances::Instances;
 use std::alloc::{AllocError, Global};
 use swf_calls::CallReply;
+use swf_tasks::Machine;
 use swf_text::Text;
 
 impl Instances {
@@ -37,10 +38,19 @@ impl Instances {
         self.queue.put(number);
         self.stale.put(number);
         let instance = &mut self.machines[number];
-        if instance.deliver_reply(activity, reply).is_err() {
-            unreachable!();
-        }
+        answer(instance, activity, reply);
         self.alarms.set(number, instance.alarm());
+    }
+}
+
+// An open call of an instance gets its answer.
+fn answer(instance: &mut Machine, activity: &Text, reply: CallReply)
+    requires { is_open activity.now instance.old.node ≡ true }
+    ensures { instance.new ≡ record instance.old { node = with_reply activity.now reply instance.old.node } }
+{
+    match instance.deliver_reply(activity, reply) {
+        Ok(()) => {}
+        Err(_) => unreachable!(),
     }
 }
 
