@@ -117,7 +117,7 @@ fn filled_headers(rule: &Rule, vars: &Vars, fields: &[Field]) -> Result<Headers,
 
 /// Headers that can be sent.
 pub fn headers_by(rule: &Rule, vars: &Vars, fields: &[Field]) -> Result<Headers, Halt>
-    ensures { Gives (sent_headers rule.now.running.now.task vars.now rule.now.running.now.input fields.now) result }
+    ensures value { Gives (sent_headers rule.now.running.now.task vars.now rule.now.running.now.input fields.now) result }
     ensures sendable { IfOk result (λ headers. are_sendable headers ≡ true) }
 {
     let headers = filled_headers(rule, vars, fields)?;
