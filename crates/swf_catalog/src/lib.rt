@@ -10,6 +10,7 @@ mod parts;
 mod round;
 mod row;
 mod shared;
+mod sub_workflow;
 mod task;
 mod words;
 

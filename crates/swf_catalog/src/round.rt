@@ -1,6 +1,5 @@
 // For what a task runs its list (DSL 1.0.0, reference, "For", "Try", "Catch", "Function Call" and "Run").
 ghost use Rattle.std.specs.Prelude.{◌≡◌, ◌<◌, ◌^◌, IfOk};
-ghost use Rattle.swf_catalog.specs.Rounds.{is_sub, keeping_in};
 
 use crate::shared::SharedDocument;
 use std::alloc::AllocError;
@@ -69,23 +68,6 @@ impl Round {
                 let context = sub.context.copy()?;
                 Ok(Round::SubWorkflow(sub.with_context(context)?))
             }
-        }
-    }
-
-    /// Whether it is a sub-workflow, which has a context of its own.
-    pub fn is_sub(&self) -> bool
-        ensures { result ≡ is_sub self.now }
-    {
-        matches!(self, Round::SubWorkflow(_))
-    }
-
-    /// The same once more, with another context where it has one. It copies no values.
-    pub fn keeping(&self, context: Json) -> Result<Round, AllocError>
-        ensures { IfOk result (λ r. r ≡ keeping_in self.now context) }
-    {
-        match self {
-            Round::SubWorkflow(sub) => Ok(Round::SubWorkflow(sub.with_context(context)?)),
-            _ => self.copy(),
         }
     }
 }
