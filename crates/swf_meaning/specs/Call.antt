@@ -8,6 +8,7 @@ use Rattle.swf_calls.specs.Request.{Request, are_sendable, head_value, is_sendab
 use Rattle.swf_calls.specs.declared.headers.Header.{Header}
 use Rattle.swf_calls.specs.declared.reply.CallReply.{CallReply}
 use Rattle.swf_calls.specs.declared.reply.CallReply.TheVariants as replies
+use Rattle.swf_expr.specs.Expr.{Tree}
 use Rattle.swf_jq_eval.specs.declared.vars.Variable.{Variable}
 use Rattle.swf_document.specs.Errors.{standard}
 use Rattle.swf_document.specs.Task.{Task}
@@ -39,17 +40,18 @@ abbrev pub uri_text : Task → Value → Result (List ℕ) Problem
 uri_text t (text x) = Ok x
 uri_text t v = fails t kinds.Expression (codes "cannot expand")
 
+-- the URI that an expression gives, with that query
+abbrev pub uri_run : Task → List Variable → Value → Members → Tree → Result (List ℕ) Problem
+uri_run t vars u query e = do
+  v ← value_of t (first_of e vars u)
+  x ← uri_text t v
+  value_of t (with_query x query)
+
 -- the URI of an endpoint with that query
 abbrev pub uri_by : Task → List Variable → Value → Members → Endpoint → Result (List ℕ) Problem
 uri_by t vars u query (endpoints.Pattern p) = value_of t (uri_of p query u)
-uri_by t vars u query (endpoints.Run e) = do
-  v ← value_of t (first_of e vars u)
-  x ← uri_text t v
-  value_of t (with_query x query)
-uri_by t vars u query (endpoints.Uri e) = do
-  v ← value_of t (first_of e vars u)
-  x ← uri_text t v
-  value_of t (with_query x query)
+uri_by t vars u query (endpoints.Run e) = uri_run t vars u query e
+uri_by t vars u query (endpoints.Uri e) = uri_run t vars u query e
 
 -- a header's value is a text, a number or a Boolean
 abbrev pub header_text : Task → Value → Result (List ℕ) Problem
@@ -65,14 +67,25 @@ abbrev pub or_unsendable : {A : Type 0} → Task → Bool → A → Result A Pro
 or_unsendable t true a = Ok a
 or_unsendable t false a = fails t kinds.Expression (codes "cannot expand")
 
--- headers by ascending name, each filled, judged and put beside those before it
+-- a header that is filled, and then judged
+abbrev pub one_header : Task → List Variable → Value → Field → Result Header Problem
+one_header t vars u f = do
+  w ← value_of t (fill f.value vars u)
+  x ← header_text t w
+  or_unsendable t (is_sendable (record { name = f.name; value = x })) (record { name = f.name; value = x })
+
+-- headers by ascending name, each put beside those before it
 abbrev pub headers_by : Task → List Variable → Value → List Field → List Header → Result (List Header) Problem
 headers_by t vars u [] hs = Ok hs
 headers_by t vars u (f ∷ fs) hs = do
-  w ← value_of t (fill f.value vars u)
-  x ← header_text t w
-  h ← or_unsendable t (is_sendable (record { name = f.name; value = x })) (record { name = f.name; value = x })
+  h ← one_header t vars u f
   headers_by t vars u fs (with_field h hs)
+
+-- headers that can be sent
+abbrev pub sent_headers : Task → List Variable → Value → List Field → Result (List Header) Problem
+sent_headers t vars u fs = do
+  hs ← headers_by t vars u fs []
+  or_unsendable t (are_sendable hs) hs
 
 abbrev pub body_by : Task → List Variable → Value → Option Template → Result (Option Value) Problem
 body_by t vars u None = Ok None
@@ -85,8 +98,7 @@ abbrev pub requested : Line → Running → HttpSpec → Result Request Problem
 requested l r h = do
   query ← filled_members r.task (within l r) r.input h.query no_members
   uri ← uri_by r.task (within l r) r.input query h.endpoint
-  fields ← headers_by r.task (within l r) r.input h.headers []
-  headers ← or_unsendable r.task (are_sendable fields) fields
+  headers ← sent_headers r.task (within l r) r.input h.headers
   body ← body_by r.task (within l r) r.input h.body
   Ok (record { method = h.method; uri = uri; headers = headers; body = body })
 

@@ -1,3 +1,6 @@
 pub mod HearLemmas
 pub mod OfferLemmas
 pub mod EventTypeLemmas
+pub mod CallLemmas
+pub mod OpenLemmas
+pub mod AnswerLemmas

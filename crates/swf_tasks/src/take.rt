@@ -51,7 +51,9 @@ impl Machine {
             emitted,
         } = prepared;
         self.alarm = put_strands(&mut self.forest, strand.as_slice(), strands, self.alarm);
-        self.setting.context = context;
+        if let Some(context) = context {
+            self.setting.context = context;
+        }
         self.setting.number = number;
         self.last = strand;
         emitted

@@ -1,0 +1,52 @@
+-- The functions of a document stand behind its tasks, and that of a name at the place that the name has.
+use Rattle.std.proofs.Common.{◌≡◌, ◌∙◌, ◌++◌, ◌+◌, ◌<◌, ℕ, zero, suc, List, [], length, Bool, true, false, Option, Some, None, ap, arith, refl, sym}
+use Rattle.std.specs.Prelude.{is_some, if◌then◌else◌, option_and_then}
+use Rattle.std.proofs.lemmas.Option.{same_Some}
+use Rattle.swf_text.specs.Same.{same}
+use Rattle.swf_document.specs.Task.{Task, Tasks, no_tasks, named}
+use Rattle.swf_document.specs.declared.document.Document.{Document}
+use Rattle.swf_meaning.specs.Function.{function_in}
+use Rattle.swf_meaning.specs.Next.{place_from, task_at}
+use Rattle.swf_catalog.specs.Numbers.{all, begin, count, functions_begin, listed_entries, numbered}
+use Rattle.swf_catalog.specs.Rows.{entries_of}
+use Rattle.swf_catalog.specs.declared.row.Row.{Row}
+use Rattle.swf_catalog.proofs.NumberLemmas.{count-some, next-all}
+use Rattle.swf_catalog.proofs.ChildLemmas.{function-at}
+
+found-from : (n : List ℕ) (us ts : Tasks) (k : ℕ) → ((j : ℕ) → task_at us (k + j) ≡ task_at ts j) → function_in n ts ≡ option_and_then (task_at us) (place_from k n ts)
+found-from n us no_tasks k h = refl
+found-from n us (named x t ts) k h = by (same x n)
+  where
+    by : (b : Bool) → (if b then Some t else function_in n ts) ≡ option_and_then (task_at us) (if b then Some k else place_from (k + 1) n ts)
+    by true = sym (ap (task_at us) (omega arith) ∙ h zero)
+    by false = found-from n us ts (k + 1) (λ j. ap (task_at us) (omega arith) ∙ h (suc j))
+
+pub function-found : (n : List ℕ) (ts : Tasks) → function_in n ts ≡ option_and_then (task_at ts) (place_from zero n ts)
+function-found n ts = found-from n ts ts zero (λ j. refl)
+
+-- a place that is found is one of the list
+pub place-within : (n : List ℕ) (ts : Tasks) (k i : ℕ) → place_from k n ts ≡ Some i → i < k + count ts
+place-within n no_tasks k i e = cc
+place-within n (named x t ts) k i e = by (same x n) e
+  where
+    by : (b : Bool) → (if b then Some k else place_from (k + 1) n ts) ≡ Some i → i < k + suc (count ts)
+    by true p = omega (arith, same_Some k i p)
+    by false p = omega (arith, place-within n ts (k + 1) i p)
+
+-- the function of a name has the number of its place
+pub function-numbered : (d : Document) (n : List ℕ) (b i : ℕ) → b ≡ functions_begin d → place_from zero n d.functions ≡ Some i → numbered d (b + i) ≡ function_in n d.functions
+function-numbered d n b i e p =
+    ap (λ m. numbered d (m + i)) e ∙ function-at d i (place-within n d.functions zero i p) ∙ sym (function-found n d.functions ∙ ap (option_and_then (task_at d.functions)) p)
+
+-- and is there
+pub function-there : (d : Document) (n : List ℕ) (b i : ℕ) → b ≡ functions_begin d → place_from zero n d.functions ≡ Some i → is_some (numbered d (b + i)) ≡ true
+function-there d n b i e p =
+    let within : i < count d.functions = place-within n d.functions zero i p in
+    ap (λ m. is_some (numbered d (m + i))) e ∙ ap is_some (function-at d i within) ∙ count-some d.functions i within
+
+-- the rows of the functions come behind those of the tasks
+pub functions-next : (d : Document) (rs : List Row) → entries_of rs ≡ all 1 d.tasks → begin (length rs + 1) d.functions ≡ functions_begin d
+functions-next d rs p = ap (λ m. begin m d.functions) (next-all [] rs d.tasks p)
+
+pub listed-rows : (d : Document) (rs ss : List Row) → entries_of rs ≡ all 1 d.tasks → entries_of ss ≡ entries_of rs ++ all (length rs + 1) d.functions → entries_of ss ≡ listed_entries d
+listed-rows d rs ss p q = let next = next-all [] rs d.tasks p in q ∙ (λ j. p j ++ all (next j) d.functions)
