@@ -1,10 +1,8 @@
 // Whether headers can be sent.
-ghost use Rattle.std.specs.Prelude.{◌≡◌};
-ghost use Rattle.std.specs.List.{list_all};
+ghost use Rattle.std.specs.Prelude.{◌≡◌, chars, reverse};
 ghost use Rattle.swf_calls.specs.Request.{are_sendable, begins_blank, is_blank, is_field_name, is_field_value, is_name_character, is_sendable, is_visible};
 
 use crate::headers::{Header, Headers};
-use std::alloc::{AllocError, Global};
 use swf_text::Text;
 
 /// Whether a character may stand in the name of a header (RFC 9110, section 5.6.2).
@@ -12,7 +10,9 @@ fn is_name_character(character: char) -> bool
     ensures { result ≡ is_name_character character }
 {
     character.is_ascii_alphanumeric()
-        || "!#$%&'*+-.^_`|~".chars().any(|other| other == character)
+        || b"!#$%&'*+-.^_`|~"
+            .iter()
+            .any(|other| char::from(*other) == character)
 }
 
 /// Whether a character is visible and of ASCII.
@@ -29,10 +29,22 @@ fn is_blank(character: char) -> bool
     character == ' ' || character == '\t'
 }
 
-/// Whether the first character, if there is one, is a space or a tab.
-fn begins_blank(first: Option<char>) -> bool
+/// Whether a text begins with a space or a tab.
+fn begins_blank(text: &str) -> bool
+    ensures { result ≡ begins_blank (chars text.now) }
 {
-    match first {
+    match text.chars().next() {
+        Some(character) => is_blank(character),
+        None => false,
+    }
+}
+
+/// Whether a text ends with a space or a tab.
+#[tactic(auto, using(std::proofs::lemmas::Grind::common_steps))]
+fn ends_blank(text: &str) -> bool
+    ensures { result ≡ begins_blank (reverse (chars text.now)) }
+{
+    match text.chars().next_back() {
         Some(character) => is_blank(character),
         None => false,
     }
@@ -49,9 +61,11 @@ fn is_field_value(value: &Text) -> bool
     ensures { result ≡ is_field_value value.now }
 {
     let value = value.as_str();
-    value.chars().all(|character| is_visible(character) || is_blank(character))
-        && !begins_blank(value.chars().next())
-        && !begins_blank(value.chars().next_back())
+    value
+        .chars()
+        .all(|character| is_visible(character) || is_blank(character))
+        && !begins_blank(value)
+        && !ends_blank(value)
 }
 
 /// Whether a header can be sent: its name is a token, and its value has only visible characters of

@@ -1,3 +1,5 @@
 pub mod Asked
 pub mod Parties
 pub mod Talks
+pub mod Uris
+pub mod Memory

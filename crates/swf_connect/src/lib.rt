@@ -4,9 +4,12 @@
 mod asked;
 mod connector;
 mod dial;
+mod memory_connector;
 mod switchboard;
+mod uri;
 
 pub use asked::Asked;
 pub use connector::Connector;
 pub use dial::{Dial, Link};
+pub use memory_connector::MemoryConnector;
 pub use switchboard::{Parties, Switchboard};

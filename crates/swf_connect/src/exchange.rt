@@ -1,0 +1,72 @@
+// One request on a link, and its response.
+ghost use Rattle.std.specs.Prelude.{◌≡◌, ◌×◌, ◌+◌, ◌-◌, ◌^◌, min, OnErr, MatchResult};
+ghost use Rattle.swf_http.specs.Sent.{request_bytes, IsSendableRequest};
+ghost use Rattle.swf_connect.specs.Exchanges.{Asks, Exchanges, FailsBy};
+ghost use Rattle.swf_connect.specs.Talks.{with_faults};
+
+use crate::{Dial, Link};
+use std::alloc::Global;
+use swf_http::{HttpFault, Request, Response, SendFault, read_response, write_request};
+
+/// Why an exchange gave no response.
+#[derive(Clone, Copy, PartialEq, Eq)]
+pub enum ExchangeFault {
+    /// A call of the dial or of the link failed, and a count has risen.
+    Failed,
+    /// The bytes that came are no response.
+    NoResponse,
+    OutOfMemory,
+}
+
+/// A read of a response as a part of an exchange.
+fn fault_of(fault: HttpFault) -> ExchangeFault {
+    match fault {
+        HttpFault::Read => ExchangeFault::Failed,
+        HttpFault::Ended | HttpFault::TooLong | HttpFault::BadMessage => ExchangeFault::NoResponse,
+        HttpFault::OutOfMemory => ExchangeFault::OutOfMemory,
+    }
+}
+
+/// Writes a request and reads its response.
+fn ask<L: Link>(
+    alloc: Global,
+    link: &mut L,
+    request: &Request,
+    head: bool,
+) -> Result<Response, ExchangeFault>
+    requires { IsSendableRequest request.now }
+    ensures about { L.about link.new ≡ L.about link.old }
+    ensures asks { Asks (request_bytes request.now) head result (L.left link.old) (L.written link.old) (L.written link.new) }
+    ensures cause { (L.faults link.old ≡ 0) → (L.write_faults link.old ≡ 0) → FailsBy result 0 (L.faults link.new + L.write_faults link.new) }
+{
+    match write_request(alloc, link, request) {
+        Ok(()) => {}
+        Err(SendFault::Write) => return Err(ExchangeFault::Failed),
+        Err(SendFault::OutOfMemory) => return Err(ExchangeFault::OutOfMemory),
+    }
+    match read_response(alloc, link, head) {
+        Ok(response) => Ok(response),
+        Err(fault) => Err(fault_of(fault)),
+    }
+}
+
+/// Dials once, writes a request, reads its response and hangs up.
+pub(crate) fn exchange<D: Dial>(
+    alloc: Global,
+    dial: &mut D,
+    host: &str,
+    port: u16,
+    request: &Request,
+    head: bool,
+) -> Result<Response, ExchangeFault>
+    requires { IsSendableRequest request.now }
+    ensures talks { Exchanges host.now port (request_bytes request.now) head result (D.talks dial.old) (D.talks dial.new) }
+    ensures cause { FailsBy result (D.dial_faults dial.old) (D.dial_faults dial.new) }
+{
+    let Ok(mut link) = dial.dial(host, port) else {
+        return Err(ExchangeFault::Failed);
+    };
+    let result = ask(alloc, &mut link, request, head);
+    dial.hang_up(link);
+    result
+}
