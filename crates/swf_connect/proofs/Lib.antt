@@ -1,1 +1,4 @@
 pub mod PartyLemmas
+pub mod SendLemmas
+pub mod TargetLemmas
+pub mod ExchangeLemmas

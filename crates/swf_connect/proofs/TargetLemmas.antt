@@ -1,9 +1,11 @@
 -- The parts of a URL with a host are visible.
-use Rattle.std.proofs.Common.{◌≡◌, ◌∙◌, sym, subst, refl, ap, ℕ, ◌<◌, ◌≤◌, ◌^◌, List, [], ◌∷◌, ◌++◌, Bool, true, false, not, ◌&&◌, ◌||◌, ◌==◌, codes, length, Option, Some, None, option_map, All, inl, inr, arith, ⊎_elim}
+use Rattle.std.proofs.Common.{◌≡◌, ◌∙◌, sym, subst, refl, ap, ℕ, ◌<◌, ◌≤◌, ◌^◌, List, [], ◌∷◌, ◌++◌, Bool, true, false, not, ◌&&◌, ◌||◌, ◌==◌, nat_lt, codes, length, Option, Some, None, option_map, All, inl, inr, arith, ⊎_elim}
+use Rattle.std.specs.List.{list_any}
 use Rattle.std.specs.Option.{is_some}
+use Rattle.std.specs.Prelude.{IfSome}
 use Rattle.std.proofs.lemmas.Bool.Decides.{nat_tests}
-use Rattle.std.proofs.lemmas.List.Elements.{All-nil, All-cons, All-append, All-weaker}
-use Rattle.httparse.specs.Grammar.{AllPass}
+use Rattle.std.proofs.lemmas.List.Elements.{All-nil, All-cons, All-head, All-tail, All-append, All-weaker}
+use Rattle.httparse.specs.Grammar.{AllPass, IsToken}
 use Rattle.percent_encoding.specs.Percent.{IsKept}
 use Rattle.percent_encoding.specs.declared.ascii_set.TheConstants.{CONTROLS}
 use Rattle.url.specs.declared.sets.TheConstants.{PATH, QUERY, SPECIAL_QUERY, FORBIDDEN_HOST, FORBIDDEN_DOMAIN}
@@ -19,7 +21,12 @@ use Rattle.url.proofs.ValidLemmas.{segment_list_kept}
 use Rattle.swf_http.specs.Sent.{is_visible}
 use Rattle.swf_connect.specs.Reaching.{host_of}
 use Rattle.swf_connect.specs.Sending.{host_value, origin_form, path_part, port_part, query_part}
-use Rattle.swf_connect.proofs.SendLemmas.{decimal_visible}
+use Rattle.swf_connect.specs.Sending.{is_json_body, is_named, IsMessage}
+use Rattle.swf_text.specs.Same.{is_ascii}
+use Rattle.swf_calls.specs.Request.{Request, are_sendable}
+use Rattle.swf_http.specs.declared.message.Request.{Request as Message}
+use Rattle.swf_http.specs.Sent.{IsSendable, IsSendableRequest}
+use Rattle.swf_connect.proofs.SendLemmas.{decimal_visible, method_token, sent_sendable}
 
 -- ---- the host
 
@@ -98,3 +105,36 @@ some_path (b ∷ path) query = omega arith
 
 pub some_target : (url : Parts) → 0 < length (origin_form url)
 some_target url = some_path url.path (query_part url.query)
+
+-- ---- what follows for the code
+
+visible_ascii : (t : List ℕ) → AllPass is_visible t → is_ascii t ≡ true
+visible_ascii [] all = refl
+visible_ascii (b ∷ t) all =
+    let v = All-head Seen b t all in
+    let low : nat_lt b 128 ≡ true = grind (arith, nat_tests) in
+    rw low (visible_ascii t (All-tail Seen b t all))
+
+pub text_ascii : (url : Parts) (t : List ℕ) → IsValid url → Some t ≡ host_of url → is_ascii t ≡ true
+text_ascii url t valid e = visible_ascii t (text_visible url t valid e)
+
+pub path_ascii : (url : Parts) (t : List ℕ) → IsValid url → Some t ≡ host_of url → is_ascii url.path ≡ true
+path_ascii url t valid e = visible_ascii url.path (path_visible url t valid e)
+
+query_ascii_by : (url : Parts) (query : Option (List ℕ)) → IsValid url → url.query ≡ query → IfSome query (λ q. is_ascii q ≡ true)
+query_ascii_by url None valid is = tt
+query_ascii_by url (Some q) valid is = visible_ascii q (query_visible url q valid is)
+
+pub query_ascii : (url : Parts) → IsValid url → IfSome url.query (λ q. is_ascii q ≡ true)
+query_ascii url valid = query_ascii_by url url.query valid refl
+
+pub message_sendable : (request : Request) (url : Parts) (t : List ℕ) (m : Message) → IsMessage request url t m → IsValid url → Some t ≡ host_of url
+    → are_sendable request.headers ≡ true → IsSendableRequest m
+message_sendable request url t m is valid e are = record {
+  method = subst IsToken (sym is.method_is) (method_token request.method);
+  some_target = subst (λ (x : List ℕ). 0 < length x) (sym is.target_is) (some_target url);
+  target = subst (AllPass is_visible) (sym is.target_is) (target_visible url t valid e);
+  headers = subst (All IsSendable) (sym is.headers_are)
+      (sent_sendable request.headers (is_json_body request.body && not (list_any (is_named (codes "content-type")) request.headers)) (length m.body.items)
+      (host_value t url.port) are (omega (arith, m.body.ok.0, m.body.ok.1, m.body.small)) (value_visible url t valid e));
+}

@@ -1,5 +1,5 @@
 -- Whom a URI reaches: a URL and its host (URL Standard, section 4.4).
-use Rattle.std.specs.Prelude.{◌×◌, ℕ, List, Option, Some, None, option_map, unwrap_or, Result, Ok, Err}
+use Rattle.std.specs.Prelude.{ℕ, List, Option, Some, None, option_map, unwrap_or, Result, Ok, Err}
 use Rattle.url.specs.declared.error.ParseError.{ParseError}
 use Rattle.url.specs.Host.{host_text}
 use Rattle.url.specs.Parts.{Parts, nonempty_host}

@@ -1,5 +1,5 @@
 -- What is said on a link: to whom, which bytes came or were left, and which were written.
-use Rattle.std.specs.Prelude.{◌≡◌, ℕ, ◌+◌, ◌-◌, ◌^◌, min, List, [], ◌∷◌, ◌++◌, Option, Some}
+use Rattle.std.specs.Prelude.{◌≡◌, ℕ, ◌+◌, ◌-◌, ◌^◌, min, max, List, [], ◌∷◌, ◌++◌, Option, Some}
 
 -- whom a link reaches, and all bytes that it gave or has left
 pub record About : Type 0 where
@@ -24,6 +24,6 @@ HungUp about written old new =
     (a : About) (w : List ℕ) (before : List Talk) → about ≡ Some a → written ≡ Some w → old ≡ Some before
     → new ≡ Some (before ++ (record { about = a; written = w }) ∷ [])
 
--- a count with the faults of a link, which stands still at the end of its type
+-- a count with the faults of a link: it never falls, and stands still at the end of its type
 abbrev pub with_faults : ℕ → ℕ → ℕ → ℕ
-with_faults before reads writes = min (before + reads + writes) (2 ^ 64 - 1)
+with_faults before reads writes = max before (min (before + reads + writes) (2 ^ 64 - 1))

@@ -1,5 +1,5 @@
 // The answer to a request over HTTP.
-ghost use Rattle.std.specs.Prelude.{◌≡◌, ◌<◌, ◌×◌, ◌^◌, length, unwrap_or, IfOk, IsTrue, MatchOption, None, Some, Ok, Err};
+ghost use Rattle.std.specs.Prelude.{◌≡◌, ◌<◌, ◌^◌, length, unwrap_or, IfOk, IsTrue, MatchOption, None, Some, Ok, Err};
 ghost use Rattle.std.specs.Str.{encode_utf8_all};
 ghost use Rattle.swf_value.specs.Written.{written};
 ghost use Rattle.swf_calls.specs.Reply.{is_status, reply_value};

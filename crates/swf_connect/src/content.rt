@@ -87,11 +87,7 @@ fn plain_content(alloc: Global, body: &[u8]) -> Result<Json, AllocError>
 
 /// The content of a response with these headers and this body: null for no body; the value of JSON; else the text where it is UTF-8,
 /// and else the base64 of it.
-pub(crate) fn content_of(
-    alloc: Global,
-    headers: &Headers,
-    body: &[u8],
-) -> Result<Json, AllocError>
+pub(crate) fn content_of(alloc: Global, headers: &Headers, body: &[u8]) -> Result<Json, AllocError>
     ensures value { IfOk result (λ v. v ≡ content_of headers.now body.now) }
     ensures shallow { IfOk result (λ v. depth v ≤ 64) }
 {

@@ -1,5 +1,5 @@
 // Links to other machines, and who makes them.
-ghost use Rattle.std.specs.Prelude.{◌≡◌, ◌×◌, ℕ, List, Option, IfOk};
+ghost use Rattle.std.specs.Prelude.{◌≡◌, ℕ, List, Option, IfOk};
 ghost use Rattle.std.specs.Option.{ForSome};
 ghost use Rattle.swf_store.specs.Faults.{HasCause};
 ghost use Rattle.swf_connect.specs.Talks.{About, Talk, IsFresh, HungUp, with_faults};

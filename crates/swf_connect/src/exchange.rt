@@ -1,8 +1,8 @@
 // One request on a link, and its response.
-ghost use Rattle.std.specs.Prelude.{◌≡◌, ◌×◌, ◌+◌, ◌-◌, ◌^◌, min, OnErr, MatchResult};
+ghost use Rattle.std.specs.Prelude.{◌≡◌, ◌+◌};
+ghost use Rattle.std.specs.Option.{ForSome};
 ghost use Rattle.swf_http.specs.Sent.{request_bytes, IsSendableRequest};
-ghost use Rattle.swf_connect.specs.Exchanges.{Asks, Exchanges, FailsBy};
-ghost use Rattle.swf_connect.specs.Talks.{with_faults};
+ghost use Rattle.swf_connect.specs.Exchanges.{Asks, Exchanges, FailsBy, Tells};
 
 use crate::{Dial, Link};
 use std::alloc::Global;
@@ -18,12 +18,19 @@ pub enum ExchangeFault {
     OutOfMemory,
 }
 
-/// A read of a response as a part of an exchange.
-fn fault_of(fault: HttpFault) -> ExchangeFault {
-    match fault {
-        HttpFault::Read => ExchangeFault::Failed,
-        HttpFault::Ended | HttpFault::TooLong | HttpFault::BadMessage => ExchangeFault::NoResponse,
-        HttpFault::OutOfMemory => ExchangeFault::OutOfMemory,
+/// Reads a response.
+fn response<L: Link>(alloc: Global, link: &mut L, head: bool) -> Result<Response, ExchangeFault>
+    ensures tells { ForSome (L.left link.old) (λ bytes. Tells head bytes result) }
+    ensures cause { FailsBy result (L.faults link.old) (L.faults link.new) }
+    ensures beside { L.beside link.new ≡ L.beside link.old }
+{
+    match read_response(alloc, link, head) {
+        Ok(response) => Ok(response),
+        Err(HttpFault::Read) => Err(ExchangeFault::Failed),
+        Err(HttpFault::Ended) => Err(ExchangeFault::NoResponse),
+        Err(HttpFault::TooLong) => Err(ExchangeFault::NoResponse),
+        Err(HttpFault::BadMessage) => Err(ExchangeFault::NoResponse),
+        Err(HttpFault::OutOfMemory) => Err(ExchangeFault::OutOfMemory),
     }
 }
 
@@ -40,13 +47,9 @@ fn ask<L: Link>(
     ensures cause { (L.faults link.old ≡ 0) → (L.write_faults link.old ≡ 0) → FailsBy result 0 (L.faults link.new + L.write_faults link.new) }
 {
     match write_request(alloc, link, request) {
-        Ok(()) => {}
-        Err(SendFault::Write) => return Err(ExchangeFault::Failed),
-        Err(SendFault::OutOfMemory) => return Err(ExchangeFault::OutOfMemory),
-    }
-    match read_response(alloc, link, head) {
-        Ok(response) => Ok(response),
-        Err(fault) => Err(fault_of(fault)),
+        Ok(()) => response(alloc, link, head),
+        Err(SendFault::Write) => Err(ExchangeFault::Failed),
+        Err(SendFault::OutOfMemory) => Err(ExchangeFault::OutOfMemory),
     }
 }
 

@@ -6,6 +6,7 @@ use crate::talks::{Room, Spoken, Talks};
 use crate::{Dial, Link};
 use std::alloc::{AllocError, Global};
 use std::marker::Model;
+use std::mem;
 use swf_http::{Sink, Source};
 use swf_store::Failed;
 
@@ -20,7 +21,7 @@ pub struct MemoryLink {
 }
 
 impl Source for MemoryLink {
-    ghost use Rattle.std.specs.Prelude.{◌×◌, ℕ, List, Some};
+    ghost use Rattle.std.specs.Prelude.{ℕ, List, Some};
     ghost use Rattle.swf_connect.specs.Talks.{About};
     ghost use Rattle.swf_connect.specs.Dialed.{link_about, link_lacks, link_left, link_written};
 
@@ -42,7 +43,7 @@ impl Source for MemoryLink {
 }
 
 impl Sink for MemoryLink {
-    ghost use Rattle.std.specs.Prelude.{◌×◌, ℕ, List, Some};
+    ghost use Rattle.std.specs.Prelude.{ℕ, List, Some};
     ghost use Rattle.swf_connect.specs.Talks.{About};
     ghost use Rattle.swf_connect.specs.Dialed.{link_about, link_lacks, link_left, link_written};
 
@@ -100,7 +101,7 @@ impl Model for MemoryDial {
 }
 
 impl MemoryDial {
-    ghost use Rattle.std.specs.Prelude.{◌≡◌, ◌×◌, [], map, option_map, IfOk, OnOk};
+    ghost use Rattle.std.specs.Prelude.{◌≡◌, [], map, option_map, IfOk, OnOk};
     ghost use Rattle.swf_connect.specs.Spoken.{last_of, talk_of};
 
     /// A dial whose links give these replies.

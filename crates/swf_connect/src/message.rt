@@ -1,8 +1,9 @@
 // The message that is sent for a request.
-ghost use Rattle.std.specs.Prelude.{◌≡◌, ◌++◌, ◌<◌, ◌^◌, [], decimal, length, true, false, option_copied, option_map, IfOk, OnOk, IsTrue, Some};
+ghost use Rattle.std.specs.Prelude.{◌≡◌, ◌++◌, codes, decimal, true, option_copied, option_map, IfOk, IfSome, OnOk, IsTrue, Some};
 ghost use Rattle.std.specs.List.{list_any};
 ghost use Rattle.swf_text.specs.Same.{is_ascii};
 ghost use Rattle.swf_calls.specs.Headers.{put_field};
+ghost use Rattle.swf_calls.specs.Request.{are_sendable};
 ghost use Rattle.swf_http.specs.Sent.{IsSendableRequest};
 ghost use Rattle.url.specs.Parts.{IsValid};
 ghost use Rattle.swf_connect.specs.Sending.{body_of, host_value, is_json_body, is_named, is_withheld, origin_form, own_headers, passed_headers, path_part, put_fields, query_part, sent_headers, type_headers, IsMessage};
@@ -35,12 +36,7 @@ fn is_withheld(header: &Header) -> bool
 }
 
 /// Puts a field of ASCII among headers.
-fn put_word(
-    alloc: Global,
-    headers: &mut Headers,
-    name: &str,
-    value: &str,
-) -> Result<(), AllocError>
+fn put_word(alloc: Global, headers: &mut Headers, name: &str, value: &str) -> Result<(), AllocError>
     requires name { IsTrue (is_ascii name.now) }
     requires value { IsTrue (is_ascii value.now) }
     ensures { OnOk result (headers.new ≡ put_field (record { name = name.now; value = value.now }) headers.old) }
@@ -75,6 +71,13 @@ fn is_json_body(body: Option<&Json>) -> bool
     }
 }
 
+/// Whether a type of the body is given.
+fn gives_type(given: &[Header]) -> bool
+    ensures { result ≡ list_any (is_named (codes "content-type")) given.now }
+{
+    given.iter().any(|header| is_named(header, b"content-type"))
+}
+
 /// Puts the type of a body that is sent as JSON, unless one is given.
 fn put_type(
     alloc: Global,
@@ -84,7 +87,7 @@ fn put_type(
 ) -> Result<(), AllocError>
     ensures { OnOk result (headers.new ≡ put_fields (type_headers (option_map (λ v. v.now) body.entry) given.now) headers.old) }
 {
-    if is_json_body(body) && !given.iter().any(|header| is_named(header, b"content-type")) {
+    if is_json_body(body) && !gives_type(given) {
         put_word(alloc, headers, "Content-Type", "application/json")?;
     }
     Ok(())
@@ -99,12 +102,7 @@ fn number(alloc: Global, number: usize) -> Result<Text, AllocError>
 }
 
 /// Puts the headers that the connector writes itself.
-fn put_own(
-    alloc: Global,
-    headers: &mut Headers,
-    size: usize,
-    host: Text,
-) -> Result<(), AllocError>
+fn put_own(alloc: Global, headers: &mut Headers, size: usize, host: Text) -> Result<(), AllocError>
     ensures { OnOk result (headers.new ≡ put_fields (own_headers size host) headers.old) }
 {
     put_word(alloc, headers, "Connection", "close")?;
@@ -162,14 +160,23 @@ fn host_value(alloc: Global, host: &str, port: Option<u16>) -> Result<Text, Allo
     text.into_text(alloc)
 }
 
+/// The path, which is `/` where it is empty.
+fn path_part(path: &str) -> &str
+    requires { IsTrue (is_ascii path.now) }
+    ensures value { result.now ≡ path_part path.now }
+    ensures ascii { IsTrue (is_ascii result.now) }
+{
+    if path.is_empty() { "/" } else { path }
+}
+
 /// The path, and `?` and the query where there is one.
 fn origin_form(alloc: Global, path: &str, query: Option<&str>) -> Result<Text, AllocError>
     requires path { IsTrue (is_ascii path.now) }
-    requires query { (q : _) → option_copied query.entry ≡ Some q → is_ascii q ≡ true }
+    requires query { IfSome (option_copied query.entry) (λ q. is_ascii q ≡ true) }
     ensures { IfOk result (λ t. t ≡ path_part path.now ++ query_part (option_copied query.entry)) }
 {
     let mut text = TextBuilder::new(alloc);
-    text.push_ascii(if path.is_empty() { "/" } else { path })?;
+    text.push_ascii(path_part(path))?;
     if let Some(query) = query {
         text.push_ascii("?")?;
         text.push_ascii(query)?;
@@ -178,7 +185,8 @@ fn origin_form(alloc: Global, path: &str, query: Option<&str>) -> Result<Text, A
 }
 
 /// The message for a request to a URL that has this host.
-pub(crate) fn message_for(
+#[tactic(auto, using(crate::proofs::TargetLemmas::text_ascii, crate::proofs::TargetLemmas::path_ascii, crate::proofs::TargetLemmas::query_ascii))]
+fn compose(
     alloc: Global,
     request: &CallRequest,
     url: &Url,
@@ -186,7 +194,8 @@ pub(crate) fn message_for(
 ) -> Result<Request, AllocError>
     requires { Some host.now ≡ host_of url.now }
     ensures message { IfOk result (IsMessage request.now url.now host.now) }
-    ensures sendable { IfOk result IsSendableRequest }
+    ensures valid { IfOk result (λ _. IsValid url.now) }
+    ensures given { IfOk result (λ _. are_sendable request.now.headers ≡ true) }
 {
     let target = origin_form(alloc, url.path(), url.query())?;
     let host = host_value(alloc, host, url.port())?;
@@ -197,4 +206,19 @@ pub(crate) fn message_for(
         headers: sent_headers(alloc, request, host, body.len())?,
         body,
     })
+}
+
+/// The same, which can be sent.
+#[tactic(auto, using(crate::proofs::TargetLemmas::message_sendable))]
+pub(crate) fn message_for(
+    alloc: Global,
+    request: &CallRequest,
+    url: &Url,
+    host: &str,
+) -> Result<Request, AllocError>
+    requires { Some host.now ≡ host_of url.now }
+    ensures message { IfOk result (IsMessage request.now url.now host.now) }
+    ensures sendable { IfOk result IsSendableRequest }
+{
+    compose(alloc, request, url, host)
 }
