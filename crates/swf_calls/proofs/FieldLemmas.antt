@@ -1,11 +1,11 @@
 -- One field more among headers.
-use Rattle.std.proofs.Common.{◌≡◌, ◌∙◌, ap, sym, subst, refl, ℕ, zero, suc, ◌+◌, ◌<◌, ◌≤◌, List, [], ◌∷◌, length, drop, get_or, slice_set, Result, Ok, Err, arith}
+use Rattle.std.proofs.Common.{◌≡◌, ◌∙◌, ap, sym, subst, refl, ℕ, zero, suc, ◌+◌, ◌<◌, ◌≤◌, List, [], ◌∷◌, length, get_or, slice_set, Result, Ok, Err, arith}
 use Rattle.std.specs.List.{insert}
 use Rattle.std.specs.Ordering.{nat_cmp}
 use Rattle.std.specs.declared.cmp.Ordering.{Ordering}
 use Rattle.std.specs.declared.cmp.Ordering.TheVariants.{Less, Equal, Greater}
 use Rattle.std.specs.Cmp.Lexicographic.{slice_cmp}
-use Rattle.swf_value.specs.Value.{text, Members, member, Ascending}
+use Rattle.swf_value.specs.Value.{text, member, Ascending}
 use Rattle.swf_value.specs.Members.{put}
 use Rattle.swf_value.proofs.Places.{ascending_put}
 use Rattle.swf_calls.specs.declared.headers.Header.{Header}
