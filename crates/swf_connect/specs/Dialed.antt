@@ -1,6 +1,6 @@
 -- A dial in memory and its links: the replies that are left, the calls that fail, and what was said.
 use Rattle.std.specs.Prelude.{ℕ, List, drop, string_bytes}
-use Rattle.swf_connect.specs.declared.memory_dial.MemoryLink.{MemoryLink}
+use Rattle.swf_connect.specs.declared.memory_link.MemoryLink.{MemoryLink}
 use Rattle.swf_connect.specs.Talks.{About, Talk}
 
 pub record Dialed : Type 0 where
@@ -28,3 +28,10 @@ link_written link = link.talk.written.items
 -- how many writes found no memory
 abbrev pub link_lacks : MemoryLink → ℕ
 link_lacks link = link.lacks
+
+-- what no read, and what no write, of a link changes
+abbrev pub link_beside : MemoryLink → About × List ℕ × ℕ
+link_beside link = (link_about link, link_written link, link_lacks link)
+
+abbrev pub link_kept : MemoryLink → About × List ℕ
+link_kept link = (link_about link, link_left link)

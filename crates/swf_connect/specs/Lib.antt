@@ -6,6 +6,7 @@ pub mod DialedLaws
 pub mod Exchanges
 pub mod Http
 pub mod Memory
+pub mod MemoryCode
 pub mod Parties
 pub mod Reaching
 pub mod Sending

@@ -94,6 +94,7 @@ fn port_of(url: &Url) -> u16
 }
 
 /// The answer to a request from a URL that has this host.
+#[tactic(auto, using(crate::proofs::AnswerLemmas::ends_answered, crate::proofs::AnswerLemmas::ends_lacking, crate::proofs::AnswerLemmas::ends_failed, crate::proofs::AnswerLemmas::ends_refused))]
 fn answer_from<D: Dial>(
     alloc: Global,
     dial: &mut D,
@@ -110,11 +111,13 @@ fn answer_from<D: Dial>(
     match exchange(alloc, dial, host, port_of(url), &message, head) {
         Ok(response) => reply_for(alloc, response),
         Err(ExchangeFault::OutOfMemory) => Err(AllocError),
-        Err(ExchangeFault::Failed | ExchangeFault::NoResponse) => Ok(CallReply::Unreached),
+        Err(ExchangeFault::Failed) => Ok(CallReply::Unreached),
+        Err(ExchangeFault::NoResponse) => Ok(CallReply::Unreached),
     }
 }
 
 /// The answer to a request over a link that is dialed for it.
+#[tactic(auto, using(crate::proofs::AnswerLemmas::lacks, crate::proofs::AnswerLemmas::unreached_url, crate::proofs::AnswerLemmas::unreached_host, crate::proofs::AnswerLemmas::reached_host))]
 pub(crate) fn answer<D: Dial>(
     alloc: Global,
     dial: &mut D,

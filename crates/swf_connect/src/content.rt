@@ -45,10 +45,11 @@ fn trim_end(mut bytes: &[u8]) -> &[u8]
 fn before_semicolon(bytes: &[u8]) -> &[u8]
     ensures { result.now ≡ before_first (λ b. b == 59) bytes.now }
 {
-    match bytes.iter().position(|byte| *byte == b';') {
-        Some(end) => &bytes[..end],
-        None => bytes,
+    let mut end = 0;
+    'bytes: while end < bytes.len() && bytes[end] != b';' {
+        end += 1;
     }
+    &bytes[..end]
 }
 
 /// A type without its parameters.

@@ -35,6 +35,7 @@ fn response<L: Link>(alloc: Global, link: &mut L, head: bool) -> Result<Response
 }
 
 /// Writes a request and reads its response.
+#[tactic(auto, using(crate::proofs::ExchangeLemmas::asked, crate::proofs::ExchangeLemmas::moved))]
 fn ask<L: Link>(
     alloc: Global,
     link: &mut L,

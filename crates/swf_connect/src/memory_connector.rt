@@ -25,6 +25,10 @@ impl Model for MemoryConnector {
 
     ghost Value = { Memory };
 
+    ghost use Rattle.swf_connect.specs.MemoryCode.{memory_code};
+
+    ghost coded = { memory_code };
+
     ghost use Rattle.std.specs.Prelude.{drop, All};
     ghost use Rattle.swf_connect.specs.Asked.{IsTellableAnswer};
 

@@ -1,80 +1,10 @@
 // A dial in memory, whose links give what it was given, and which keeps what was said.
-ghost use Rattle.std.specs.Prelude.{◌≡◌, ◌≤◌, vec_len};
-ghost use Rattle.swf_connect.specs.Dialed.{link_about, link_lacks, link_left, link_written};
-
-use crate::talks::{Room, Spoken, Talks};
-use crate::{Dial, Link};
+use crate::talks::{Spoken, Talks};
+use crate::{Dial, MemoryLink};
 use std::alloc::{AllocError, Global};
 use std::marker::Model;
 use std::mem;
-use swf_http::{Sink, Source};
 use swf_store::Failed;
-
-/// A link of a dial in memory. Its reads never fail, and its writes where they find no memory.
-#[derive(Drop)]
-pub struct MemoryLink {
-    talk: Spoken,
-    at: usize,
-    lacks: u64,
-    room: Room,
-    ghost within: { at ≤ vec_len talk.bytes },
-}
-
-impl Source for MemoryLink {
-    ghost use Rattle.std.specs.Prelude.{ℕ, List, Some};
-    ghost use Rattle.swf_connect.specs.Talks.{About};
-    ghost use Rattle.swf_connect.specs.Dialed.{link_about, link_lacks, link_left, link_written};
-
-    ghost left = { λ link. Some (link_left link) };
-
-    ghost faults = { λ _. 0 };
-
-    ghost Beside = { About × List ℕ × ℕ };
-
-    ghost beside = { λ link. (link_about link, link_written link, link_lacks link) };
-
-    fn read(&mut self, into: &mut [u8]) -> Result<usize, Failed> {
-        let rest = &self.talk.bytes[self.at..];
-        let count = rest.len().min(into.len());
-        into[..count].copy_from_slice(&rest[..count]);
-        self.at += count;
-        Ok(count)
-    }
-}
-
-impl Sink for MemoryLink {
-    ghost use Rattle.std.specs.Prelude.{ℕ, List, Some};
-    ghost use Rattle.swf_connect.specs.Talks.{About};
-    ghost use Rattle.swf_connect.specs.Dialed.{link_about, link_lacks, link_left, link_written};
-
-    ghost written = { λ link. Some (link_written link) };
-
-    ghost write_faults = { link_lacks };
-
-    ghost Kept = { About × List ℕ };
-
-    ghost kept = { λ link. (link_about link, link_left link) };
-
-    fn write(&mut self, bytes: &[u8]) -> Result<usize, Failed> {
-        if self.talk.written.extend_from_slice(bytes).is_err() {
-            self.lacks = self.lacks.saturating_add(1);
-            return Err(Failed);
-        }
-        Ok(bytes.len())
-    }
-}
-
-impl Link for MemoryLink {
-    ghost use Rattle.std.specs.Prelude.{Some};
-    ghost use Rattle.swf_connect.specs.Dialed.{link_about};
-    ghost use Rattle.swf_connect.specs.DialedLaws.{read_keeps_all, write_keeps_all};
-
-    ghost about = { λ link. Some (link_about link) };
-
-    ghost read_keeps = { λ a b same. read_keeps_all a b same };
-
-    ghost write_keeps = { λ a b same. write_keeps_all a b same };
-}
 
 /// Makes links that give its replies in order, one for each link, and keeps the talks on those that were hung up. The calls of `dial`
 /// with the given numbers, from 0, fail and use up no reply. So do those for which none is left or no memory is found.
@@ -135,24 +65,6 @@ impl MemoryDial {
     }
 }
 
-/// A new link to a host at a port, which gives these bytes.
-fn link_to(alloc: Global, host: &str, port: u16, bytes: &[u8]) -> Result<MemoryLink, AllocError>
-    ensures { IfOk result (λ link. (link_about link ≡ record { host = host.now; port = port; bytes = bytes.now }) × (link_left link ≡ bytes.now) × (link_written link ≡ []) × (link_lacks link ≡ 0)) }
-{
-    let talk = Spoken {
-        host: String::from_str(alloc, host)?,
-        port,
-        bytes: bytes.to_vec(alloc)?,
-        written: Vec::new(alloc),
-    };
-    Ok(MemoryLink {
-        talk,
-        at: 0,
-        lacks: 0,
-        room: Room::new(alloc)?,
-    })
-}
-
 impl Dial for MemoryDial {
     type Link = MemoryLink;
 
@@ -169,7 +81,7 @@ impl Dial for MemoryDial {
             self.faults = self.faults.saturating_add(1);
             return Err(Failed);
         }
-        match link_to(self.alloc, host, port, &self.replies[self.next]) {
+        match MemoryLink::new(self.alloc, host, port, &self.replies[self.next]) {
             Ok(link) => {
                 self.next += 1;
                 Ok(link)

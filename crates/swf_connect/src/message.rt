@@ -1,5 +1,5 @@
 // The message that is sent for a request.
-ghost use Rattle.std.specs.Prelude.{◌≡◌, ◌++◌, codes, decimal, true, option_copied, option_map, IfOk, IfSome, OnOk, IsTrue, Some};
+ghost use Rattle.std.specs.Prelude.{◌≡◌, ◌++◌, ℕ, List, codes, decimal, true, option_copied, option_map, IfOk, IfSome, OnOk, IsTrue, Some};
 ghost use Rattle.std.specs.List.{list_any};
 ghost use Rattle.swf_text.specs.Same.{is_ascii};
 ghost use Rattle.swf_calls.specs.Headers.{put_field};
@@ -98,7 +98,7 @@ fn number(alloc: Global, number: usize) -> Result<Text, AllocError>
     ensures { IfOk result (λ t. t ≡ decimal number) }
 {
     let mut digits = Buffer::new();
-    word(alloc, digits.format(number))
+    Text::copy_of(alloc, digits.format(number))
 }
 
 /// Puts the headers that the connector writes itself.
@@ -172,7 +172,7 @@ fn path_part(path: &str) -> &str
 /// The path, and `?` and the query where there is one.
 fn origin_form(alloc: Global, path: &str, query: Option<&str>) -> Result<Text, AllocError>
     requires path { IsTrue (is_ascii path.now) }
-    requires query { IfSome (option_copied query.entry) (λ q. is_ascii q ≡ true) }
+    requires query { IfSome (option_copied query) (λ (q : List ℕ). is_ascii q ≡ true) }
     ensures { IfOk result (λ t. t ≡ path_part path.now ++ query_part (option_copied query.entry)) }
 {
     let mut text = TextBuilder::new(alloc);
