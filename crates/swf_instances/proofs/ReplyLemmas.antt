@@ -49,7 +49,7 @@ none_found id [] placed apart = refl
 none_found id (e ∷ es) placed apart = ap (λ b. cond b (Some e.1) (instance_at id (instances_in es))) (ap (same id) (sym placed.0) ∙ apart.0) ∙ none_found id es placed.1 apart.1
 
 -- where the ids are apart, it is open where the instance of its id has it open
-pub open_where : (a id : List ℕ) (es : List (List ℕ × Instance)) → Some id ≡ before_last 47 a → AllByRecursion IsPlaced es → IsDistinct same (keys_of es) → is_open_among a (instances_in es) ≡ is_open_of a (instance_at id (instances_in es))
+open_where : (a id : List ℕ) (es : List (List ℕ × Instance)) → Some id ≡ before_last 47 a → AllByRecursion IsPlaced es → IsDistinct same (keys_of es) → is_open_among a (instances_in es) ≡ is_open_of a (instance_at id (instances_in es))
 open_where a id [] e placed apart = refl
 open_where a id (x ∷ xs) e placed apart = by (same id x.1.id) refl (open_where a id xs e placed.1 (IsDistinct-tail same x.0 (keys_of xs) apart))
   where
@@ -62,6 +62,12 @@ open_where a id (x ∷ xs) e placed apart = by (same id x.1.id) refl (open_where
         let rest : is_open_among a is ≡ false = none_open a id is e (none_found id xs placed.1 (subst (λ k. AllByRecursion (λ l. same k l ≡ false) (keys_of xs)) own (IsDistinct-head same x.0 (keys_of xs) apart))) in
         ap (λ b. (b && is_open a x.1.node) || is_open_among a is) (named_by a id x.1.id e ∙ named) ∙ ap (λ b. is_open a x.1.node || b) rest ∙ or-false (is_open a x.1.node)
     by false named more = ap (λ b. (b && is_open a x.1.node) || is_open_among a is) (named_by a id x.1.id e ∙ named) ∙ more
+
+-- the same of all instances, by the one that is found of the id
+pub open_found : (a id : List ℕ) (es : List (List ℕ × Instance)) (is : List Instance) (o : Option Instance) → instances_in es ≡ is → Some id ≡ before_last 47 a → AllByRecursion IsPlaced es → IsDistinct same (keys_of es) → instance_at id is ≡ o →
+    is_open_among a is ≡ is_open_of a o
+open_found a id es is o all e placed apart at =
+    ap (is_open_among a) (sym all) ∙ open_where a id es e placed apart ∙ ap (λ js. is_open_of a (instance_at id js)) all ∙ ap (is_open_of a) at
 
 -- the instance that is found of an id has it
 pub found_named : (id : List ℕ) (is : List Instance) (i : Instance) → instance_at id is ≡ Some i → same id i.id ≡ true
