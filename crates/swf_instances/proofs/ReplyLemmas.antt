@@ -37,11 +37,11 @@ named_by a id x e = sym (ap (is_named_by x) e)
 -- where none has it, it is open nowhere
 none_open : (a id : List ℕ) (is : List Instance) → Some id ≡ before_last 47 a → instance_at id is ≡ None → is_open_among a is ≡ false
 none_open a id [] e none = refl
-none_open a id (i ∷ is) e none = by (same id i.id) refl none
+none_open a id (i ∷ is) e none = by (same id i.id) refl none (λ n. none_open a id is e n)
   where
-    by : (b : Bool) → same id i.id ≡ b → cond b (Some i) (instance_at id is) ≡ None → ((is_of a i.id && is_open a i.node) || is_open_among a is) ≡ false
-    by true named n = cc
-    by false named n = ap (λ b. (b && is_open a i.node) || is_open_among a is) (named_by a id i.id e ∙ named) ∙ none_open a id is e n
+    by : (b : Bool) → same id i.id ≡ b → cond b (Some i) (instance_at id is) ≡ None → (instance_at id is ≡ None → is_open_among a is ≡ false) → ((is_of a i.id && is_open a i.node) || is_open_among a is) ≡ false
+    by true named n rest = cc
+    by false named n rest = ap (λ b. (b && is_open a i.node) || is_open_among a is) (named_by a id i.id e ∙ named) ∙ rest n
 
 -- an id that differs from all of them is found nowhere
 none_found : (id : List ℕ) (es : List (List ℕ × Instance)) → AllByRecursion IsPlaced es → AllByRecursion (λ k. same id k ≡ false) (keys_of es) → instance_at id (instances_in es) ≡ None
@@ -49,29 +49,34 @@ none_found id [] placed apart = refl
 none_found id (e ∷ es) placed apart = ap (λ b. cond b (Some e.1) (instance_at id (instances_in es))) (ap (same id) (sym placed.0) ∙ apart.0) ∙ none_found id es placed.1 apart.1
 
 -- where the ids are apart, it is open where the instance of its id has it open
-pub open_where : (a id : List ℕ) (es : List (List ℕ × Instance)) → Some id ≡ before_last 47 a → AllByRecursion IsPlaced es → IsDistinct same (keys_of es) → is_open_among a (instances_in es) ≡ is_open_of a (instance_at id (instances_in es))
+open_where : (a id : List ℕ) (es : List (List ℕ × Instance)) → Some id ≡ before_last 47 a → AllByRecursion IsPlaced es → IsDistinct same (keys_of es) → is_open_among a (instances_in es) ≡ is_open_of a (instance_at id (instances_in es))
 open_where a id [] e placed apart = refl
-open_where a id (x ∷ xs) e placed apart = by (same id x.1.id) refl
+open_where a id (x ∷ xs) e placed apart = by (same id x.1.id) refl (open_where a id xs e placed.1 (IsDistinct-tail same x.0 (keys_of xs) apart))
   where
     is : List Instance
     is = instances_in xs
 
-    by : (b : Bool) → same id x.1.id ≡ b → ((is_of a x.1.id && is_open a x.1.node) || is_open_among a is) ≡ is_open_of a (cond b (Some x.1) (instance_at id is))
-    by true named =
+    by : (b : Bool) → same id x.1.id ≡ b → is_open_among a is ≡ is_open_of a (instance_at id is) → ((is_of a x.1.id && is_open a x.1.node) || is_open_among a is) ≡ is_open_of a (cond b (Some x.1) (instance_at id is))
+    by true named more =
         let own : x.0 ≡ id = placed.0 ∙ sym (same_true id x.1.id named) in
         let rest : is_open_among a is ≡ false = none_open a id is e (none_found id xs placed.1 (subst (λ k. AllByRecursion (λ l. same k l ≡ false) (keys_of xs)) own (IsDistinct-head same x.0 (keys_of xs) apart))) in
         ap (λ b. (b && is_open a x.1.node) || is_open_among a is) (named_by a id x.1.id e ∙ named) ∙ ap (λ b. is_open a x.1.node || b) rest ∙ or-false (is_open a x.1.node)
-    by false named =
-        ap (λ b. (b && is_open a x.1.node) || is_open_among a is) (named_by a id x.1.id e ∙ named) ∙ open_where a id xs e placed.1 (IsDistinct-tail same x.0 (keys_of xs) apart)
+    by false named more = ap (λ b. (b && is_open a x.1.node) || is_open_among a is) (named_by a id x.1.id e ∙ named) ∙ more
+
+-- the same of all instances, by the one that is found of the id
+pub open_found : (a id : List ℕ) (es : List (List ℕ × Instance)) (is : List Instance) (o : Option Instance) → instances_in es ≡ is → Some id ≡ before_last 47 a → AllByRecursion IsPlaced es → IsDistinct same (keys_of es) → instance_at id is ≡ o →
+    is_open_among a is ≡ is_open_of a o
+open_found a id es is o all e placed apart at =
+    ap (is_open_among a) (sym all) ∙ open_where a id es e placed apart ∙ ap (λ js. is_open_of a (instance_at id js)) all ∙ ap (is_open_of a) at
 
 -- the instance that is found of an id has it
 pub found_named : (id : List ℕ) (is : List Instance) (i : Instance) → instance_at id is ≡ Some i → same id i.id ≡ true
 found_named id [] i e = cc
-found_named id (x ∷ xs) i e = by (same id x.id) refl e
+found_named id (x ∷ xs) i e = by (same id x.id) refl e (λ f. found_named id xs i f)
   where
-    by : (b : Bool) → same id x.id ≡ b → cond b (Some x) (instance_at id xs) ≡ Some i → same id i.id ≡ true
-    by true named f = sym (ap (λ j. same id j.id) (same_Some x i f)) ∙ named
-    by false named f = found_named id xs i f
+    by : (b : Bool) → same id x.id ≡ b → cond b (Some x) (instance_at id xs) ≡ Some i → (instance_at id xs ≡ Some i → same id i.id ≡ true) → same id i.id ≡ true
+    by true named f rest = sym (ap (λ j. same id j.id) (same_Some x i f)) ∙ named
+    by false named f rest = rest f
 
 -- ---- what an answer changes
 
@@ -101,7 +106,7 @@ replied_put a r (e ∷ es) zero i placed apart at own =
     let here : is_of a e.1.id ≡ true = ap (λ j. is_of a j.id) is ∙ own in
     let key : is_of a e.0 ≡ true = ap (is_of a) placed.0 ∙ here in
     let rest : map (replied_one a r) (instances_in es) ≡ instances_in es = others_same a r e.0 es key placed.1 (IsDistinct-head same e.0 (keys_of es) apart) in
-    ap (λ j. (record j { node = with_reply a r j.node }) ∷ instances_in es) (sym is)
+    ap {A = Instance} (λ j. (record j { node = with_reply a r j.node }) ∷ instances_in es) (sym is)
     ∙ (λ k. cond (sym here k) (record e.1 { node = with_reply a r e.1.node }) e.1 ∷ sym rest k)
 replied_put a r (e ∷ es) (suc n) i placed apart at own =
     let other : same e.0 i.id ≡ false = differs e.0 es n i placed.1 (IsDistinct-head same e.0 (keys_of es) apart) at in

@@ -19,7 +19,7 @@ use swf_text::Text;
 /// The instances at a moment. Contracts see them in start order, the moment, and how many more fit without memory.
 #[derive(Drop)]
 pub struct Instances {
-    alloc: Global,
+    pub(crate) alloc: Global,
     pub(crate) machines: IndexMap<Text, Machine>,
     pub(crate) queue: Queue,
     /// Of each instance, the least moment that a strand of it waits for.

@@ -12,11 +12,11 @@ use swf_text::Text;
 
 impl Instances {
     /// The number of the instance in which an activity is open: a call that has no answer yet.
-    pub fn awaiting(&self, alloc: Global, activity: &Text) -> Result<Option<usize>, AllocError>
+    pub fn awaiting(&self, activity: &Text) -> Result<Option<usize>, AllocError>
         ensures open { IfOk result (λ o. is_some o ≡ is_open_among activity.now self.now.instances) }
         ensures there { IfOk result (λ o. IfSome o (IsOpenAt activity.now self.now.instances)) }
     {
-        let Some(id) = caller(alloc, activity)? else {
+        let Some(id) = caller(self.alloc, activity)? else {
             return Ok(None);
         };
         let Some(number) = self.number_of(&id) else {

@@ -25,7 +25,7 @@ impl World {
         if let Some(place) = self.used.place(Sought::Activity(activity)) {
             return Err(PrepareFault::Refused(Refusal::Duplicate { place }));
         }
-        match self.instances.awaiting(self.alloc, activity) {
+        match self.instances.awaiting(activity) {
             Ok(Some(number)) => ready(reply_change(self.alloc, number, activity, reply)),
             Ok(None) => Err(PrepareFault::Refused(Refusal::Stale)),
             Err(_) => Err(PrepareFault::OutOfMemory),
