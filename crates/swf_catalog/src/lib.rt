@@ -4,7 +4,6 @@
 mod crossing;
 mod documents;
 mod find;
-mod keeping;
 mod numbered;
 mod numbering;
 mod parts;

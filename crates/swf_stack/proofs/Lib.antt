@@ -1,4 +1,5 @@
 pub mod RoundLemmas
+pub mod KeptLemmas
 pub mod StandLemmas
 pub mod HeardLemmas
 pub mod Sends
