@@ -26,7 +26,7 @@ pub struct Instances {
     pub(crate) alarms: Alarms,
     /// Of each instance, what it listens for.
     pub(crate) listeners: Listeners,
-    /// Those of which that is not noted yet: they came or took a step since room was made last.
+    /// Those of which that is not noted yet: they came, took a step or were answered since room was made last.
     pub(crate) stale: Queue,
     /// The one that was reached last.
     pub(crate) moment: Moment,
@@ -65,7 +65,7 @@ impl Instances {
         }
     }
 
-    /// Makes room for one instance more, and notes what those listen for that came or took a step since it was made last.
+    /// Makes room for one instance more, and notes what those listen for that came, took a step or were answered since it was made last.
     pub fn reserve(&mut self) -> Result<(), AllocError>
         ensures instances { self.new.instances ≡ self.old.instances }
         ensures moment { self.new.moment ≡ self.old.moment }

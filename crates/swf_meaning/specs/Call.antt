@@ -21,7 +21,6 @@ use Rattle.swf_document.specs.declared.error.Problem.{Problem}
 use Rattle.swf_document.specs.declared.template.Field.{Field}
 use Rattle.swf_transform.specs.Fill.{fill, first_of}
 use Rattle.swf_transform.specs.Uris.{uri_of, with_query}
-use Rattle.swf_transform.specs.declared.got.Got.{Got}
 use Rattle.swf_meaning.specs.Complete.{Stepped, becomes, complete}
 use Rattle.swf_meaning.specs.Emit.{next_id}
 use Rattle.swf_meaning.specs.Line.{Line, Site, within}

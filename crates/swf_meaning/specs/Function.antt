@@ -1,6 +1,6 @@
 -- A function that is called, and a workflow that is run: a task of another definition runs inside the task (DSL reference, "Function
 -- Call" and "Run").
-use Rattle.std.specs.Prelude.{ℕ, zero, List, [], Bool, codes, nat_le, Option, Some, None, Result, Ok, if◌then◌else◌}
+use Rattle.std.specs.Prelude.{ℕ, zero, List, codes, nat_le, Option, Some, None, Result, Ok, if◌then◌else◌}
 use Rattle.swf_text.specs.Same.{same}
 use Rattle.swf_value.specs.Value.{Value, null}
 use Rattle.swf_document.specs.Task.{Task, Tasks, no_tasks, named}

@@ -1,4 +1,4 @@
--- What goes on without a step listens, or waits for a moment.
+-- What goes on without a step listens, waits for a moment, or awaits an answer.
 use Rattle.std.proofs.Common.{◌≡◌, ◌∙◌, refl, ap, sym, subst, cond, ℕ, zero, ◌+◌, ◌<◌, ◌⊎◌, inl, inr, ⊎_elim, List, [], ◌∷◌, map, length, codes, Bool, true, false, not, Option, Some, None, option_map, arith, ◌||◌}
 use Rattle.std.proofs.lemmas.Bool.{or_cases, or_left, or_right, both_ways, cases_Bool}
 use Rattle.std.proofs.lemmas.Option.{same_Some}
@@ -25,14 +25,15 @@ use Rattle.swf_runs.specs.Waiting.{IsListed, IsWaitListed}
 use Rattle.swf_runs.specs.Runs.{world_at, Legal}
 use Rattle.swf_runs.proofs.AliveLemmas.{local_alive}
 use Rattle.swf_runs.proofs.OfferLemmas.{alive_offered}
-use Rattle.swf_runs.proofs.WorldLemmas.{change, change_all, legal_keeps}
+use Rattle.swf_runs.proofs.ReplyLemmas.{alive_replied}
+use Rattle.swf_runs.proofs.WorldLemmas.{change, change_all, one_keeps, legal_keeps}
 
--- each step and each offer leaves an instance alive
+-- each step, each offer and each answer leaves an instance alive
 step_alive : (now : ℕ) (ds : List Loaded) (strand : List ℕ) (i : Instance) (m : Stepped) → step_at now ds strand i ≡ Some m → IsAlive i.node → IsAlive (with_step i m).node
 step_alive now ds strand i m s a = local_alive (site_of now ds i) (line_of i) strand i.node m s a
 
 alive_after : (w m : World) (l : Label) → IsAllAlive w → after w l ≡ Some m → IsAllAlive m
-alive_after w m l all e = change_all (λ i. IsAlive i.node) w m (λ id input d. tt) step_alive (λ x i a. alive_offered x i.node a) all (change w m l e)
+alive_after w m l all e = change_all (λ i. IsAlive i.node) w m (λ id input d. tt) step_alive (λ x i a. alive_offered x i.node a) (λ c r i a. one_keeps (λ i. IsAlive i.node) c r i (alive_replied c r i.node a) a) all (change w m l e)
 
 pub legal_alive : (h : List Label) → Legal h → IsAllAlive (world_at h)
 legal_alive h legal = legal_keeps IsAllAlive alive_after tt h legal

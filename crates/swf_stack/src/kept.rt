@@ -1,6 +1,6 @@
 // What a context that changed does to the tasks around.
 ghost use Rattle.std.specs.Prelude.{◌≡◌, IfOk};
-ghost use Rattle.swf_stack.specs.Kept.{context_kept, kept, kept_by};
+ghost use Rattle.swf_stack.specs.Kept.{context_kept, keeping_frame, kept, kept_by};
 
 use crate::made::Frame;
 use std::alloc::{AllocError, Global};
@@ -12,6 +12,30 @@ use swf_value::Json;
 pub struct Kept {
     pub around: Chain<Frame>,
     pub context: Option<Json>,
+}
+
+impl Frame {
+    /// The same once more. It copies no values.
+    pub fn copy(&self) -> Result<Frame, AllocError>
+        ensures { IfOk result (λ f. f ≡ self.now) }
+    {
+        Ok(Frame {
+            running: self.running.copy()?,
+            round: self.round.copy()?,
+            place: self.place,
+        })
+    }
+
+    /// The same once more, with another context where it runs a sub-workflow. It copies no values.
+    pub fn keeping(&self, context: Json) -> Result<Frame, AllocError>
+        ensures { IfOk result (λ f. f ≡ keeping_frame self.now context) }
+    {
+        Ok(Frame {
+            running: self.running.copy()?,
+            round: self.round.keeping(context)?,
+            place: self.place,
+        })
+    }
 }
 
 // The running tasks where the innermost sub-workflow keeps a context; none where there is no sub-workflow.

@@ -1,6 +1,5 @@
 // What an instance is made of, as a stack of the tasks that run inside each other.
 ghost use Rattle.std.specs.Prelude.{◌≡◌, ◌<◌, ◌-◌, ◌^◌, ◌++◌, [], IfOk, option_to_list};
-ghost use Rattle.swf_stack.specs.Kept.{keeping_frame};
 
 use crate::running::Running;
 use std::alloc::{AllocError, Global};
@@ -77,30 +76,6 @@ pub struct Made {
     pub context: Option<Json>,
     pub used: u64,
     pub emitted: Option<SentEvent>,
-}
-
-impl Frame {
-    /// The same once more. It copies no values.
-    pub fn copy(&self) -> Result<Frame, AllocError>
-        ensures { IfOk result (λ f. f ≡ self.now) }
-    {
-        Ok(Frame {
-            running: self.running.copy()?,
-            round: self.round.copy()?,
-            place: self.place,
-        })
-    }
-
-    /// The same once more, with another context where it runs a sub-workflow. It copies no values.
-    pub fn keeping(&self, context: Json) -> Result<Frame, AllocError>
-        ensures { IfOk result (λ f. f ≡ keeping_frame self.now context) }
-    {
-        Ok(Frame {
-            running: self.running.copy()?,
-            round: self.round.keeping(context)?,
-            place: self.place,
-        })
-    }
 }
 
 // What a call was answered once more, where it was.

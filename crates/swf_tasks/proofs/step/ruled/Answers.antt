@@ -7,7 +7,7 @@ use Rattle.swf_stack.specs.Stack.{plug, top_node}
 use Rattle.swf_stack.specs.Stands.{inward}
 use Rattle.swf_strands.proofs.StrandLemmas.{some-done, some-failed, no-fork}
 use Rattle.swf_tasks.specs.Taken.{IsListened}
-use Rattle.swf_tasks.proofs.StepLemmas.{made-fresh, made-waiting, made-hearing, made-moved, made-failed, enabled-hearing}
+use Rattle.swf_tasks.proofs.StepLemmas.{made-fresh, made-waiting, made-hearing, made-awaiting, made-moved, made-failed, enabled-hearing}
 use Rattle.swf_tasks.proofs.step.ruled.Goals as goal
 
 pub returns-in-Fresh : goal.returns-in-Fresh
@@ -27,8 +27,12 @@ returns-in-Hearing c = λ l seen.
     made-hearing (site_of c.args.scene.now) l z c.args.stand.now c.in-Hearing.running _ c.in-Hearing.heard c.listened.result (sym c.get.ensures ∙ c.in-Hearing.is) c.requires seen
     (subst (λ (hs : List Heard). IsListened z c.in-Hearing.running hs c.listened.result) c.as_slice.ensures c.listened.ensures)
 
-pub unreachable-requires : goal.unreachable-requires
-unreachable-requires c =
+pub returns-in-Awaiting-Some : goal.returns-in-Awaiting-Some
+returns-in-Awaiting-Some c = λ l seen.
+    made-awaiting (site_of c.args.scene.now) l (line_of c.args.scene.now) c.args.stand.now c.in-Awaiting.running c.in-Awaiting.activity c.in-Awaiting.request c.in-Awaiting-Some.reply c.answered.result (sym c.get.ensures ∙ c.in-Awaiting.is) seen c.answered.ensures
+
+pub unreachable-requires-in-Forked : goal.unreachable-requires-in-Forked
+unreachable-requires-in-Forked c =
     let fs = inward c.args.stand.now.around in
     no-fork c.args.scene.now.site.now fs c.in-Forked.field-0 (subst (λ t. can_go c.args.scene.now.site.now [] (plug fs (top_node t)) ≡ true) (sym c.get.ensures ∙ c.in-Forked.is) c.requires)
 
