@@ -4,6 +4,7 @@
 mod crossing;
 mod documents;
 mod find;
+mod keeping;
 mod numbered;
 mod numbering;
 mod parts;
