@@ -14,7 +14,6 @@ use swf_catalog::{Round, TaskRef};
 use swf_chain::Chain;
 use swf_jq_eval::Variable;
 use swf_stack::Frame;
-use swf_value::Json;
 
 /// What a step goes by: the setting of the instance, or of the sub-workflow around; how many branches the instance has, the moment and
 /// the loaded documents; the variables around the task that takes it; and how many functions and sub-workflows are around.
@@ -73,18 +72,9 @@ impl<'a> Scene<'a> {
         self.with_around(copy_variables(alloc, &self.around)?)
     }
 
-    /// The same with another context.
-    pub fn with_context(mut self, context: Json) -> Scene<'a>
-        ensures line { line_of result ≡ record (line_of self.entry) { context = context } }
-        ensures site { site_of result ≡ site_of self.entry }
-    {
-        self.setting.context = context;
-        self
-    }
-
     /// What a task goes by that runs with this setting in a function or a sub-workflow of one that goes by this.
     fn called(self, alloc: Global, setting: Setting) -> Result<Scene<'a>, AllocError>
-        requires { setting.number ≡ self.entry.setting.number }
+        requires { setting.number ≡ self.setting.number }
         ensures line { IfOk result (λ s. line_of s ≡ record (setting_line setting) { depth = (line_of self.entry).depth + 1 }) }
         ensures site { IfOk result (λ s. site_of s ≡ site_of self.entry) }
     {

@@ -2,7 +2,7 @@
 //! a whole session in which a call fails, and of a stop.
 //!
 //! A line of documents.txt is a document, and is followed by what `check` prints. The sessions of sessions.txt, events.txt,
-//! events-read.txt and script.txt have empty lines between them; each line is a command, followed by its reply, or begins with
+//! events-read.txt, script.txt, forks.txt and the files on calls have empty lines between them; each line is a command, followed by its reply, or begins with
 //! `!` (`src/session.rt` has the words), and `! reopen` ends the input and opens the store again. A line of faults.txt names a
 //! call that fails or the calls before a stop (`src/faults.rt`). A session of stops.txt is stopped after each call of its store,
 //! and given once more. A line that begins with `#` names what follows, and stands in the transcript as it is.
@@ -178,13 +178,17 @@ fn add_file(
 }
 
 /// The files with documents, sessions and rows.
-const FILES: [&str; 8] = [
+const FILES: [&str; 12] = [
     "documents.txt",
     "sessions.txt",
     "events.txt",
     "events-read.txt",
     "script.txt",
     "forks.txt",
+    "calls.txt",
+    "calls-functions.txt",
+    "calls-workflows.txt",
+    "calls-in-tasks.txt",
     "faults.txt",
     "stops.txt",
 ];
