@@ -1,5 +1,5 @@
 -- The functions of a document stand behind its tasks, and that of a name at the place that the name has.
-use Rattle.std.proofs.Common.{◌≡◌, ◌∙◌, ◌++◌, ◌+◌, ◌<◌, ℕ, zero, suc, List, [], length, Bool, true, false, Option, Some, None, ap, arith, refl, sym}
+use Rattle.std.proofs.Common.{◌≡◌, ◌∙◌, ◌++◌, ◌+◌, ◌<◌, ℕ, zero, suc, List, [], length, Bool, true, false, Some, ap, arith, refl, sym}
 use Rattle.std.specs.Prelude.{is_some, if◌then◌else◌, option_and_then}
 use Rattle.std.proofs.lemmas.Option.{same_Some}
 use Rattle.swf_text.specs.Same.{same}

@@ -1,6 +1,5 @@
-use Rattle.std.proofs.Common.{◌≡◌, ◌∙◌, Some, ap, sym, zero}
+use Rattle.std.proofs.Common.{◌≡◌, ◌∙◌, ap, sym, zero}
 use Rattle.std.specs.Prelude.{is_some, option_and_then}
-use Rattle.swf_document.specs.Task.{Tasks}
 use Rattle.swf_document.specs.TaskNode.{tasks_of}
 use Rattle.swf_document.specs.declared.document.Document.{Document}
 use Rattle.swf_meaning.specs.Next.{place_from, task_at}
