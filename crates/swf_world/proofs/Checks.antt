@@ -161,12 +161,12 @@ reply_stale w activity r e closed = ap (λ o. duplicate o (refusal_of_reply w ac
 -- the change of an answer that is not refused
 pub reply_prepares : {E : Type 0} (w : World) (activity : List ℕ) (r : CallReply) (n : ℕ) (made : Result Change E) → used_at (keys.Activity activity) w.keys ≡ None → is_open activity w ≡ true → IsOpenAt activity w.instances n → IfOk made (λ c. c ≡ reply_of n activity r) →
     Prepares w (Reply activity r) (or_memory made)
-reply_prepares w activity r n made e open there m =
+reply_prepares w activity r n made e awaits there m =
     let new : is_used (keys.Activity activity) w ≡ false = sym (used_some (keys.Activity activity) w.keys) ∙ ap is_some e in
     made_or_not w (Reply activity r) (reply_of n activity r) made m (
-      record { new = new; open = there },
-      (λ i. cond (new i || not (open i)) None (Some (with_answer w activity r))),
-      ap (λ o. duplicate o (refusal_of_reply w activity)) e ∙ ap (λ b. cause (not b) Stale None) open,
+      record { new = new; awaits = there },
+      (λ i. cond (new i || not (awaits i)) None (Some (with_answer w activity r))),
+      ap (λ o. duplicate o (refusal_of_reply w activity)) e ∙ ap (λ b. cause (not b) Stale None) awaits,
       refl,
     )
 
