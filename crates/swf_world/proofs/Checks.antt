@@ -30,7 +30,7 @@ use Rattle.swf_world.specs.declared.change.ChangeKind.{ChangeKind}
 use Rattle.swf_world.specs.declared.change.ChangeKind.TheVariants as kinds
 use Rattle.swf_instances.specs.declared.offer.Hearing.{Hearing}
 use Rattle.swf_world.specs.declared.refusal.Refusal.{Refusal}
-use Rattle.swf_world.specs.declared.refusal.Refusal.TheVariants.{Refused as ForFaults, Duplicate, Stale, Full, Past, NotEnabled}
+use Rattle.swf_world.specs.declared.refusal.Refusal.TheVariants.{Refused as ForFaults, Stale, Full, Past, NotEnabled}
 use Rattle.swf_world.specs.declared.refusal.PrepareFault.{PrepareFault}
 use Rattle.swf_world.specs.declared.refusal.PrepareFault.TheVariants.{Refused, OutOfMemory}
 use Rattle.swf_registry.specs.UsedKey.{used_at}
@@ -151,22 +151,15 @@ event_prepares w e (Ok c) t m =
     (p.0, p.1, t, m.taken)
 event_prepares w e (Err x) t m = tt
 
--- an answer whose key was used, and one of an activity that is not open
-pub reply_duplicate : (w : World) (activity : List ℕ) (r : CallReply) (place : ℕ) → used_at (keys.Activity activity) w.keys ≡ Some place → refusal w (Reply activity r) ≡ Some (Duplicate place)
-reply_duplicate w activity r place e = ap (λ o. duplicate o (refusal_of_reply w activity)) e
-
-pub reply_stale : (w : World) (activity : List ℕ) (r : CallReply) → used_at (keys.Activity activity) w.keys ≡ None → is_open activity w ≡ false → refusal w (Reply activity r) ≡ Some Stale
-reply_stale w activity r e closed = ap (λ o. duplicate o (refusal_of_reply w activity)) e ∙ ap (λ b. cause (not b) Stale None) closed
-
 -- the change of an answer that is not refused
 pub reply_prepares : {E : Type 0} (w : World) (activity : List ℕ) (r : CallReply) (n : ℕ) (made : Result Change E) → used_at (keys.Activity activity) w.keys ≡ None → is_open activity w ≡ true → IsOpenAt activity w.instances n → IfOk made (λ c. c ≡ reply_of n activity r) →
     Prepares w (Reply activity r) (or_memory made)
-reply_prepares w activity r n made e open there m =
+reply_prepares w activity r n made e awaits there m =
     let new : is_used (keys.Activity activity) w ≡ false = sym (used_some (keys.Activity activity) w.keys) ∙ ap is_some e in
     made_or_not w (Reply activity r) (reply_of n activity r) made m (
-      record { new = new; open = there },
-      (λ i. cond (new i || not (open i)) None (Some (with_answer w activity r))),
-      ap (λ o. duplicate o (refusal_of_reply w activity)) e ∙ ap (λ b. cause (not b) Stale None) open,
+      record { new = new; awaits = there },
+      (λ i. cond (new i || not (awaits i)) None (Some (with_answer w activity r))),
+      ap (λ o. duplicate o (refusal_of_reply w activity)) e ∙ ap (λ b. cause (not b) Stale None) awaits,
       refl,
     )
 

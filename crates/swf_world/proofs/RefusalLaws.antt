@@ -72,8 +72,8 @@ event_agrees : (w : World) (e : Event) (o : Option ℕ) → Agree (cond (is_some
 event_agrees w e (Some p) = refl
 event_agrees w e None = refl
 
-reply_agrees : (w : World) (o : Option ℕ) (open : Bool) → Agree (cond (is_some o || not open) None (Some w)) (duplicate o (cause (not open) Stale None))
-reply_agrees w (Some p) open = refl
+reply_agrees : (w : World) (o : Option ℕ) (awaits : Bool) → Agree (cond (is_some o || not awaits) None (Some w)) (duplicate o (cause (not awaits) Stale None))
+reply_agrees w (Some p) awaits = refl
 reply_agrees w None true = refl
 reply_agrees w None false = refl
 

@@ -46,7 +46,7 @@ pub record SuitsEvent (w : World) (used : Key) (heard : List Hearing) : Type 0 w
 -- an activity's key, which was not used, and the number of the instance in which the activity is open
 pub record SuitsReply (w : World) (n : ℕ) (activity : List ℕ) : Type 0 where
   pub new : is_used (keys.Activity activity) w ≡ false
-  pub open : IsOpenAt activity w.instances n
+  pub awaits : IsOpenAt activity w.instances n
 
 -- a moment above the one that was reached, and no later than the last
 pub record SuitsMoment (w : World) (moment : ℕ) : Type 0 where

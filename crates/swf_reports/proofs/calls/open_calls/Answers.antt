@@ -7,4 +7,4 @@ use Rattle.swf_reports.proofs.calls.open_calls.Goals as goal
 pub loop-number-preserved : goal.loop-number-preserved
 loop-number-preserved c =
     told_more (λ (i : Instance). open_calls i.node) c.args.instances.now.instances c.loop-number.number c.at.result.now _ _ c.at.ensures.there
-    (c.append.ensures.items ∙ ap (λ cs. c.loop-number.calls.items ++ cs) c.in_ok-more.ensures) c.loop-number.invariant
+    (c.in_ok-append.ensures.items ∙ ap (λ cs. c.loop-number.calls.items ++ cs) c.in_ok-more.ensures) c.loop-number.invariant

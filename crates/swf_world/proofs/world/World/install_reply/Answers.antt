@@ -8,7 +8,7 @@ use Rattle.swf_world.proofs.Grows.{kept_changed, kept_answered, not_used_in}
 use Rattle.swf_world.proofs.world.World.install_reply.Goals as goal
 
 pub reply-requires : goal.reply-requires
-reply-requires c = subst (λ h. IsOpenAt c.args.activity h.world.instances c.args.number) (sym c.self.view_is) c.requires.suits.open
+reply-requires c = subst (λ h. IsOpenAt c.args.activity h.world.instances c.args.number) (sym c.self.view_is) c.requires.suits.awaits
 
 pub add-requires-clause-new : goal.add-requires-clause-new
 add-requires-clause-new c = not_used_in (world_of c.self.inside) c.args.self.now.world (keys.Activity c.args.activity) (keys.Activity c.args.activity) (ap (λ h. h.world) c.self.view_is) refl c.requires.suits.new
