@@ -3,7 +3,7 @@ use Rattle.std.proofs.Common.{◌≡◌, ◌∙◌, ◌++◌, ◌+◌, ◌<◌, 
 use Rattle.std.specs.Prelude.{is_some, if◌then◌else◌, option_and_then}
 use Rattle.std.proofs.lemmas.Option.{same_Some}
 use Rattle.swf_text.specs.Same.{same}
-use Rattle.swf_document.specs.Task.{Task, Tasks, no_tasks, named}
+use Rattle.swf_document.specs.Task.{Tasks, no_tasks, named}
 use Rattle.swf_document.specs.declared.document.Document.{Document}
 use Rattle.swf_meaning.specs.Function.{function_in}
 use Rattle.swf_meaning.specs.Next.{place_from, task_at}

@@ -5,7 +5,7 @@ use Rattle.std.specs.Option.{option_or}
 use Rattle.std.specs.Prelude.{◌||◌, ◌==◌, is_some, slice_set, if◌then◌else◌}
 use Rattle.swf_calls.specs.declared.reply.CallReply.{CallReply}
 use Rattle.swf_frames.specs.Tree.{Tree, Strands, no_strands, strand, Branch, find, changed, with_top}
-use Rattle.swf_frames.specs.Paths.{Found, nth, edit, edit_nth, has, AreDistinct}
+use Rattle.swf_frames.specs.Paths.{Found, nth, edit_nth, has, AreDistinct}
 use Rattle.swf_frames.proofs.PathLemmas.{edit-child, edit-same, changed-edit}
 use Rattle.swf_meaning.specs.Reply.{is_open}
 use Rattle.swf_stack.specs.Stands.{top_of}
