@@ -43,14 +43,14 @@ pub lacks : {E : Type 0} (request : Request) (e : E) (faults : ℕ) (talks : Opt
 lacks request e faults talks = lacks_at request e (reached request) faults talks
 
 pub unreached_url : {E : Type 0} (request : Request) (uri : List ℕ) (e : ParseError) (faults : ℕ) (talks : Option (List Talk)) → uri ≡ request.uri
-    → parse_url None (encode_utf8_all uri) ≡ Err e → Performs {E} request (Ok Unreached) faults faults talks talks
-unreached_url {E} request uri e faults talks same is =
-    subst (λ (to : Option Target). EndsAt {E} request to (Ok Unreached) faults faults talks talks) (sym (no_url request uri e same is)) (tt, refl, refl)
+    → parse_url None (encode_utf8_all uri) ≡ Err e → Performs {E = E} request (Ok Unreached) faults faults talks talks
+unreached_url {E = E} request uri e faults talks same is =
+    subst (λ (to : Option Target). EndsAt {E = E} request to (Ok Unreached) faults faults talks talks) (sym (no_url request uri e same is)) (tt, refl, refl)
 
 pub unreached_host : {E : Type 0} (request : Request) (uri : List ℕ) (url : Parts) (faults : ℕ) (talks : Option (List Talk)) → uri ≡ request.uri
-    → parse_url None (encode_utf8_all uri) ≡ Ok url → None ≡ host_of url → Performs {E} request (Ok Unreached) faults faults talks talks
-unreached_host {E} request uri url faults talks same is none =
-    subst (λ (to : Option Target). EndsAt {E} request to (Ok Unreached) faults faults talks talks) (sym (no_host request uri url same is none)) (tt, refl, refl)
+    → parse_url None (encode_utf8_all uri) ≡ Ok url → None ≡ host_of url → Performs {E = E} request (Ok Unreached) faults faults talks talks
+unreached_host {E = E} request uri url faults talks same is none =
+    subst (λ (to : Option Target). EndsAt {E = E} request to (Ok Unreached) faults faults talks talks) (sym (no_host request uri url same is none)) (tt, refl, refl)
 
 pub reached_host : {E : Type 0} (request : Request) (uri : List ℕ) (url : Parts) (host : List ℕ) (result : Result CallReply E) (faults now : ℕ) (old new : Option (List Talk))
     → uri ≡ request.uri → parse_url None (encode_utf8_all uri) ≡ Ok url → Some host ≡ host_of url
@@ -66,8 +66,8 @@ pub ends_answered : {E : Type 0} (request : Request) (to : Target) (message : Me
     (faults now : ℕ) (old new : Option (List Talk)) → IsFor request to message head port → FailsBy (Ok response) faults now
     → Exchanges to.host port (request_bytes message) head (Ok response) old new → IfOk result (λ reply. reply ≡ reply_for response)
     → Ends request to result faults now old new
-ends_answered {E} request to message head port response (Ok reply) faults now old new is fails adds given =
-    subst (λ (r : CallReply). Ends {E} request to (Ok r) faults now old new) (sym given) (
+ends_answered {E = E} request to message head port response (Ok reply) faults now old new is fails adds given =
+    subst (λ (r : CallReply). Ends {E = E} request to (Ok r) faults now old new) (sym given) (
       fails,
       λ before told.
           let a = subst (λ (p : ℕ). Exchanges to.host p (request_bytes message) head (Ok response) old new) is.2 adds in
@@ -79,16 +79,16 @@ ends_answered request to message head port response (Err e) faults now old new i
     (fails, λ before told. let c = adds before told in inr (_, c.new_is))
 
 pub ends_lacking : {E : Type 0} (request : Request) (to : Target) (host : List ℕ) (port : ℕ) (bytes : List ℕ) (head : Bool) (e : E) (faults now : ℕ) (old new : Option (List Talk))
-    → FailsBy {Response} (Err OutOfMemory) faults now → Exchanges host port bytes head (Err OutOfMemory) old new → Ends request to (Err e) faults now old new
+    → FailsBy {T = Response} (Err OutOfMemory) faults now → Exchanges host port bytes head (Err OutOfMemory) old new → Ends request to (Err e) faults now old new
 ends_lacking request to host port bytes head e faults now old new fails adds = (fails, adds)
 
 pub ends_failed : {E : Type 0} (request : Request) (to : Target) (host : List ℕ) (port : ℕ) (bytes : List ℕ) (head : Bool) (faults now : ℕ) (old new : Option (List Talk))
-    → FailsBy {Response} (Err Failed) faults now → Exchanges host port bytes head (Err Failed) old new → Ends {E} request to (Ok Unreached) faults now old new
+    → FailsBy {T = Response} (Err Failed) faults now → Exchanges host port bytes head (Err Failed) old new → Ends {E = E} request to (Ok Unreached) faults now old new
 ends_failed request to host port bytes head faults now old new fails adds = inl (fails, adds)
 
 pub ends_refused : {E : Type 0} (request : Request) (to : Target) (message : Message) (head : Bool) (port : ℕ) (faults now : ℕ) (old new : Option (List Talk))
-    → IsFor request to message head port → FailsBy {Response} (Err NoResponse) faults now
-    → Exchanges to.host port (request_bytes message) head (Err NoResponse) old new → Ends {E} request to (Ok Unreached) faults now old new
+    → IsFor request to message head port → FailsBy {T = Response} (Err NoResponse) faults now
+    → Exchanges to.host port (request_bytes message) head (Err NoResponse) old new → Ends {E = E} request to (Ok Unreached) faults now old new
 ends_refused request to message head port faults now old new is fails adds = inr (
   fails,
   λ before told.

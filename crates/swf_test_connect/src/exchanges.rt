@@ -118,7 +118,7 @@ fn exchange(
     }
     let first = connector.perform(&request)?;
     let second = connector.perform(&request)?;
-    if reply_text(alloc, &second)?.as_slice() != b"{\"unreached\":true}" {
+    if reply_text(alloc, &second)?.as_slice() != b"{\"unreached\":true}".as_slice() {
         return Ok(None);
     }
     let written = match connector.dial().last() {
