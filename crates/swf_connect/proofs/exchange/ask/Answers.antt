@@ -32,7 +32,7 @@ returns-in-Err-Write-clause-cause g c = λ reads writes.
     let write = g.met.L.Link.write_keeps c.write_request.new.to c.args.link.now c.write_request.ensures.kept in
     let none = write.1 ∙ reads in
     rose_on (g.L.Sink.write_faults c.args.link.now) (g.L.Sink.write_faults c.write_request.new.to) 0
-    (g.L.Source.faults c.write_request.new.to + g.L.Sink.write_faults c.write_request.new.to) c.in-Err-Write.ensures.cause writes (omega (arith, none))
+    (g.L.Source.faults c.write_request.new.to + g.L.Sink.write_faults c.write_request.new.to) (rw c.in-Err-Write.field-0-is at c.in-Err-Write.ensures.cause) writes (omega (arith, none))
 
 pub returns-in-Err-OutOfMemory-clause-about : goal.returns-in-Err-OutOfMemory-clause-about
 returns-in-Err-OutOfMemory-clause-about g c = (g.met.L.Link.write_keeps c.write_request.new.to c.args.link.now c.write_request.ensures.kept).2
@@ -41,5 +41,6 @@ pub returns-in-Err-OutOfMemory-clause-cause : goal.returns-in-Err-OutOfMemory-cl
 returns-in-Err-OutOfMemory-clause-cause g c = λ reads writes.
     let write = g.met.L.Link.write_keeps c.write_request.new.to c.args.link.now c.write_request.ensures.kept in
     let read = write.1 ∙ reads in
-    let wrote = c.in-Err-OutOfMemory.ensures.cause ∙ writes in
+    let cause : g.L.Sink.write_faults c.write_request.new.to ≡ g.L.Sink.write_faults c.args.link.now = rw c.in-Err-OutOfMemory.field-0-is at c.in-Err-OutOfMemory.ensures.cause in
+    let wrote = cause ∙ writes in
     omega (arith, read, wrote)
