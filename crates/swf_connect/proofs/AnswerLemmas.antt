@@ -1,12 +1,12 @@
 -- From an exchange to what a request comes to.
-use Rattle.std.proofs.Common.{◌≡◌, ◌∙◌, sym, subst, refl, ap, ℕ, List, [], ◌∷◌, ◌++◌, Bool, Option, Some, None, Result, Ok, Err, IfOk, IsErr, inl, inr}
+use Rattle.std.proofs.Common.{◌≡◌, ◌∙◌, sym, subst, refl, ap, ℕ, List, Bool, Option, Some, None, Result, Ok, Err, IfOk, IsErr, inl, inr}
 use Rattle.std.specs.Str.{encode_utf8_all}
 use Rattle.url.specs.declared.error.ParseError.{ParseError}
 use Rattle.url.specs.Parts.{Parts}
 use Rattle.url.specs.Parser.{parse_url}
 use Rattle.swf_calls.specs.Request.{Request}
 use Rattle.swf_calls.specs.declared.reply.CallReply.{CallReply}
-use Rattle.swf_calls.specs.declared.reply.CallReply.TheVariants.{Answer, Unreached}
+use Rattle.swf_calls.specs.declared.reply.CallReply.TheVariants.{Unreached}
 use Rattle.swf_http.specs.declared.message.Request.{Request as Message}
 use Rattle.swf_http.specs.declared.message.Response.{Response}
 use Rattle.swf_http.specs.Sent.{request_bytes}

@@ -1,5 +1,5 @@
 -- From what stands on a link to what an exchange adds.
-use Rattle.std.proofs.Common.{◌≡◌, ◌∙◌, sym, subst, refl, ap, ℕ, ◌+◌, ◌-◌, ◌^◌, ◌≤◌, min, List, [], ◌∷◌, ◌++◌, Bool, Option, Some, Result, Ok, Err, inl, inr, arith}
+use Rattle.std.proofs.Common.{◌≡◌, ◌∙◌, subst, ℕ, ◌+◌, List, [], ◌++◌, Bool, Option, Some, Result, Ok, Err, inl, inr, arith}
 use Rattle.swf_store.specs.Faults.{RoseOnce}
 use Rattle.swf_http.specs.declared.message.Response.{Response}
 use Rattle.swf_connect.specs.declared.exchange.ExchangeFault.{ExchangeFault}

@@ -5,7 +5,7 @@ use Rattle.std.proofs.lemmas.List.Elements.{All-nil, All-cons, All-head, All-tai
 use Rattle.swf_calls.specs.Request.{Request}
 use Rattle.swf_calls.specs.declared.reply.CallReply.{CallReply}
 use Rattle.swf_calls.specs.declared.reply.CallReply.TheVariants.{Unreached}
-use Rattle.swf_connect.specs.Parties.{Party, IsAsked, AsksFirst, AsksNone, Performs}
+use Rattle.swf_connect.specs.Parties.{Party, IsAsked, Performs}
 
 -- the items before a place, the one there, and those behind
 parted : {A : Type 0} (m : A → Party) (items : List A) (place : ℕ) (d : A) → place < length items

@@ -1,7 +1,6 @@
 -- The parts of a URL with a host are visible.
-use Rattle.std.proofs.Common.{◌≡◌, ◌∙◌, sym, subst, refl, ap, ℕ, ◌<◌, ◌≤◌, ◌^◌, List, [], ◌∷◌, ◌++◌, Bool, true, false, not, ◌&&◌, ◌||◌, ◌==◌, nat_lt, cond, codes, length, length-append, Option, Some, None, option_map, All, inl, inr, arith, ⊎_elim}
+use Rattle.std.proofs.Common.{◌≡◌, sym, subst, refl, ℕ, ◌<◌, List, [], ◌∷◌, ◌++◌, Bool, true, false, not, ◌&&◌, ◌||◌, ◌==◌, nat_lt, cond, codes, length, length-append, Option, Some, None, option_map, All, arith, ⊎_elim}
 use Rattle.std.specs.List.{list_any}
-use Rattle.std.specs.Option.{is_some}
 use Rattle.std.specs.Prelude.{IfSome}
 use Rattle.std.proofs.lemmas.Bool.Decides.{nat_tests}
 use Rattle.std.proofs.lemmas.List.Elements.{All-nil, All-cons, All-head, All-tail, All-append, All-weaker}
@@ -20,7 +19,7 @@ use Rattle.url.proofs.SetLemmas.{passes_from_kept}
 use Rattle.url.proofs.ValidLemmas.{segment_list_kept}
 use Rattle.swf_http.specs.Sent.{is_visible}
 use Rattle.swf_connect.specs.Reaching.{host_of}
-use Rattle.swf_connect.specs.Sending.{host_value, origin_form, path_part, port_part, query_part}
+use Rattle.swf_connect.specs.Sending.{host_value, origin_form, port_part, query_part}
 use Rattle.swf_connect.specs.Sending.{is_json_body, is_named, IsMessage}
 use Rattle.swf_text.specs.Same.{is_ascii}
 use Rattle.swf_calls.specs.Request.{Request, are_sendable}

@@ -1,4 +1,4 @@
-use Rattle.std.proofs.Common.{◌≡◌, ◌∙◌, refl}
+use Rattle.std.proofs.Common.{refl}
 use Rattle.swf_http.specs.Sent.{request_bytes}
 use Rattle.swf_connect.proofs.ExchangeLemmas.{counted, moved, not_dialed, talk_added}
 use Rattle.swf_connect.proofs.exchange.exchange.Goals as goal
