@@ -1,5 +1,6 @@
 -- From what stands on a link to what an exchange adds.
-use Rattle.std.proofs.Common.{◌≡◌, ◌∙◌, sym, subst, refl, ap, ℕ, ◌+◌, ◌-◌, ◌^◌, ◌≤◌, min, List, [], ◌∷◌, ◌++◌, Bool, Option, Some, Result, Ok, Err, inl, inr, arith}
+use Rattle.std.proofs.Common.{◌≡◌, ◌∙◌, subst, ℕ, ◌+◌, List, [], ◌++◌, Bool, Option, Some, Result, Ok, Err, inl, inr, arith}
+use Rattle.swf_store.specs.Faults.{RoseOnce}
 use Rattle.swf_http.specs.declared.message.Response.{Response}
 use Rattle.swf_connect.specs.declared.exchange.ExchangeFault.{ExchangeFault}
 use Rattle.swf_connect.specs.declared.exchange.ExchangeFault.TheVariants.{Failed, NoResponse, OutOfMemory}
@@ -38,6 +39,9 @@ asked request head (Err OutOfMemory) left left_now written written_now written_e
 
 pub moved : {T : Type 0} (r : Result T ExchangeFault) (a b c d : ℕ) → FailsBy r a b → a ≡ c → b ≡ d → FailsBy r c d
 moved r a b c d fails start end = subst (λ (n : ℕ). FailsBy r n d) start (subst (λ (n : ℕ). FailsBy r a n) end fails)
+
+pub rose_on : (a b c d : ℕ) → RoseOnce a b → a ≡ c → b ≡ d → RoseOnce c d
+rose_on a b c d rose start end = subst (λ (n : ℕ). RoseOnce n d) start (subst (λ (n : ℕ). RoseOnce a n) end rose)
 
 pub counted : {T : Type 0} (r : Result T ExchangeFault) (before reads writes now : ℕ) → FailsBy r 0 (reads + writes)
     → now ≡ with_faults before reads writes → FailsBy r before now
@@ -84,3 +88,8 @@ talk_added host port request head (Err OutOfMemory) old now new about about_end 
       record { about = record { host = host; port = port; bytes = at.bytes }; written = got.0 },
       hung (record { host = host; port = port; bytes = at.bytes }) got.0 before (kept ∙ at.about_is) got.1 (same ∙ told),
     )
+
+-- nothing is added where nobody is reached
+pub not_dialed : (host : List ℕ) (port : ℕ) (request : List ℕ) (head : Bool) (old new : Option (List Talk)) → new ≡ old
+    → Exchanges host port request head (Err Failed) old new
+not_dialed host port request head old new same = λ before told. inl (same ∙ told)

@@ -1,5 +1,7 @@
 pub mod AnswerLemmas
+pub mod ContentLemmas
 pub mod ExchangeLemmas
+pub mod MemoryLemmas
 pub mod PartyLemmas
 pub mod SendLemmas
 pub mod TargetLemmas

@@ -1,11 +1,11 @@
 -- From the place of the first connector that takes a request to what contracts see of all.
-use Rattle.std.proofs.Common.{◌≡◌, ◌∙◌, sym, subst, refl, ap, ℕ, zero, suc, ◌<◌, ◌≤◌, List, [], ◌∷◌, ◌++◌, true, false, length, take, drop, get_or, slice_set, map, All, Result, Ok, inl, inr, arith}
+use Rattle.std.proofs.Common.{◌≡◌, ◌∙◌, sym, subst, refl, ap, ℕ, zero, suc, ◌+◌, ◌<◌, ◌≤◌, List, [], ◌∷◌, ◌++◌, true, false, length, take, drop, get_or, slice_set, map, All, Result, Ok, inl, inr, arith}
 use Rattle.std.proofs.lemmas.List.{take_all}
-use Rattle.std.proofs.lemmas.List.Elements.{All-nil, All-cons, All-head, All-tail}
+use Rattle.std.proofs.lemmas.List.Elements.{All-nil, All-cons, All-head, All-tail, All-more}
 use Rattle.swf_calls.specs.Request.{Request}
 use Rattle.swf_calls.specs.declared.reply.CallReply.{CallReply}
 use Rattle.swf_calls.specs.declared.reply.CallReply.TheVariants.{Unreached}
-use Rattle.swf_connect.specs.Parties.{Party, IsAsked, AsksFirst, AsksNone, Performs}
+use Rattle.swf_connect.specs.Parties.{Party, IsAsked, Performs}
 
 -- the items before a place, the one there, and those behind
 parted : {A : Type 0} (m : A → Party) (items : List A) (place : ℕ) (d : A) → place < length items
@@ -57,3 +57,7 @@ none_asked {A} m q r old items place same past none is = inr (record {
   same = ap (λ (t : List A). map m t) same;
   nobody = is;
 })
+
+pub none_more : {A : Type 0} (P : A → Type 0) (items : List A) (place : ℕ) (x : A) → place < length items → All P (take place items) → x ≡ get_or items place x → P x
+    → All P (take (place + 1) items)
+none_more P items place x within all is here = All-more P items place x within all (subst P is here)

@@ -1,5 +1,5 @@
 -- What is sent can be sent.
-use Rattle.std.proofs.Common.{◌≡◌, ◌∙◌, sym, subst, refl, ap, ℕ, zero, suc, ◌+◌, ◌-◌, ◌<◌, ◌≤◌, ◌^◌, List, [], ◌∷◌, ◌++◌, Bool, true, false, not, ◌&&◌, ◌||◌, ◌==◌, nat_lt, codes, decimal, length, get_or, reverse, fold, filter, Option, Some, None, All, cond, inl, inr, arith}
+use Rattle.std.proofs.Common.{◌≡◌, ◌∙◌, sym, subst, refl, ap, ℕ, ◌-◌, ◌<◌, ◌^◌, List, [], ◌∷◌, Bool, true, false, not, ◌&&◌, ◌||◌, nat_lt, codes, decimal, length, reverse, All, cond, arith}
 use Rattle.std.specs.Int.{IsInRange}
 use Rattle.std.specs.List.{list_all}
 use Rattle.std.specs.Ordering.{nat_cmp}
@@ -9,7 +9,7 @@ use Rattle.std.specs.Cmp.Lexicographic.{slice_cmp}
 use Rattle.std.proofs.lemmas.Bool.{ltb-true}
 use Rattle.std.proofs.lemmas.Bool.Decides.{nat_tests}
 use Rattle.std.proofs.lemmas.List.{reverse-reverse, get_or-reverse, length-reverse}
-use Rattle.std.proofs.lemmas.List.Elements.{All-nil, All-cons, All-head, All-tail, All-append, All-weaker, All-filter, All-get_or, All-from_get_or}
+use Rattle.std.proofs.lemmas.List.Elements.{All-nil, All-cons, All-head, All-tail, All-weaker, All-filter, All-get_or, All-from_get_or}
 use Rattle.httparse.specs.Grammar.{AllPass, IsToken, is_token_byte, is_ows, skip_ows, trim_ows}
 use Rattle.swf_text.proofs.SameLemmas.{both_true}
 use Rattle.swf_calls.specs.declared.headers.Header.{Header}
@@ -19,7 +19,7 @@ use Rattle.swf_calls.specs.Headers.{later_field, placed, put_field}
 use Rattle.swf_calls.specs.Request.{are_sendable, begins_blank, is_blank, is_field_name, is_field_value, is_name_character, is_sendable, is_visible as is_visible_character, method_name}
 use Rattle.swf_http.specs.Sent.{is_visible, IsPlain, IsSendable}
 use Rattle.url.proofs.HostRoundTrip.{All-decimal}
-use Rattle.swf_connect.specs.Sending.{is_withheld, own_headers, passed_headers, put_fields, type_headers}
+use Rattle.swf_connect.specs.Sending.{is_withheld, own_headers, passed_headers, put_fields}
 
 -- ---- names and values
 

@@ -1,7 +1,6 @@
 -- The parts of a URL with a host are visible.
-use Rattle.std.proofs.Common.{◌≡◌, ◌∙◌, sym, subst, refl, ap, ℕ, ◌<◌, ◌≤◌, ◌^◌, List, [], ◌∷◌, ◌++◌, Bool, true, false, not, ◌&&◌, ◌||◌, ◌==◌, nat_lt, codes, length, Option, Some, None, option_map, All, inl, inr, arith, ⊎_elim}
+use Rattle.std.proofs.Common.{◌≡◌, sym, subst, refl, ℕ, ◌<◌, List, [], ◌∷◌, ◌++◌, Bool, true, false, not, ◌&&◌, ◌||◌, ◌==◌, nat_lt, cond, codes, length, length-append, Option, Some, None, option_map, All, arith, ⊎_elim}
 use Rattle.std.specs.List.{list_any}
-use Rattle.std.specs.Option.{is_some}
 use Rattle.std.specs.Prelude.{IfSome}
 use Rattle.std.proofs.lemmas.Bool.Decides.{nat_tests}
 use Rattle.std.proofs.lemmas.List.Elements.{All-nil, All-cons, All-head, All-tail, All-append, All-weaker}
@@ -20,7 +19,7 @@ use Rattle.url.proofs.SetLemmas.{passes_from_kept}
 use Rattle.url.proofs.ValidLemmas.{segment_list_kept}
 use Rattle.swf_http.specs.Sent.{is_visible}
 use Rattle.swf_connect.specs.Reaching.{host_of}
-use Rattle.swf_connect.specs.Sending.{host_value, origin_form, path_part, port_part, query_part}
+use Rattle.swf_connect.specs.Sending.{host_value, origin_form, port_part, query_part}
 use Rattle.swf_connect.specs.Sending.{is_json_body, is_named, IsMessage}
 use Rattle.swf_text.specs.Same.{is_ascii}
 use Rattle.swf_calls.specs.Request.{Request, are_sendable}
@@ -44,7 +43,7 @@ host_visible kind host =
     All-host_text Seen kind host (passes_from_kept FORBIDDEN_DOMAIN is_visible refl) opaque_visible (λ b digit. grind (arith, nat_tests)) (λ b hex. grind (arith, nat_tests)) refl refl
 
 -- what a choice gives is what was chosen from
-chosen : (b : Bool) (o : Option (Host (List ℕ))) (h : Host (List ℕ)) → (if b then o else None) ≡ Some h → o ≡ Some h
+chosen : (b : Bool) (o : Option (Host (List ℕ))) (h : Host (List ℕ)) → cond b o None ≡ Some h → o ≡ Some h
 chosen true o h e = e
 chosen false o h e = cc
 
@@ -74,14 +73,14 @@ value_visible url t valid e =
 -- ---- the target
 
 based : (url : Parts) (h : Host (List ℕ)) → url.host ≡ Some h → cannot_be_a_base url ≡ true → ⊥
-based url h there is = rw there at is
+based url h there is = let e : false ≡ true = rw there at is in cc
 
 pub path_visible : (url : Parts) (t : List ℕ) → IsValid url → Some t ≡ host_of url → AllPass is_visible url.path
 path_visible url t valid e =
     ⊎_elim (λ segments. All-weaker (IsKept PATH) Seen (passes_from_kept PATH is_visible refl) url.path (segment_list_kept (kind_of url) url.path segments.0))
     (λ opaque. let p = hosted url t e in absurd (based url p.0 p.1 opaque.0)) valid.path
 
-query_kept : (special : Bool) (b : ℕ) → IsKept (if special then SPECIAL_QUERY else QUERY) b → Seen b
+query_kept : (special : Bool) (b : ℕ) → IsKept (cond special SPECIAL_QUERY QUERY) b → Seen b
 query_kept true b kept = passes_from_kept SPECIAL_QUERY is_visible refl b kept
 query_kept false b kept = passes_from_kept QUERY is_visible refl b kept
 
@@ -89,7 +88,7 @@ pub query_visible : (url : Parts) (q : List ℕ) → IsValid url → url.query �
 query_visible url q valid e = All-weaker (IsKept (query_set (kind_of url))) Seen (query_kept (is_special (kind_of url))) q (rw e at valid.query)
 
 parts_visible : (path : List ℕ) (query : Option (List ℕ)) → AllPass is_visible path → ((q : List ℕ) → query ≡ Some q → AllPass is_visible q)
-    → (b : Bool) → AllPass is_visible ((if b then codes "/" else path) ++ query_part query)
+    → (b : Bool) → AllPass is_visible (cond b (codes "/") path ++ query_part query)
 parts_visible path None all each true = All-cons Seen 47 [] refl (All-nil Seen)
 parts_visible path None all each false = All-append Seen path [] all (All-nil Seen)
 parts_visible path (Some q) all each true = All-cons Seen 47 (63 ∷ q) refl (All-cons Seen 63 q refl (each q refl))
@@ -99,12 +98,14 @@ pub target_visible : (url : Parts) (t : List ℕ) → IsValid url → Some t ≡
 target_visible url t valid e =
     parts_visible url.path url.query (path_visible url t valid e) (λ q is. query_visible url q valid is) (is_empty url.path)
 
-some_path : (path query : List ℕ) → 0 < length (path_part path ++ query)
-some_path [] query = omega arith
-some_path (b ∷ path) query = omega arith
+some_by : (path query : List ℕ) (b : Bool) → b ≡ is_empty path → 0 < length (cond b (codes "/") path ++ query)
+some_by path query true e = omega arith
+some_by path query false e =
+    let some : 0 < length path = grind (arith, nat_tests) in
+    omega (arith, some, length-append path query)
 
 pub some_target : (url : Parts) → 0 < length (origin_form url)
-some_target url = some_path url.path (query_part url.query)
+some_target url = some_by url.path (query_part url.query) (is_empty url.path) refl
 
 -- ---- what follows for the code
 

@@ -1,5 +1,5 @@
 -- What a connector over HTTP answers, and what it leaves of its dial.
-use Rattle.std.specs.Prelude.{◌≡◌, ◌⊎◌, ℕ, List, [], ◌∷◌, ◌++◌, Bool, true, false, Option, Some, None, Result, Ok, Err}
+use Rattle.std.specs.Prelude.{◌≡◌, ◌⊎◌, ℕ, List, [], ◌∷◌, ◌++◌, Bool, true, false, Option, Some, None, Result, Ok, Err, IfOk, IsErr}
 use Rattle.swf_store.specs.Faults.{RoseOnce}
 use Rattle.swf_calls.specs.Request.{Request}
 use Rattle.swf_calls.specs.declared.method.Method.{Method}
@@ -9,6 +9,8 @@ use Rattle.swf_calls.specs.declared.reply.CallReply.TheVariants.{Answer, Unreach
 use Rattle.swf_http.specs.declared.message.Request.{Request as Message}
 use Rattle.swf_http.specs.declared.message.Response.{Response}
 use Rattle.swf_http.specs.Sent.{request_bytes}
+use Rattle.swf_connect.specs.declared.exchange.ExchangeFault.{ExchangeFault}
+use Rattle.swf_connect.specs.declared.exchange.ExchangeFault.TheVariants.{Failed, NoResponse, OutOfMemory}
 use Rattle.swf_connect.specs.Content.{content_of}
 use Rattle.swf_connect.specs.Exchanges.{Begins, BeginsNone, AddsOne}
 use Rattle.swf_connect.specs.Reaching.{Target, port_of, reached}
@@ -23,6 +25,13 @@ is_head m = false
 -- the answer that a response is
 abbrev pub reply_for : Response → CallReply
 reply_for r = Answer r.status r.headers (content_of r.headers r.body.items)
+
+-- what is answered for an exchange
+abbrev pub Follows : {E : Type 0} → Result Response ExchangeFault → Result CallReply E → Type 0
+Follows (Ok response) result = IfOk result (λ reply. reply ≡ reply_for response)
+Follows (Err OutOfMemory) result = IsErr result
+Follows (Err Failed) result = result ≡ Ok Unreached
+Follows (Err NoResponse) result = result ≡ Ok Unreached
 
 -- the reply that the bytes of a link give
 abbrev pub Gives : Bool → List ℕ → CallReply → Type 0

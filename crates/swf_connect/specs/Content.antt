@@ -1,5 +1,5 @@
 -- The content of a response as a value, by its type (RFC 9110, sections 6.4 and 8.3.1; RFC 6839, section 3.1; RFC 4648, section 4).
-use Rattle.std.specs.Prelude.{ℕ, List, [], ◌∷◌, Bool, ◌||◌, ◌&&◌, ◌==◌, ◌-◌, codes, chars, drop, length, Result, Ok, Err, if◌then◌else◌}
+use Rattle.std.specs.Prelude.{ℕ, List, [], ◌∷◌, Bool, ◌||◌, ◌&&◌, ◌==◌, ◌-◌, codes, chars, drop, length, Option, Some, None, Result, Ok, Err, if◌then◌else◌}
 use Rattle.std.specs.List.{before_first, list_any}
 use Rattle.std.specs.Str.{encode_utf8_all, is_utf8}
 use Rattle.base64.specs.GeneralPurpose.{encode_of}
@@ -28,13 +28,19 @@ tells_json h = same h.name (codes "content-type") && is_json_type (media_type (e
 abbrev pub plain_content : List ℕ → Value
 plain_content bytes = text (chars (if is_utf8 bytes then bytes else encode_of standard bytes))
 
--- the value that was read, else the bytes themselves
-abbrev pub read_content : Result Value ValueFault → List ℕ → Value
-read_content (Ok v) bytes = v
-read_content (Err e) bytes = plain_content bytes
+abbrev pub value_read : Result Value ValueFault → Option Value
+value_read (Ok v) = Some v
+value_read (Err e) = None
+
+-- the value that bytes are, where the headers tell that they are JSON
+abbrev pub json_content : List Header → List ℕ → Option Value
+json_content headers bytes = if list_any tells_json headers then value_read (read_within 64 bytes) else None
+
+abbrev pub or_plain : Option Value → List ℕ → Value
+or_plain (Some v) bytes = v
+or_plain None bytes = plain_content bytes
 
 -- the content of a message with these headers and this body
 abbrev pub content_of : List Header → List ℕ → Value
 content_of headers [] = null
-content_of headers (b ∷ bytes) =
-    if list_any tells_json headers then read_content (read_within 64 (b ∷ bytes)) (b ∷ bytes) else plain_content (b ∷ bytes)
+content_of headers (b ∷ bytes) = or_plain (json_content headers (b ∷ bytes)) (b ∷ bytes)

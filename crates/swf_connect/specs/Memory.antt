@@ -31,14 +31,14 @@ first_of (reply ∷ replies) = reply
 abbrev pub next_reply : Memory → CallReply
 next_reply memory = if is_in memory.failing (length memory.asked) then Unreached else first_of memory.left
 
--- the replies that are left after one
-abbrev pub left_after : CallReply → List CallReply → List CallReply
-left_after Unreached left = left
-left_after (Answer status headers content) left = drop 1 left
+-- an answer uses up a reply
+abbrev pub answer_count : CallReply → ℕ
+answer_count (Answer status headers content) = 1
+answer_count Unreached = 0
 
 -- a request more, which was answered so
 abbrev pub after_reply : Request → CallReply → Memory → Memory
 after_reply request reply memory = record memory {
-  left = left_after reply memory.left;
+  left = drop (answer_count reply) memory.left;
   asked = memory.asked ++ (record { request = request; reply = Some reply }) ∷ [];
 }

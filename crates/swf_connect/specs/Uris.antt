@@ -1,5 +1,5 @@
 -- By what a URI begins (RFC 3986, section 3.1).
-use Rattle.std.specs.Prelude.{ℕ, List, Bool, ◌==◌, ◌&&◌, length, slice_index, codes, nat_lt}
+use Rattle.std.specs.Prelude.{ℕ, List, Bool, ◌==◌, ◌&&◌, length, slice_index, nat_lt}
 use Rattle.std.specs.List.{starts_with}
 use Rattle.std.specs.Str.{encode_utf8_all}
 use Rattle.swf_calls.specs.Request.{Request}

@@ -5,7 +5,7 @@ ghost use Rattle.swf_value.specs.Written.{written};
 ghost use Rattle.swf_calls.specs.Reply.{is_status, reply_value};
 ghost use Rattle.url.specs.Parser.{parse_url};
 ghost use Rattle.url.specs.declared.error.ParseError.{ParseError as WhyNoUrl};
-ghost use Rattle.swf_connect.specs.Answers.{is_head, reply_for, Ends, Performs};
+ghost use Rattle.swf_connect.specs.Answers.{is_head, reply_for, Ends, Follows, Performs};
 ghost use Rattle.swf_connect.specs.Asked.{IsTellableReply};
 ghost use Rattle.swf_connect.specs.Reaching.{host_of, port_of};
 
@@ -93,8 +93,23 @@ fn port_of(url: &Url) -> u16
     }
 }
 
+/// The reply for what came of an exchange.
+fn reply_to(
+    alloc: Global,
+    exchanged: Result<Response, ExchangeFault>,
+) -> Result<CallReply, AllocError>
+    ensures follows { Follows exchanged result }
+    ensures tellable { IfOk result IsTellableReply }
+{
+    match exchanged {
+        Ok(response) => reply_for(alloc, response),
+        Err(ExchangeFault::OutOfMemory) => Err(AllocError),
+        Err(ExchangeFault::Failed) => Ok(CallReply::Unreached),
+        Err(ExchangeFault::NoResponse) => Ok(CallReply::Unreached),
+    }
+}
+
 /// The answer to a request from a URL that has this host.
-#[tactic(auto, using(crate::proofs::AnswerLemmas::ends_answered, crate::proofs::AnswerLemmas::ends_lacking, crate::proofs::AnswerLemmas::ends_failed, crate::proofs::AnswerLemmas::ends_refused))]
 fn answer_from<D: Dial>(
     alloc: Global,
     dial: &mut D,
@@ -108,12 +123,8 @@ fn answer_from<D: Dial>(
 {
     let message = message_for(alloc, request, url, host)?;
     let head = is_head(request.method());
-    match exchange(alloc, dial, host, port_of(url), &message, head) {
-        Ok(response) => reply_for(alloc, response),
-        Err(ExchangeFault::OutOfMemory) => Err(AllocError),
-        Err(ExchangeFault::Failed) => Ok(CallReply::Unreached),
-        Err(ExchangeFault::NoResponse) => Ok(CallReply::Unreached),
-    }
+    let exchanged = exchange(alloc, dial, host, port_of(url), &message, head);
+    reply_to(alloc, exchanged)
 }
 
 /// The answer to a request over a link that is dialed for it.

@@ -7,6 +7,7 @@ ghost use Rattle.swf_connect.specs.Exchanges.{Asks, Exchanges, FailsBy, Tells};
 use crate::{Dial, Link};
 use std::alloc::Global;
 use swf_http::{HttpFault, Request, Response, SendFault, read_response, write_request};
+use swf_store::Failed;
 
 /// Why an exchange gave no response.
 #[derive(Clone, Copy, PartialEq, Eq)]
@@ -35,7 +36,6 @@ fn response<L: Link>(alloc: Global, link: &mut L, head: bool) -> Result<Response
 }
 
 /// Writes a request and reads its response.
-#[tactic(auto, using(crate::proofs::ExchangeLemmas::asked, crate::proofs::ExchangeLemmas::moved))]
 fn ask<L: Link>(
     alloc: Global,
     link: &mut L,
@@ -67,8 +67,9 @@ pub(crate) fn exchange<D: Dial>(
     ensures talks { Exchanges host.now port (request_bytes request.now) head result (D.talks dial.old) (D.talks dial.new) }
     ensures cause { FailsBy result (D.dial_faults dial.old) (D.dial_faults dial.new) }
 {
-    let Ok(mut link) = dial.dial(host, port) else {
-        return Err(ExchangeFault::Failed);
+    let mut link = match dial.dial(host, port) {
+        Ok(link) => link,
+        Err(Failed) => return Err(ExchangeFault::Failed),
     };
     let result = ask(alloc, &mut link, request, head);
     dial.hang_up(link);

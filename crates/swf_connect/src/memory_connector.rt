@@ -1,5 +1,8 @@
 // A connector in memory, which answers what it was given.
-ghost use Rattle.std.specs.Prelude.{◌≡◌};
+ghost use Rattle.std.specs.Prelude.{◌≡◌, ◌+◌, ◌≤◌, length, drop, All, IfOk, if◌then◌else◌};
+ghost use Rattle.swf_calls.specs.declared.reply.CallReply.TheVariants.{Unreached as NoAnswer};
+ghost use Rattle.swf_connect.specs.Asked.{IsTellableAnswer, IsTellableReply};
+ghost use Rattle.swf_connect.specs.Memory.{answer_count, first_of};
 
 use crate::uri::has_scheme;
 use crate::{Asked, Connector};
@@ -29,17 +32,42 @@ impl Model for MemoryConnector {
 
     ghost coded = { memory_code };
 
-    ghost use Rattle.std.specs.Prelude.{drop, All};
+    ghost use Rattle.std.specs.Prelude.{◌≤◌, length, drop, All};
     ghost use Rattle.swf_connect.specs.Asked.{IsTellableAnswer};
 
     ghost view = { λ m. record { scheme = m.scheme; left = drop m.answered m.replies.items; failing = m.failing.items; asked = m.asked.items } };
 
-    ghost invariant = { λ m. All IsTellableAnswer m.replies.items };
+    ghost invariant = { λ m. (m.answered ≤ length m.replies.items) × All IsTellableAnswer m.replies.items };
 }
 
-/// The next reply, unless there is none or the request is to fail.
-fn next_reply(replies: &[CallReply], at: usize, fails: bool) -> Option<&CallReply> {
-    if fails { None } else { replies.get(at) }
+/// How many replies a reply uses up.
+fn answer_count(reply: &CallReply) -> usize
+    ensures { result ≡ answer_count reply.now }
+{
+    match reply {
+        CallReply::Answer { .. } => 1,
+        CallReply::Unreached => 0,
+    }
+}
+
+/// The reply at a place, or `Unreached` where there is none or it is to fail.
+#[tactic(auto, using(crate::proofs::MemoryLemmas::at_place, crate::proofs::MemoryLemmas::past_all, crate::proofs::MemoryLemmas::place_fits, crate::proofs::MemoryLemmas::tellable_at))]
+fn reply_at(
+    alloc: Global,
+    replies: &[CallReply],
+    at: usize,
+    fails: bool,
+) -> Result<CallReply, AllocError>
+    requires within { at ≤ length replies.now }
+    requires tellable { All IsTellableAnswer replies.now }
+    ensures value { IfOk result (λ reply. reply ≡ (if fails then NoAnswer else first_of (drop at replies.now))) }
+    ensures tellable { IfOk result IsTellableReply }
+    ensures within { IfOk result (λ reply. at + answer_count reply ≤ length replies.now) }
+{
+    if fails || at == replies.len() {
+        return Ok(CallReply::Unreached);
+    }
+    replies[at].copy(alloc)
 }
 
 impl MemoryConnector {
@@ -100,18 +128,13 @@ impl Connector for MemoryConnector {
         ensures err { OnErr result (self.new ≡ self.old) }
     {
         let fails = self.failing.contains(&(self.asked.len() as u64));
-        let reply = match next_reply(&self.replies, self.answered, fails) {
-            Some(reply) => reply.copy(self.alloc)?,
-            None => CallReply::Unreached,
-        };
+        let reply = reply_at(self.alloc, &self.replies, self.answered, fails)?;
         let asked = Asked {
             request: request.copy(self.alloc)?,
             reply: Some(reply.copy(self.alloc)?),
         };
         self.asked.push(asked)?;
-        if !matches!(reply, CallReply::Unreached) {
-            self.answered += 1;
-        }
+        self.answered += answer_count(&reply);
         Ok(reply)
     }
 

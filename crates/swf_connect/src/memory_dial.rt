@@ -77,7 +77,7 @@ impl Dial for MemoryDial {
     fn dial(&mut self, host: &str, port: u16) -> Result<MemoryLink, Failed> {
         let fails = self.failing.contains(&self.dials);
         self.dials = self.dials.saturating_add(1);
-        if fails || self.next == self.replies.len() {
+        if fails || self.next >= self.replies.len() {
             self.faults = self.faults.saturating_add(1);
             return Err(Failed);
         }

@@ -122,7 +122,8 @@ fn sent_headers(
     host: Text,
     size: usize,
 ) -> Result<Headers, AllocError>
-    ensures { IfOk result (λ headers. headers ≡ sent_headers request.now host size) }
+    ensures value { IfOk result (λ headers. headers ≡ sent_headers request.now host size) }
+    ensures given { IfOk result (λ _. are_sendable request.now.headers ≡ true) }
 {
     let given = request.headers().as_slice();
     let mut headers = Headers::none(alloc);

@@ -1,8 +1,8 @@
 // Whom a switchboard asks.
-use crate::requests::{reply_text, request_of};
+use crate::requests::request_of;
 use std::alloc::{AllocError, Global};
 use std::test::Fail;
-use swf_calls::{CallReply, Headers, Method};
+use swf_calls::{CallReply, Headers};
 use swf_connect::{Connector, MemoryConnector, Switchboard};
 use swf_text::Text;
 use swf_value::Json;
@@ -33,7 +33,7 @@ fn asked(alloc: Global) -> Result<String, AllocError> {
     let mut board = Switchboard::new(connectors);
     let mut told = String::new(alloc);
     for uri in ["m:1", "m:2", "mm:3", "n:4"] {
-        let Some(request) = request_of(alloc, Method::Get, uri, &[], "")? else {
+        let Some(request) = request_of(alloc, "GET", uri, "", "")? else {
             return Ok(told);
         };
         match board.perform(&request)? {

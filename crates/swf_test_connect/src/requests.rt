@@ -4,31 +4,45 @@ use swf_calls::{CallReply, CallRequest, Header, Headers, Method, are_sendable, r
 use swf_text::Text;
 use swf_value::{read_json, write_json};
 
-// Headers with these names and values.
-fn headers_of(alloc: Global, fields: &[(&str, &str)]) -> Result<Headers, AllocError> {
+// The headers that lines of `NAME: VALUE` tell.
+fn headers_of(alloc: Global, lines: &str) -> Result<Headers, AllocError> {
     let mut headers = Headers::none(alloc);
-    for (name, value) in fields {
-        let name = Text::copy_of(alloc, name)?;
-        let value = Text::copy_of(alloc, value)?;
-        headers.add(alloc, Header { name, value })?;
+    for line in lines.split('\n') {
+        if let Some((name, value)) = line.split_once(": ") {
+            let name = Text::copy_of(alloc, name)?;
+            let value = Text::copy_of(alloc, value)?;
+            headers.add(alloc, Header { name, value })?;
+        }
     }
     Ok(headers)
 }
 
-/// A request whose body is JSON, or empty where there is none. None where its headers can't be sent.
+// The method of a name.
+fn method_of(name: &str) -> Method {
+    match name {
+        "HEAD" => Method::Head,
+        "POST" => Method::Post,
+        "PUT" => Method::Put,
+        "PATCH" => Method::Patch,
+        _ => Method::Get,
+    }
+}
+
+/// A request with the headers that lines of `NAME: VALUE` tell, whose body is JSON, or empty where there is none. None where the
+/// headers can't be sent.
 pub(crate) fn request_of(
     alloc: Global,
-    method: Method,
+    method: &str,
     uri: &str,
-    fields: &[(&str, &str)],
+    lines: &str,
     body: &str,
 ) -> Result<Option<CallRequest>, AllocError> {
-    let headers = headers_of(alloc, fields)?;
+    let headers = headers_of(alloc, lines)?;
     if !are_sendable(&headers) {
         return Ok(None);
     }
     let body = read_json(alloc, body.as_bytes()).ok();
-    Ok(Some(CallRequest::new(method, Text::copy_of(alloc, uri)?, headers, body)))
+    Ok(Some(CallRequest::new(method_of(method), Text::copy_of(alloc, uri)?, headers, body)))
 }
 
 /// A reply as compact JSON.

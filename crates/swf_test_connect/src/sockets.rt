@@ -4,7 +4,6 @@ use std::io::{self, Read, Write};
 use std::net::{Ipv4Addr, SocketAddr, TcpListener};
 use std::test::Fail;
 use std::thread;
-use swf_calls::Method;
 use swf_connect::{Connector, HttpConnector, TcpDial};
 
 const RESPONSE: &[u8] =
@@ -27,7 +26,7 @@ fn sockets(rt: HostRuntime) -> Result<(), Fail> {
     let uri = format!(in alloc; "http://127.0.0.1:{port}/a")?;
     let mut connector = HttpConnector::new(alloc, TcpDial::new(rt));
     let mut told = Vec::new(alloc);
-    if let Some(request) = request_of(alloc, Method::Get, uri.as_str(), &[], "")? {
+    if let Some(request) = request_of(alloc, "GET", uri.as_str(), "", "")? {
         told = reply_text(alloc, &connector.perform(&request)?)?;
     }
     server.join(&rt)?;
