@@ -31,12 +31,7 @@ fn input_by(rule: &Rule, template: Option<&Template>) -> Result<Json, Halt>
     ensures { Gives (input_by (line_in rule.now) rule.now.running.now (option_map (λ t. t.now) template.entry)) result }
 {
     let sight = rule.within()?;
-    rule.value_of(transform(
-        rule.alloc,
-        template,
-        sight.vars(),
-        rule.running.input(),
-    )?)
+    rule.value_of(transform(rule.alloc, template, sight.vars(), rule.running.input())?)
 }
 
 // A task begins in a round of this one.

@@ -58,12 +58,7 @@ fn uri_of(rule: &Rule, vars: &Vars, query: &[Member], uri: &Expr) -> Result<Text
 }
 
 /// The URI of an endpoint with a query.
-pub fn uri_by(
-    rule: &Rule,
-    vars: &Vars,
-    query: &[Member],
-    endpoint: &Endpoint,
-) -> Result<Text, Halt>
+pub fn uri_by(rule: &Rule, vars: &Vars, query: &[Member], endpoint: &Endpoint) -> Result<Text, Halt>
     ensures { Gives (uri_by rule.now.running.now.task vars.now rule.now.running.now.input (members_of query.now) endpoint.now) result }
 {
     match endpoint {

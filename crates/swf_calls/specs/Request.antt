@@ -1,5 +1,5 @@
 -- A request that waits for its answer, and the value that tells it (DSL reference, "HTTP Call"; RFC 9110, sections 5 and 9).
-use Rattle.std.specs.Prelude.{◌==◌, ◌&&◌, ◌||◌, ℕ, List, [], ◌∷◌, Bool, true, false, not, codes, nat_le, nat_lt, length, reverse, Option, Some, None}
+use Rattle.std.specs.Prelude.{◌==◌, ◌&&◌, ◌||◌, ℕ, List, [], ◌∷◌, Bool, false, not, codes, nat_le, nat_lt, length, reverse, Option, Some, None}
 use Rattle.std.specs.Char.{is_ascii_alphanumeric}
 use Rattle.std.specs.Coded.{Coded, codes as codes_of}
 use Rattle.swf_value.specs.ValueCode.{value_code}

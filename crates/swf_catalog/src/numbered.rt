@@ -169,11 +169,8 @@ fn begin_of(begins: Begins, round: &Round) -> usize
 {
     match round {
         Round::Catch(_) => begins.handler,
-        Round::Seq
-        | Round::Each(_)
-        | Round::Try { .. }
-        | Round::Function
-        | Round::SubWorkflow(_) => begins.tasks,
+        Round::Seq | Round::Each(_) | Round::Try { .. } | Round::Function | Round::SubWorkflow(_) =>
+            begins.tasks,
     }
 }
 

@@ -5,7 +5,7 @@ use Rattle.std.specs.Option.{option_or}
 use Rattle.std.specs.Prelude.{◌||◌, ◌==◌, is_some, slice_set, if◌then◌else◌}
 use Rattle.swf_calls.specs.declared.reply.CallReply.{CallReply}
 use Rattle.swf_frames.specs.Tree.{Tree, Strands, no_strands, strand, Branch, find, changed, with_top}
-use Rattle.swf_frames.specs.Paths.{Found, nth, edit, edit_nth, has, AreDistinct}
+use Rattle.swf_frames.specs.Paths.{Found, nth, edit_nth, has, AreDistinct}
 use Rattle.swf_frames.proofs.PathLemmas.{edit-child, edit-same, changed-edit}
 use Rattle.swf_meaning.specs.Reply.{is_open}
 use Rattle.swf_stack.specs.Stands.{top_of}
@@ -59,8 +59,10 @@ here-put a p t new n h x held on is so e b f =
     let strands : new.strands ≡ changed put t.strands n = ap (λ (y : Tree Stand). y.strands) e in
     let frames : put b.frames ≡ answered_stands p b.frames = ap put (on b f) ∙ sym (ap (answered_stands p) (on b f)) in (
       sym (is b f) ∙ so,
-      (strands ∙ changed-edit put t.strands n held.0 ∙ edit-same (λ (y : Branch Stand). record y { frames = put y.frames }) (answered_here p) t.strands n b held.0 f (λ i. record { frames = frames i; below = b.below }),
-      subst AreDistinct (sym strands) (distinct-changed put t.strands n held.0)),
+      (
+        strands ∙ changed-edit put t.strands n held.0 ∙ edit-same (λ (y : Branch Stand). record y { frames = put y.frames }) (answered_here p) t.strands n b held.0 f (λ i. record { frames = frames i; below = b.below }),
+        subst AreDistinct (sym strands) (distinct-changed put t.strands n held.0),
+      ),
     )
 
 -- ---- to those below it, one after another
@@ -146,7 +148,7 @@ un-answered a p n old i new more q c held u child is b f =
       sym (open-child a old n i c true held there (λ b f. sym (of b f).0) refl b f),
       (
         k.1.0 ∙ edit-child (answered_held a p) old.strands n i b d held.0 f h.1.0
-        ∙ edit-same (λ (y : Branch Stand). record y { below = edit_nth (answered_held a p) y.below i }) (answered_held a p) old.strands n b held.0 f ((λ j. record { frames = b.frames; below = below j }) ∙ sym (ap (held-by a p b) own.0)),
+            ∙ edit-same (λ (y : Branch Stand). record y { below = edit_nth (answered_held a p) y.below i }) (answered_held a p) old.strands n b held.0 f ((λ j. record { frames = b.frames; below = below j }) ∙ sym (ap (held-by a p b) own.0)),
         k.1.1,
       ),
     )

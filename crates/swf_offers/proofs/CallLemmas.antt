@@ -1,5 +1,5 @@
 -- The calls of a strand, and of those below it, that await an answer.
-use Rattle.std.proofs.Common.{◌≡◌, ◌∙◌, refl, sym, ap, ℕ, zero, suc, ◌+◌, Bool, true, false, List, [], ◌∷◌, ◌++◌, Option, Some, None, append_assoc, append-nil, arith}
+use Rattle.std.proofs.Common.{◌≡◌, ◌∙◌, refl, sym, ap, ℕ, zero, suc, ◌+◌, Bool, true, false, List, [], ◌∷◌, ◌++◌, Some, None, append_assoc, append-nil, arith}
 use Rattle.std.specs.Prelude.{filter_map}
 use Rattle.swf_calls.specs.Request.{Request}
 use Rattle.swf_frames.specs.Tree.{Tree, Branch, find}

@@ -4,3 +4,4 @@ pub mod EventTypeLemmas
 pub mod CallLemmas
 pub mod OpenLemmas
 pub mod AnswerLemmas
+pub mod AnsweredLemmas

@@ -62,11 +62,8 @@ impl Rule<'_> {
     {
         match round {
             Round::SubWorkflow(_) => self.complete(output),
-            Round::Seq
-            | Round::Each(_)
-            | Round::Try { .. }
-            | Round::Catch(_)
-            | Round::Function => self.ended(output),
+            Round::Seq | Round::Each(_) | Round::Try { .. } | Round::Catch(_) | Round::Function =>
+                self.ended(output),
         }
     }
 }

@@ -1,5 +1,5 @@
 -- What an answer leaves as it is.
-use Rattle.std.proofs.Common.{◌≡◌, ◌∙◌, refl, ap, if◌then◌else◌, ℕ, List, Bool, true, false}
+use Rattle.std.proofs.Common.{◌≡◌, ◌∙◌, refl, ap, if◌then◌else◌, ℕ, List, true, false}
 use Rattle.swf_calls.specs.declared.reply.CallReply.{CallReply}
 use Rattle.swf_document.specs.Task.{Task}
 use Rattle.swf_meaning.specs.Node.{Node, Fresh, Live, Done, Fault, Inside, At, Later, Sleep, Hear, Await, Forked, Nodes, no_nodes, branch}

@@ -1,5 +1,5 @@
 -- What rounds keep, and what is seen inside running tasks.
-use Rattle.std.proofs.Common.{◌≡◌, Bool, true, false, List, [], ◌∷◌, ◌++◌, refl}
+use Rattle.std.proofs.Common.{◌≡◌, true, false, List, [], ◌∷◌, ◌++◌, refl}
 use Rattle.swf_value.specs.Value.{Value}
 use Rattle.swf_meaning.specs.Around.{seen}
 use Rattle.swf_meaning.specs.Line.{Line}

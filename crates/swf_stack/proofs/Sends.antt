@@ -136,13 +136,13 @@ pub chain_frame_sync : IsSync (chain.the_row frame.the_row)
 chain_frame_sync = search (sendable, crosses, chain_knot.crosses, frame_send, frame_sync) depth 20
 
 pub top_inside_send : IsSend (top.the_field).row
-top_inside_send = search (sendable, task_send, running_send, json_send, flow_inside_send, problem_inside_send, option.the_field_send, named_send, heard_send, heard_sync, listing_send, text_send, shared_request_send, reply_send, reply_inside_send) depth 20
+top_inside_send = search (sendable, task_send, running_send, json_send, flow_inside_send, problem_inside_send, option.the_field_send, named_send, heard_send, heard_sync, listing_send, text_send, shared_request_send, reply_send) depth 20
 
 pub top_send : IsSend top.the_row
 top_send = search (sendable, top_inside_send) depth 4
 
 pub top_inside_sync : IsSync (top.the_field).row
-top_inside_sync = search (sendable, task_sync, running_sync, json_sync, flow_inside_sync, problem_inside_sync, option.the_field_sync, named_sync, heard_send, heard_sync, listing_sync, text_sync, shared_request_sync, reply_sync, reply_inside_sync) depth 20
+top_inside_sync = search (sendable, task_sync, running_sync, json_sync, flow_inside_sync, problem_inside_sync, option.the_field_sync, named_sync, heard_send, heard_sync, listing_sync, text_sync, shared_request_sync, reply_sync) depth 20
 
 pub top_sync : IsSync top.the_row
 top_sync = search (sendable, top_inside_sync) depth 4

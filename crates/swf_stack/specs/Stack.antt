@@ -1,7 +1,7 @@
 -- The tree that a stack stands for.
 use Rattle.std.specs.Prelude.{ℕ, List, [], ◌∷◌, Option, Some, None, option_to_list}
 use Rattle.swf_value.specs.Value.{Value}
-use Rattle.swf_meaning.specs.Node.{Node, Fresh, Live, Done, Fault, Inside, At, Later, Sleep, Hear, Await, Forked, Nodes, no_nodes, Round, Seq, Each, Try, Catch}
+use Rattle.swf_meaning.specs.Node.{Node, Fresh, Live, Done, Fault, Inside, At, Later, Sleep, Hear, Await, Forked, Nodes, no_nodes}
 use Rattle.swf_meaning.specs.Around.{seen}
 use Rattle.swf_meaning.specs.Complete.{Stepped}
 use Rattle.swf_meaning.specs.Fork.{branches_of, fresh}

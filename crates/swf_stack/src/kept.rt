@@ -61,11 +61,7 @@ fn kept_by(
 
 /// The running tasks behind a step that may change the context. The innermost sub-workflow around keeps a context that changed, and the
 /// instance where there is none. It copies no values.
-pub fn keep(
-    alloc: Global,
-    around: &Chain<Frame>,
-    context: Option<Json>,
-) -> Result<Kept, AllocError>
+pub fn keep(alloc: Global, around: &Chain<Frame>, context: Option<Json>) -> Result<Kept, AllocError>
     ensures around { IfOk result (λ k. k.around ≡ kept around.now context) }
     ensures context { IfOk result (λ k. k.context ≡ context_kept around.now context) }
 {

@@ -42,7 +42,7 @@ put_in-kept l (f ∷ fs) m c e = put_in-append l (inward fs) (f ∷ []) m ∙ by
     x : Stepped
     x = put_back z f.running (round_of f.round) f.place m
 
-    abbrev answer : Option (List Frame) → Stepped
+    answer : Option (List Frame) → Stepped
     answer o = record m { node = plug (inward (kept_or (f ∷ fs) o)) m.node; context = context_or l.context (unless_kept c o) }
 
     -- the innermost task is no sub-workflow

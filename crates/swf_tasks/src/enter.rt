@@ -80,12 +80,7 @@ fn asks(task: &TaskRef) -> bool {
     }
     matches!(
         task.work(),
-        Work::Call(_)
-            | Work::Emit(_)
-            | Work::For(_)
-            | Work::Run(_)
-            | Work::Set(_)
-            | Work::Switch(_)
+        Work::Call(_) | Work::Emit(_) | Work::For(_) | Work::Run(_) | Work::Set(_) | Work::Switch(_)
     )
 }
 

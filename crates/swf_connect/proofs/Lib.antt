@@ -1,0 +1,5 @@
+pub mod AnswerLemmas
+pub mod ExchangeLemmas
+pub mod PartyLemmas
+pub mod SendLemmas
+pub mod TargetLemmas
