@@ -60,7 +60,8 @@ pub fn calling(rule: &Rule, name: &Text, with: Option<&Template>) -> Result<Made
 fn document_of(rule: &Rule, key: &DocKey) -> Result<Option<SharedDocument>, AllocError>
     ensures { IfOk result (λ o. o ≡ document_at (resolved (site_in rule.now).documents key.now) (site_in rule.now).documents) }
 {
-    let documents = rule.scene.site.documents;
+    let scene = rule.scene;
+    let documents = scene.site.documents;
     let key = documents.resolved(key.copy()?)?;
     match documents.get(&key) {
         Some(document) => Ok(Some(document.copy()?)),
