@@ -1,6 +1,6 @@
 -- What stands before the last `/` of a text, by its bytes.
-use Rattle.std.proofs.Common.{◌≡◌, ◌∙◌, ap, sym, subst, cond, ℕ, suc, add-one, ◌+◌, ◌<◌, ◌==◌, List, [], ◌∷◌, ◌++◌, length, get_or, take, drop, take-append-drop, Bool, true, false, not, Option, Some, None, chars, encode_utf8, IsUtf8, length-append, arith, refl}
-use Rattle.std.specs.List.{All, list_all}
+use Rattle.std.proofs.Common.{◌≡◌, ◌∙◌, ap, sym, subst, cond, ℕ, suc, add-one, ◌+◌, ◌<◌, ◌==◌, List, [], ◌∷◌, ◌++◌, length, get_or, take, drop, take-append-drop, Bool, true, false, not, Some, None, chars, encode_utf8, IsUtf8, length-append, arith, refl}
+use Rattle.std.specs.List.{list_all}
 use Rattle.std.specs.Str.{encode_utf8_all, IsCharBoundary, NoCharPasses}
 use Rattle.std.specs.Str.Pattern.{RFindsChar}
 use Rattle.std.proofs.Math.Seq.{take-append_seam, get_or-append_seam}
