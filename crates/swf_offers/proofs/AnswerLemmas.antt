@@ -1,19 +1,21 @@
 -- What an answer leaves of a strand and of those below it.
-use Rattle.std.proofs.Common.{◌≡◌, ◌∙◌, refl, sym, ap, subst, ℕ, zero, suc, ◌+◌, ◌-◌, ◌<◌, Bool, true, false, List, [], ◌∷◌, length, Option, Some, None}
+use Rattle.std.proofs.Common.{MutBor, ◌≡◌, ◌∙◌, refl, sym, ap, subst, ℕ, zero, suc, ◌+◌, ◌-◌, ◌<◌, Bool, true, false, List, [], ◌∷◌, length, Option, Some, None}
 use Rattle.std.proofs.lemmas.Option.{same_Some}
-use Rattle.std.specs.Option.{option_or}
-use Rattle.std.specs.Prelude.{◌||◌, ◌==◌, is_some, slice_set, if◌then◌else◌}
+use Rattle.std.specs.Option.{option_copied_mut, option_or}
+use Rattle.std.specs.Prelude.{◌||◌, ◌==◌, is_some, option_and_then, option_map, slice_set, if◌then◌else◌}
 use Rattle.swf_calls.specs.declared.reply.CallReply.{CallReply}
-use Rattle.swf_frames.specs.Tree.{Tree, Strands, no_strands, strand, Branch, find, changed, with_top}
+use Rattle.swf_frames.specs.Tree.{Tree, Strands, no_strands, strand, Branch, find, changed, top, top_frame, with_top}
 use Rattle.swf_frames.specs.Paths.{Found, nth, edit_nth, has, AreDistinct}
 use Rattle.swf_frames.proofs.PathLemmas.{edit-child, edit-same, changed-edit}
 use Rattle.swf_meaning.specs.Reply.{is_open}
 use Rattle.swf_stack.specs.Stands.{top_of}
 use Rattle.swf_stack.specs.declared.made.Stand.{Stand}
+use Rattle.swf_stack.specs.declared.made.Top.{Top}
 use Rattle.swf_strands.specs.Strands.{strand_node, nodes_of, node_of, IsGrown, IsHeld}
 use Rattle.swf_strands.proofs.AskLemmas.{below_held, fewer}
+use Rattle.swf_strands.proofs.StrandLemmas.{held-some}
 use Rattle.swf_strands.proofs.TreeLemmas.{nothing, held-is, IsChild}
-use Rattle.swf_offers.specs.Answers.{is_open_in_top, answered_stand, answered_stands, answered_strands, answered_here, answered_held, IsAnswerHere, IsAnswerIn}
+use Rattle.swf_offers.specs.Answers.{is_open_in_top, answered_stand, answered_stands, answered_strands, answered_here, answered_held, answered_top, IsAnswerHere, IsAnswerIn}
 use Rattle.swf_offers.proofs.OpenLemmas.{AreClosed, IsClosedTo, IsOwn, closed-first, closed-more, closed-all, open-node, open-here, open-child}
 
 -- ---- other frames leave all numbers
@@ -24,15 +26,15 @@ some-or (Some x) p = refl
 
 has-changed : (f : List Stand → List Stand) (ss : Strands Stand) (n k : ℕ) → has (changed f ss n) k ≡ has ss k
 has-changed f no_strands n k = refl
-has-changed f (strand m ls below after) n k = by (m == k)
+has-changed f (strand m ls below after) n k = by (m == k) (has-changed f below n k) (has-changed f after n k)
   where
-    by : (x : Bool) →
+    by : (x : Bool) → has (changed f below n) k ≡ has below k → has (changed f after n) k ≡ has after k →
         is_some (if x then Some (record { frames = if m == n then f ls else ls; below = changed f below n }) else option_or (find (changed f below n) k) (find (changed f after n) k))
         ≡ is_some (if x then Some (record { frames = ls; below = below }) else option_or (find below k) (find after k))
-    by true = refl
-    by false =
+    by true one two = refl
+    by false one two =
         some-or (find (changed f below n) k) (find (changed f after n) k)
-        ∙ (λ i. has-changed f below n k i || has-changed f after n k i) ∙ sym (some-or (find below k) (find after k))
+        ∙ (λ i. one i || two i) ∙ sym (some-or (find below k) (find after k))
 
 distinct-changed : (f : List Stand → List Stand) (ss : Strands Stand) (n : ℕ) → AreDistinct ss → AreDistinct (changed f ss n)
 distinct-changed f no_strands n d = tt
@@ -52,7 +54,7 @@ IsHere a p n old new o = (b : Branch Stand) → find old.strands n ≡ Some b �
 pub here-none : (a : List ℕ) (p : CallReply) (t : Tree Stand) (n : ℕ) (x : Bool) → IsOwn a t n x → x ≡ false → IsHere a p n t t (Some p)
 here-none a p t n x is isnt b f = (sym (is b f) ∙ isnt, (refl, refl))
 
-pub here-put : (a : List ℕ) (p : CallReply) (t new : Tree Stand) (n : ℕ) (h : Stand) (x : Bool) → IsHeld t n → ((b : Branch Stand) → find t.strands n ≡ Some b → b.frames ≡ h ∷ []) → IsOwn a t n x → x ≡ true → new ≡ with_top t n (answered_stand p h) → IsHere a p n t new None
+here-put : (a : List ℕ) (p : CallReply) (t new : Tree Stand) (n : ℕ) (h : Stand) (x : Bool) → IsHeld t n → ((b : Branch Stand) → find t.strands n ≡ Some b → b.frames ≡ h ∷ []) → IsOwn a t n x → x ≡ true → new ≡ with_top t n (answered_stand p h) → IsHere a p n t new None
 here-put a p t new n h x held on is so e b f =
     let s = answered_stand p h in
     let put : List Stand → List Stand = λ fs. slice_set fs (length fs - 1) s in
@@ -65,40 +67,54 @@ here-put a p t new n h x held on is so e b f =
       ),
     )
 
+-- what is lent to be written stands at the top
+lent-top : (t : Tree Stand) (n : ℕ) (b : Branch Stand) (h : Stand) → find t.strands n ≡ Some b → b.frames ≡ h ∷ [] → top t n ≡ Some h
+lent-top t n b h f on = ap (λ o. option_and_then top_frame (option_map (λ (x : Branch Stand). x.frames) o)) f ∙ ap top_frame on
+
+pub here-lent : (a : List ℕ) (p : CallReply) (t new : Tree Stand) (n : ℕ) (h : Stand) (x : Bool) → IsHeld t n → ((b : Branch Stand) → find t.strands n ≡ Some b → b.frames ≡ h ∷ []) → IsOwn a t n x → x ≡ true →
+    (o : Option (MutBor Stand)) (m : MutBor Stand) (y : Top) → option_copied_mut o ≡ top t n → o ≡ Some m → y ≡ answered_top p m.now.top → new ≡ with_top t n (record m.now { top = y }) → IsHere a p n t new None
+here-lent a p t new n h x held on own so o m y lent some is e b f =
+    let same : m.now ≡ h = same_Some m.now h (sym (ap option_copied_mut some) ∙ lent ∙ lent-top t n b h f (on b f)) in
+    here-put a p t new n h x held on own so (e ∙ ap (λ (z : Top). with_top t n (record m.now { top = z })) is ∙ ap (λ (k : Stand). with_top t n (answered_stand p k)) same) b f
+
+-- a strand always holds something
+pub lent-none : (t : Tree Stand) (n : ℕ) (o : Option (MutBor Stand)) → IsHeld t n → option_copied_mut o ≡ top t n → o ≡ None → ⊥
+lent-none t n o held lent none =
+    let s = held-some t n held in
+    nothing s.0 (sym (ap option_copied_mut none) ∙ lent ∙ s.1)
+
 -- ---- to those below it, one after another
 
 or_none : (x y : Bool) → (x || y) ≡ false → x ≡ false
 or_none true y e = e
 or_none false y e = refl
 
+-- whether the strand itself takes it; and whether a branch does, or one behind it
+abbrev held-by : List ℕ → CallReply → Branch Stand → Bool → Branch Stand
+held-by a p b x = if x then answered_here p b else record b { below = answered_strands a p b.below }
+
+abbrev within-by : List ℕ → CallReply → ℕ → List Stand → Strands Stand → Strands Stand → Bool → Strands Stand
+within-by a p m ls below after x = if x then strand m ls (answered_strands a p below) after else strand m ls below (answered_strands a p after)
+
+abbrev first-by : ℕ → Strands Stand → Branch Stand → Strands Stand
+first-by m after b = strand m b.frames b.below after
+
 -- the first branch in which the call is open gets the answer
 put-nth : (a : List ℕ) (p : CallReply) (i : ℕ) (ss : Strands Stand) (c : Found Stand) → IsGrown ss → AreClosed a i ss → nth ss i ≡ Some c → is_open a (node_of c.held) ≡ true → edit_nth (answered_held a p) ss i ≡ answered_strands a p ss
-put-nth a p i no_strands c g k e yes = absurd (nothing c e)
-put-nth a p zero (strand m ls below after) c g k e yes = by (is_open_in_top a (top_of ls))
+put-nth a p i no_strands c g k e so = absurd (nothing c e)
+put-nth a p zero (strand m ls below after) c g k e so = by (is_open_in_top a (top_of ls)) (ap (λ (d : Found Stand). is_open a (node_of d.held)) (same_Some _ c e) ∙ so)
   where
-    b : Branch Stand
-    b = record { frames = ls; below = below }
-
-    within : Bool → Strands Stand
-    within y = if y then strand m ls (answered_strands a p below) after else strand m ls below (answered_strands a p after)
-
-    put : Branch Stand → Strands Stand
-    put r = strand m r.frames r.below after
-
-    by : (x : Bool) → put (if x then answered_here p b else record b { below = answered_strands a p below }) ≡ (if x then strand m (answered_stands p ls) below after else within (is_open a (strand_node ls (nodes_of below))))
-    by true = refl
-    by false = sym (ap within (ap (λ (d : Found Stand). is_open a (node_of d.held)) (same_Some _ c e) ∙ yes))
-put-nth a p (suc i) (strand m ls below after) c g k e yes =
-    let within : Bool → Strands Stand = λ y. if y then strand m ls (answered_strands a p below) after else strand m ls below (answered_strands a p after) in
+    by : (x : Bool) → is_open a (strand_node ls (nodes_of below)) ≡ true →
+        first-by m after (held-by a p (record { frames = ls; below = below }) x) ≡ (if x then strand m (answered_stands p ls) below after else within-by a p m ls below after (is_open a (strand_node ls (nodes_of below))))
+    by true here = refl
+    by false here = sym (ap (within-by a p m ls below after) here)
+put-nth a p (suc i) (strand m ls below after) c g k e so =
     let own : is_open_in_top a (top_of ls) ≡ false = or_none _ _ (sym (open-node a (record { frames = ls; below = below }) (g.0, g.1)) ∙ k.0) in
-    ap (strand m ls below) (put-nth a p i after c g.2 k.1 e yes)
-    ∙ sym (ap (λ x. if x then strand m (answered_stands p ls) below after else within (is_open a (strand_node ls (nodes_of below)))) own ∙ ap within k.0)
+    ap (strand m ls below) (put-nth a p i after c g.2 k.1 e so)
+    ∙ sym (ap (λ x. if x then strand m (answered_stands p ls) below after else within-by a p m ls below after (is_open a (strand_node ls (nodes_of below)))) own ∙ ap (within-by a p m ls below after) k.0)
 
 abbrev pub IsIn : List ℕ → CallReply → ℕ → Tree Stand → Tree Stand → Option CallReply → Type 0
 IsIn a p n old new o = (b : Branch Stand) → find old.strands n ≡ Some b → IsAnswerIn a p n b old new o
-
-held-by : (a : List ℕ) (p : CallReply) (b : Branch Stand) → Bool → Branch Stand
-held-by a p b x = if x then answered_here p b else record b { below = answered_strands a p b.below }
 
 pub in-here : (a : List ℕ) (p : CallReply) (n : ℕ) (old new : Tree Stand) → IsHeld old n → IsHere a p n old new None → IsIn a p n old new None
 in-here a p n old new held here b f =

@@ -79,9 +79,9 @@ AreClosed a (suc i) no_strands = Unit {0}
 AreClosed a (suc i) (strand m ls below after) = (is_open a (strand_node ls (nodes_of below)) ≡ false) × AreClosed a i after
 
 closed-next : (a : List ℕ) (i : ℕ) (ss : Strands Stand) (c : Found Stand) → AreClosed a i ss → nth ss i ≡ Some c → is_open a (node_of c.held) ≡ false → AreClosed a (suc i) ss
-closed-next a i no_strands c k e no = absurd (nothing c e)
-closed-next a zero (strand m ls below after) c k e no = (ap (λ (d : Found Stand). is_open a (node_of d.held)) (same_Some _ c e) ∙ no, tt)
-closed-next a (suc i) (strand m ls below after) c k e no = (k.0, closed-next a i after c k.1 e no)
+closed-next a i no_strands c k e isnt = absurd (nothing c e)
+closed-next a zero (strand m ls below after) c k e isnt = (ap (λ (d : Found Stand). is_open a (node_of d.held)) (same_Some _ c e) ∙ isnt, tt)
+closed-next a (suc i) (strand m ls below after) c k e isnt = (k.0, closed-next a i after c k.1 e isnt)
 
 or_true : (x : Bool) → (x || true) ≡ true
 or_true true = refl
@@ -89,13 +89,13 @@ or_true false = refl
 
 -- in one of them
 among-open : (a : List ℕ) (ss : Strands Stand) (i : ℕ) (c : Found Stand) → nth ss i ≡ Some c → is_open a (node_of c.held) ≡ true → open_among a (nodes_of ss) ≡ true
-among-open a no_strands i c e yes = absurd (nothing c e)
-among-open a (strand m ls below after) zero c e yes =
+among-open a no_strands i c e so = absurd (nothing c e)
+among-open a (strand m ls below after) zero c e so =
     open_among-branch a (strand_node ls (nodes_of below)) (nodes_of after)
-    ∙ ap (λ x. x || open_among a (nodes_of after)) (ap (λ (d : Found Stand). is_open a (node_of d.held)) (same_Some _ c e) ∙ yes)
-among-open a (strand m ls below after) (suc i) c e yes =
+    ∙ ap (λ x. x || open_among a (nodes_of after)) (ap (λ (d : Found Stand). is_open a (node_of d.held)) (same_Some _ c e) ∙ so)
+among-open a (strand m ls below after) (suc i) c e so =
     let first = is_open a (strand_node ls (nodes_of below)) in
-    open_among-branch a (strand_node ls (nodes_of below)) (nodes_of after) ∙ ap (λ x. first || x) (among-open a after i c e yes) ∙ or_true first
+    open_among-branch a (strand_node ls (nodes_of below)) (nodes_of after) ∙ ap (λ x. first || x) (among-open a after i c e so) ∙ or_true first
 
 -- in none
 among-closed : (a : List ℕ) (i : ℕ) (ss : Strands Stand) → AreClosed a i ss → nth ss i ≡ None → open_among a (nodes_of ss) ≡ false
