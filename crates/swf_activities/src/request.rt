@@ -15,11 +15,10 @@ use swf_stack::{Made, Top};
 fn requested(rule: &Rule, spec: &HttpSpec) -> Result<CallRequest, Halt>
     ensures { Gives (requested (line_in rule.now) rule.now.running.now spec.now) result }
 {
-    let sight = rule.within()?;
-    let query = filled_members(rule, sight.vars(), spec.query.as_slice())?;
-    let uri = uri_by(rule, sight.vars(), query.as_slice(), &spec.endpoint)?;
-    let headers = headers_by(rule, sight.vars(), spec.headers.as_slice())?;
-    let body = body_by(rule, sight.vars(), spec.body.as_ref())?;
+    let query = filled_members(rule, spec.query.as_slice())?;
+    let uri = uri_by(rule, query.as_slice(), &spec.endpoint)?;
+    let headers = headers_by(rule, spec.headers.as_slice())?;
+    let body = body_by(rule, spec.body.as_ref())?;
     Ok(CallRequest::new(spec.method, uri, headers, body))
 }
 
