@@ -1,5 +1,6 @@
 pub mod AnswerLemmas
 pub mod ContentLemmas
+pub mod DialLemmas
 pub mod ExchangeLemmas
 pub mod MemoryLemmas
 pub mod PartyLemmas

@@ -1,5 +1,6 @@
 -- A dial in memory and its links: the replies that are left, the calls that fail, and what was said.
-use Rattle.std.specs.Prelude.{ℕ, List, drop, string_bytes}
+use Rattle.std.specs.Prelude.{◌≡◌, ◌⊎◌, ◌+◌, ◌-◌, ◌^◌, min, ℕ, List, [], ◌∷◌, true, false, drop, string_bytes, Result, Ok, Err}
+use Rattle.swf_store.specs.Replay.{is_in}
 use Rattle.swf_connect.specs.declared.memory_link.MemoryLink.{MemoryLink}
 use Rattle.swf_connect.specs.Talks.{About, Talk}
 
@@ -35,3 +36,20 @@ link_beside link = (link_about link, link_written link, link_lacks link)
 
 abbrev pub link_kept : MemoryLink → About × List ℕ
 link_kept link = (link_about link, link_left link)
+
+-- a count goes up by one, or stands at the end of its type
+abbrev pub one_more : ℕ → ℕ
+one_more n = min (n + 1) (2 ^ 64 - 1)
+
+-- the call fails: its number is on the list, or no reply is left
+abbrev pub FailsDial : Dialed → Type 0
+FailsDial d = (is_in d.failing d.dials ≡ true) ⊎ (d.left ≡ [])
+
+-- no memory was found by a call that does not fail
+abbrev pub LacksDial : Dialed → Dialed → Type 0
+LacksDial old new = (is_in old.failing old.dials ≡ false) × (new.lacks ≡ one_more old.lacks)
+
+-- a link gives the next reply; a call that fails uses none up
+abbrev pub Dials : {E : Type 0} → Dialed → Dialed → Result MemoryLink E → Type 0
+Dials old new (Ok link) = (old.left ≡ link_left link ∷ new.left) × (is_in old.failing old.dials ≡ false) × (new.lacks ≡ old.lacks)
+Dials old new (Err e) = (new.left ≡ old.left) × ((FailsDial old × (new.lacks ≡ old.lacks)) ⊎ LacksDial old new)

@@ -7,6 +7,7 @@ mod connector;
 mod content;
 mod dial;
 mod exchange;
+mod fails;
 mod http_connector;
 mod memory_connector;
 mod memory_dial;

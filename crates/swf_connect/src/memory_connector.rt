@@ -4,6 +4,7 @@ ghost use Rattle.swf_calls.specs.declared.reply.CallReply.TheVariants.{Unreached
 ghost use Rattle.swf_connect.specs.Asked.{IsTellableAnswer, IsTellableReply};
 ghost use Rattle.swf_connect.specs.Memory.{answer_count, first_of};
 
+use crate::fails::is_failing;
 use crate::uri::has_scheme;
 use crate::{Asked, Connector};
 use std::alloc::{AllocError, Global};
@@ -127,7 +128,7 @@ impl Connector for MemoryConnector {
         ensures after { IfOk result (λ reply. self.new ≡ after_reply request.now reply self.old) }
         ensures err { OnErr result (self.new ≡ self.old) }
     {
-        let fails = self.failing.contains(&(self.asked.len() as u64));
+        let fails = is_failing(&self.failing, self.asked.len() as u64);
         let reply = reply_at(self.alloc, &self.replies, self.answered, fails)?;
         let asked = Asked {
             request: request.copy(self.alloc)?,

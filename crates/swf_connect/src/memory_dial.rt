@@ -1,4 +1,5 @@
 // A dial in memory, whose links give what it was given, and which keeps what was said.
+use crate::fails::is_failing;
 use crate::talks::{Spoken, Talks};
 use crate::{Dial, MemoryLink};
 use std::alloc::{AllocError, Global};
@@ -68,16 +69,31 @@ impl MemoryDial {
 impl Dial for MemoryDial {
     type Link = MemoryLink;
 
-    ghost use Rattle.std.specs.Prelude.{◌≡◌, Some};
+    ghost use Rattle.std.specs.Prelude.{◌≡◌, ℕ, Some, IfOk};
+    ghost use Rattle.swf_store.specs.Faults.{HasCause};
+    ghost use Rattle.swf_connect.specs.Dialed.{link_about, link_lacks, link_left, link_written, one_more, Dials};
+    ghost use Rattle.swf_connect.specs.Talks.{IsFresh};
 
     ghost talks = { λ dial. Some dial.talks };
 
     ghost dial_faults = { λ dial. dial.faults };
 
-    fn dial(&mut self, host: &str, port: u16) -> Result<MemoryLink, Failed> {
-        let fails = self.failing.contains(&self.dials);
-        self.dials = self.dials.saturating_add(1);
-        if fails || self.next >= self.replies.len() {
+    #[tactic(auto, using(crate::proofs::DialLemmas::next_left))]
+    fn dial(&mut self, host: &str, port: u16) -> Result<MemoryLink, Failed>
+        ensures fresh { IfOk result (λ link. IsFresh host.now port (Some (link_about link)) (Some (link_left link)) (Some (link_written link))) }
+        ensures unused { IfOk result (λ link. (◌≡◌ {A = ℕ} 0 0) × (link_lacks link ≡ 0)) }
+        ensures talks { Some self.new.talks ≡ Some self.old.talks }
+        ensures cause { HasCause self.old.faults self.new.faults result }
+        ensures dials { Dials self.old self.new result }
+        ensures counts { self.new.dials ≡ one_more self.old.dials }
+    {
+        let number = self.dials;
+        self.dials = number.saturating_add(1);
+        if is_failing(&self.failing, number) {
+            self.faults = self.faults.saturating_add(1);
+            return Err(Failed);
+        }
+        if self.next >= self.replies.len() {
             self.faults = self.faults.saturating_add(1);
             return Err(Failed);
         }
