@@ -1,4 +1,4 @@
-use Rattle.std.proofs.Common.{arith, subst, sym, None, Option}
+use Rattle.std.proofs.Common.{arith, subst, sym, Option}
 use Rattle.swf_calls.specs.declared.reply.CallReply.{CallReply}
 use Rattle.swf_strands.proofs.AskLemmas.{child-place}
 use Rattle.swf_strands.proofs.TreeLemmas.{child-held}
