@@ -70,9 +70,10 @@ open-fork a b g own is = by (is_fork (top_of b.frames)) refl
 
 -- ---- of those beside each other
 
-nodes-answered : (a : List ℕ) (p : CallReply) (ss : Strands Stand) → IsGrown ss → nodes_of (answered_strands a p ss) ≡ with_reply_among a p (nodes_of ss)
-nodes-answered a p no_strands g = refl
-nodes-answered a p (strand m ls below after) g = by (is_open_in_top a (top_of ls)) (is_open a n) refl refl
+-- where it is so of those below one, and of those behind it
+nodes-step : (a : List ℕ) (p : CallReply) (m : ℕ) (ls : List Stand) (below after : Strands Stand) → IsStrand ls below → IsGrown below → nodes_of (answered_strands a p below) ≡ with_reply_among a p (nodes_of below) →
+    nodes_of (answered_strands a p after) ≡ with_reply_among a p (nodes_of after) → nodes_of (answered_strands a p (strand m ls below after)) ≡ with_reply_among a p (nodes_of (strand m ls below after))
+nodes-step a p m ls below after g inner under rest = by (is_open_in_top a (top_of ls)) (is_open a n) refl refl
   where
     b : Branch Stand
     b = record { frames = ls; below = below }
@@ -86,11 +87,16 @@ nodes-answered a p (strand m ls below after) g = by (is_open_in_top a (top_of ls
     by : (x y : Bool) → is_open_in_top a (top_of ls) ≡ x → is_open a n ≡ y →
         nodes_of (if x then strand m (answered_stands p ls) below after else if y then strand m ls (answered_strands a p below) after else strand m ls below (answered_strands a p after))
         ≡ (if y then branch (with_reply a p n) ns else branch n (with_reply_among a p ns))
-    by true true own is = ap (λ k. branch k ns) (strand-own a p ls (nodes_of below) g.0.0 own)
-    by true false own is = absurd (yes-no (sym (open-node a b (g.0, g.1) ∙ (λ i. own i || list_any (λ s. is_open_top a s.1) (tops_from zero (nodes_of below)))) ∙ is))
+    by true true own is = ap (λ k. branch k ns) (strand-own a p ls (nodes_of below) g.0 own)
+    by true false own is =
+        absurd (yes-no (sym (open-node a b (g, inner) ∙ (λ i. own i || list_any (λ s. is_open_top a s.1) (tops_from zero (nodes_of below)))) ∙ is))
     by false true own is =
-        ap (λ k. branch k ns) (ap (strand_node ls) (nodes-answered a p below g.1) ∙ strand-below a p ls (nodes_of below) (open-fork a b (g.0, g.1) own is))
-    by false false own is = ap (branch n) (nodes-answered a p after g.2)
+        ap (λ k. branch k ns) (ap (strand_node ls) under ∙ strand-below a p ls (nodes_of below) (open-fork a b (g, inner) own is))
+    by false false own is = ap (branch n) rest
+
+nodes-answered : (a : List ℕ) (p : CallReply) (ss : Strands Stand) → IsGrown ss → nodes_of (answered_strands a p ss) ≡ with_reply_among a p (nodes_of ss)
+nodes-answered a p no_strands g = refl
+nodes-answered a p (strand m ls below after) g = nodes-step a p m ls below after g.0 g.1 (nodes-answered a p below g.1) (nodes-answered a p after g.2)
 
 -- ---- that strands are grown
 
@@ -103,14 +109,17 @@ fork-answered p (tops.Hearing r bound hs) = refl
 fork-answered p (tops.Awaiting r a q o) = refl
 fork-answered p (tops.Forked r) = refl
 
-numbers-answered : (a : List ℕ) (p : CallReply) (ss : Strands Stand) → numbers (answered_strands a p ss) ≡ numbers ss
-numbers-answered a p no_strands = refl
-numbers-answered a p (strand m ls below after) = by (is_open_in_top a (top_of ls)) (is_open a (strand_node ls (nodes_of below)))
+numbers-step : (a : List ℕ) (p : CallReply) (m : ℕ) (ls : List Stand) (below after : Strands Stand) → numbers (answered_strands a p after) ≡ numbers after → numbers (answered_strands a p (strand m ls below after)) ≡ m ∷ numbers after
+numbers-step a p m ls below after rest = by (is_open_in_top a (top_of ls)) (is_open a (strand_node ls (nodes_of below)))
   where
     by : (x y : Bool) → numbers (if x then strand m (answered_stands p ls) below after else if y then strand m ls (answered_strands a p below) after else strand m ls below (answered_strands a p after)) ≡ m ∷ numbers after
     by true y = refl
     by false true = refl
-    by false false = ap (λ ns. m ∷ ns) (numbers-answered a p after)
+    by false false = ap (λ ns. m ∷ ns) rest
+
+numbers-answered : (a : List ℕ) (p : CallReply) (ss : Strands Stand) → numbers (answered_strands a p ss) ≡ numbers ss
+numbers-answered a p no_strands = refl
+numbers-answered a p (strand m ls below after) = numbers-step a p m ls below after (numbers-answered a p after)
 
 -- with an answer on the strand itself
 strand-here : (p : CallReply) (ls : List Stand) (below : Strands Stand) → IsStrand ls below → IsStrand (answered_stands p ls) below
@@ -128,14 +137,17 @@ strand-here p ls below s = (
 strand-under : (a : List ℕ) (p : CallReply) (ls : List Stand) (below : Strands Stand) → IsStrand ls below → IsStrand ls (answered_strands a p below)
 strand-under a p ls below s = (s.0, (λ isnt. ap (answered_strands a p) (s.1 isnt)), subst (λ ns. length ns ≤ most_beside) (sym (numbers-answered a p below)) s.2)
 
-grown-answered : (a : List ℕ) (p : CallReply) (ss : Strands Stand) → IsGrown ss → IsGrown (answered_strands a p ss)
-grown-answered a p no_strands g = tt
-grown-answered a p (strand m ls below after) g = by (is_open_in_top a (top_of ls)) (is_open a (strand_node ls (nodes_of below)))
+grown-step : (a : List ℕ) (p : CallReply) (m : ℕ) (ls : List Stand) (below after : Strands Stand) → IsGrown (strand m ls below after) → IsGrown (answered_strands a p below) → IsGrown (answered_strands a p after) → IsGrown (answered_strands a p (strand m ls below after))
+grown-step a p m ls below after g under rest = by (is_open_in_top a (top_of ls)) (is_open a (strand_node ls (nodes_of below)))
   where
     by : (x y : Bool) → IsGrown (if x then strand m (answered_stands p ls) below after else if y then strand m ls (answered_strands a p below) after else strand m ls below (answered_strands a p after))
     by true y = (strand-here p ls below g.0, g.1, g.2)
-    by false true = (strand-under a p ls below g.0, grown-answered a p below g.1, g.2)
-    by false false = (g.0, g.1, grown-answered a p after g.2)
+    by false true = (strand-under a p ls below g.0, under, g.2)
+    by false false = (g.0, g.1, rest)
+
+grown-answered : (a : List ℕ) (p : CallReply) (ss : Strands Stand) → IsGrown ss → IsGrown (answered_strands a p ss)
+grown-answered a p no_strands g = tt
+grown-answered a p (strand m ls below after) g = grown-step a p m ls below after g (grown-answered a p below g.1) (grown-answered a p after g.2)
 
 -- ---- of all strands
 
