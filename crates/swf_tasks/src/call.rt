@@ -24,10 +24,10 @@ impl Machine {
         ensures err { OnErr result (self.new ≡ self.old) }
     {
         let root = self.forest.root();
-        match answer_in(&mut self.forest, root, activity, reply) {
-            None => Ok(()),
-            Some(reply) => Err(reply),
+        if let Some(reply) = answer_in(&mut self.forest, root, activity, reply) {
+            return Err(reply);
         }
+        Ok(())
     }
 
     /// The calls that await an answer, ascending by strand, each with its activity. It copies no values.

@@ -1,4 +1,4 @@
-use Rattle.std.proofs.Common.{◌≡◌, ◌∙◌, ◌+◌, ap, sym, subst, refl, Option, Some, None, Ok, Result}
+use Rattle.std.proofs.Common.{option_to_list, ◌++◌, ◌≡◌, ◌∙◌, ◌+◌, ap, sym, subst, refl, Option, Some, None, Ok, Result}
 use Rattle.std.specs.Prelude.{option_map}
 use Rattle.swf_document.specs.declared.error.Problem.{Problem}
 use Rattle.swf_meaning.specs.Complete.{Stepped, step_of}
@@ -11,6 +11,7 @@ use Rattle.swf_scene.specs.Setting.{line_of, site_of}
 use Rattle.swf_stack.specs.declared.made.Top.TheVariants as tops
 use Rattle.swf_tasks.specs.Stepped.{IsChange, ended_at}
 use Rattle.swf_strands.specs.Strands.{node_of}
+use Rattle.swf_tasks.specs.declared.prepared.Strands.TheVariants as strands
 use Rattle.swf_tasks.proofs.ChangeLemmas.{goes-deeper, settle-on, settle-off, settles-to, halted, none-of, some-of}
 use Rattle.swf_strands.proofs.TreeLemmas.{held-is}
 use Rattle.swf_tasks.proofs.step.settle.Goals as goal

@@ -16,19 +16,5 @@ use Rattle.swf_strands.specs.Strands.{IsGrown, root_node}
 use Rattle.swf_tasks.proofs.machine.Machine.deliver_reply.Goals as goal
 
 pub answer_in-requires : goal.answer_in-requires
-answer_in-requires c = root-held c.self.inside.forest c.root.result c.root.ensures.root c.root.ensures.distinct c.self.invariant.0
+answer_in-requires c = root-held c.self.inside.forest c.root-root.result c.root-root.ensures.root c.root-root.ensures.distinct c.self.invariant.0
 
-pub invariant_of-self-in-None : goal.invariant_of-self-in-None
-invariant_of-self-in-None c =
-    let old = c.self.inside.forest in
-    let new = c.answer_in.new.forest in
-    let all = answered-all c.args.activity.now c.args.reply old new c.root.result c.root.ensures.root c.self.invariant.0 c.in-None.ensures in
-    (all.grown, c.self.invariant.1 ∙ ap (reduce min) (sym (waits_replied c.args.activity.now c.args.reply (root_node old.strands))) ∙ ap alarm_of (sym all.node))
-
-pub returns-in-None-clause-ok : goal.returns-in-None-clause-ok
-returns-in-None-clause-ok c =
-    let a = c.args.activity.now in
-    let p = c.args.reply in
-    let s = c.self.inside.setting in
-    let all = answered-all a p c.self.inside.forest c.answer_in.new.forest c.root.result c.root.ensures.root c.self.invariant.0 c.in-None.ensures in
-    subst (λ (i : Instance). (is_open a i.node ≡ true) × (instance_of s (root_node c.answer_in.new.forest.strands) ≡ record i { node = with_reply a p i.node })) c.self.view_is (all.was, ap (instance_of s) all.node)

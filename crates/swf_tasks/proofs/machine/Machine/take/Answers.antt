@@ -1,3 +1,6 @@
+use Rattle.std.proofs.Common.{◌∙◌}
+use Rattle.swf_scene.specs.Setting.{instance_of}
+use Rattle.swf_strands.specs.Strands.{root_node}
 use Rattle.swf_tasks.proofs.PrepareLemmas.{applied-by, fits-root}
 use Rattle.swf_tasks.proofs.machine.Machine.take.Goals as goal
 
