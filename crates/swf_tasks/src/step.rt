@@ -281,10 +281,10 @@ fn ruled<'s>(alloc: Global, scene: &'s Scene<'s>, stand: &'s Stand) -> Result<Ma
                 running,
                 vars: None,
             };
-            match answer {
-                Some(reply) => answered(&rule, request.get(), reply),
-                None => unreachable!(),
-            }
+            let Some(reply) = answer else {
+                unreachable!();
+            };
+            answered(&rule, request.get(), reply)
         }
         Top::Forked(_) => unreachable!(),
         Top::Done { output, flow } => moved_on(alloc, scene, innermost(stand), output, flow),

@@ -4,6 +4,7 @@ use Rattle.swf_meaning.specs.Strands.{can_go}
 use Rattle.swf_meaning.specs.declared.heard.Heard.{Heard}
 use Rattle.swf_scene.specs.Setting.{line_of, site_of}
 use Rattle.swf_stack.specs.Stack.{plug, top_node}
+use Rattle.swf_stack.specs.declared.made.Top.TheVariants as tops
 use Rattle.swf_stack.specs.Stands.{inward}
 use Rattle.swf_strands.proofs.StrandLemmas.{some-done, some-failed, no-fork}
 use Rattle.swf_tasks.specs.Taken.{IsListened}
@@ -27,9 +28,9 @@ returns-in-Hearing c = λ l seen.
     made-hearing (site_of c.args.scene.now) l z c.args.stand.now c.in-Hearing.running _ c.in-Hearing.heard c.listened.result (sym c.get.ensures ∙ c.in-Hearing.is) c.requires seen
     (subst (λ (hs : List Heard). IsListened z c.in-Hearing.running hs c.listened.result) c.as_slice.ensures c.listened.ensures)
 
-pub returns-in-Awaiting-Some : goal.returns-in-Awaiting-Some
-returns-in-Awaiting-Some c = λ l seen.
-    made-awaiting (site_of c.args.scene.now) l (line_of c.args.scene.now) c.args.stand.now c.in-Awaiting.running c.in-Awaiting.activity c.in-Awaiting.request c.in-Awaiting-Some.reply c.answered.result (sym c.get.ensures ∙ c.in-Awaiting.is) seen c.answered.ensures
+pub returns-in-Awaiting : goal.returns-in-Awaiting
+returns-in-Awaiting c = λ l seen.
+    made-awaiting (site_of c.args.scene.now) l (line_of c.args.scene.now) c.args.stand.now c.in-Awaiting.running c.in-Awaiting.activity c.in-Awaiting.request c.in-Some.reply c.answered.result (sym c.get.ensures ∙ c.in-Awaiting.is ∙ ap (tops.Awaiting c.in-Awaiting.running c.in-Awaiting.activity c.in-Awaiting.request) c.in-Some.is) seen c.answered.ensures
 
 pub unreachable-requires-in-Forked : goal.unreachable-requires-in-Forked
 unreachable-requires-in-Forked c =

@@ -16,5 +16,5 @@ invariant_of-self c = (c.put_strands-self-inside.ensures.grown, c.put_strands-se
 
 pub returns-clause-changed : goal.returns-clause-changed
 returns-clause-changed c =
-    (λ i. record (instance_of c.self.inside.setting (root_node c.put_strands-self-inside.new.forest.strands)) { context = c.put_context-self-inside.ensures i; number = c.args.prepared.number })
+    (λ i. record (instance_of c.self.inside.setting (root_node c.put_strands-self-inside.new.forest.strands)) { context = c.put_context.ensures i; number = c.args.prepared.number })
     ∙ applied-by c.self.inside.setting c.self.inside.forest.strands c.put_strands-self-inside.new.forest.strands c.args.prepared c.args.self.now c.as_slice.result.now c.self.view_is c.as_slice.ensures c.put_strands-self-inside.ensures.node
