@@ -2,7 +2,7 @@ use Rattle.std.proofs.Common.{◌≡◌, ◌∙◌, refl, sym, subst, ℕ, Ok, a
 use Rattle.swf_engine.specs.Answers.{Steps}
 use Rattle.swf_engine.specs.Core.{Core}
 use Rattle.swf_engine.proofs.StepLemmas.{Taken, none_taken, one_taken, settled_quiet, settled_limit, not_settled}
-use Rattle.swf_engine.proofs.engine.Engine.settle.Goals as goal
+use Rattle.swf_engine.proofs.settle.Engine.take_steps.Goals as goal
 
 pub loop-steps-init : goal.loop-steps-init
 loop-steps-init g c =

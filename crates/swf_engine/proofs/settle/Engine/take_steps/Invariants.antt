@@ -1,7 +1,7 @@
 use Rattle.std.proofs.Common.{◌≡◌, is_some}
 use Rattle.swf_engine.specs.Core.{IsEngineOf}
 use Rattle.swf_engine.proofs.StepLemmas.{Taken}
-use Rattle.swf_engine.proofs.engine.Engine.settle.Given as goal
+use Rattle.swf_engine.proofs.settle.Engine.take_steps.Given as goal
 
 -- the steps so far, and what stays through them
 abbrev pub invariant-loop-steps : goal.invariant-loop-steps
