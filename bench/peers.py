@@ -1,4 +1,5 @@
-"""Peers on loopback for bench/calls and bench/session: a server that answers as it is told, Python's own, and nginx."""
+"""Peers on loopback for bench/calls and bench/session: a server that answers as it is told, Python's own, and nginx. As a program it is a
+server that answers each request at once, and tells its port."""
 import contextlib
 import os
 import socket
@@ -90,8 +91,8 @@ def reset(data):
 
 
 class Peer:
-    """A server that answers each request by the path of its target. `answers` has ways for each path, of which the last stays;
-    `requests` has the bytes that came for each path, up to the end of the connection."""
+    """A server that answers each request by the path of its target. `answers` has ways for each path, of which the last stays; `order` has
+    the paths in the order in which requests came, and `requests` the bytes of those for a path, up to the end of the connection."""
 
     def __init__(self, address=(HOST, 0), family=socket.AF_INET):
         self.listener = socket.create_server(address, family=family, backlog=64)
@@ -107,36 +108,40 @@ class Peer:
                 threading.Thread(target=self.talk, args=(link,), daemon=True).start()
 
     def talk(self, link):
-        data, path = b"", None
         with link, contextlib.suppress(OSError):
             link.settimeout(PATIENCE)
             data = read_request(link)
             path = data.split(b" ")[1].split(b"?")[0].decode() if data.count(b" ") > 1 else ""
-            self.way(path)(link)
-            link.shutdown(socket.SHUT_WR)
-            while piece := link.recv(65536):
-                data += piece
-        with self.changed:
-            self.requests.setdefault(path, []).append(data)
-            self.changed.notify_all()
+            place, way = self.arrived(path)
+            with contextlib.suppress(OSError):
+                way(link)
+                link.shutdown(socket.SHUT_WR)
+                while piece := link.recv(65536):
+                    data += piece
+            with self.changed:
+                self.requests[path][place] = data
+                self.changed.notify_all()
 
-    def way(self, path):
+    def arrived(self, path):
+        """Which request for a path it is, and the way of its answer."""
         with self.changed:
             self.order.append(path)
+            self.requests.setdefault(path, []).append(None)
             self.changed.notify_all()
             ways = self.answers.get(path) or [whole(b"HTTP/1.1 404 Not Found\r\nContent-Length: 0\r\n\r\n")]
-            return ways.pop(0) if len(ways) > 1 else ways[0]
+            return len(self.requests[path]) - 1, ways.pop(0) if len(ways) > 1 else ways[0]
 
     def came(self, path, count=1, seconds=10):
-        """The requests for a path, once so many have come and ended."""
+        """The requests for a path, once so many have come and all have ended."""
         with self.changed:
-            self.changed.wait_for(lambda: len(self.requests.get(path, [])) >= count, seconds)
+            there = lambda: len(self.requests.get(path, [])) >= count and None not in self.requests[path]
+            self.changed.wait_for(there, seconds)
             return list(self.requests.get(path, []))
 
-    def begun(self, path, count=1, seconds=10):
-        """Whether so many requests for a path came."""
+    def begun(self, path, seconds=10):
+        """Whether a request for a path came."""
         with self.changed:
-            return self.changed.wait_for(lambda: self.order.count(path) >= count, seconds)
+            return self.changed.wait_for(lambda: path in self.order, seconds)
 
     def close(self):
         self.listener.close()
@@ -243,3 +248,31 @@ def certificate(folder, name):
     words += ["-addext", f"subjectAltName=DNS:{name}", "-out", paths[0], "-keyout", paths[1]]
     subprocess.run(words, check=True, stdin=subprocess.DEVNULL, stdout=subprocess.DEVNULL, stderr=subprocess.DEVNULL)
     return paths
+
+
+class AtOnce:
+    """A process that answers each request at once with `{"x":1}`, and closes."""
+
+    def __init__(self):
+        words = [sys.executable, os.path.abspath(__file__)]
+        self.process = subprocess.Popen(words, stdin=subprocess.DEVNULL, stdout=subprocess.PIPE)
+        self.port = int(self.process.stdout.readline())
+
+    def close(self):
+        self.process.terminate()
+        self.process.wait()
+        self.process.stdout.close()
+
+
+def serve_at_once():
+    listener = socket.create_server((HOST, 0), backlog=64)
+    print(listener.getsockname()[1], flush=True)
+    while True:
+        link, _ = listener.accept()
+        with link, contextlib.suppress(OSError):
+            read_request(link)
+            link.sendall(b'HTTP/1.1 200 OK\r\nContent-Type: application/json\r\nContent-Length: 7\r\n\r\n{"x":1}')
+
+
+if __name__ == "__main__":
+    serve_at_once()
