@@ -1,6 +1,6 @@
 -- What a settling adds: steps, and among them the replies that a board gave to open calls.
-use Rattle.std.specs.Prelude.{◌≡◌, ◌==◌, ◌⊎◌, ◌&&◌, ◌||◌, ℕ, ◌≤◌, List, [], ◌∷◌, ◌++◌, Bool, true, false, not, length, filter, flat_map, Contains, Option, Some, None}
-use Rattle.std.specs.Option.{ForSome, ok_or}
+use Rattle.std.specs.Prelude.{◌≡◌, ◌==◌, ◌⊎◌, ◌&&◌, ◌||◌, ℕ, ◌≤◌, List, [], ◌∷◌, ◌++◌, Bool, true, false, not, length, filter, flat_map, Contains, is_some, unwrap_or, Option, Some, None}
+use Rattle.std.specs.Option.{ok_or}
 use Rattle.swf_calls.specs.Request.{Request}
 use Rattle.swf_calls.specs.declared.reply.CallReply.{CallReply}
 use Rattle.swf_connect.specs.Parties.{Party, Performs}
@@ -57,19 +57,23 @@ is_step (Step id strand) = true
 abbrev pub steps_in : List Label → List Label
 steps_in labels = filter is_step labels
 
--- A reply is the first of those that were given, and its call is open with that request. A step needs none.
+-- A reply is the first of those that were given, and where it is taken, its call is open with that request. A step needs none.
 abbrev pub Takes : World → Label → (given rest : List Called) → Type 0
-Takes w (Reply a r) given rest = (request : Request) × (given ≡ (record { activity = a; request = request; reply = Some r }) ∷ rest) × Contains (calls_in w) (a, request)
+Takes w (Reply a r) given rest = (request : Request) × (given ≡ (record { activity = a; request = request; reply = Some r }) ∷ rest) × (is_some (after w (Reply a r)) ≡ true → Contains (calls_in w) (a, request))
 Takes w (Step id strand) given rest = given ≡ rest
 Takes w (Load v) given rest = ⊥
 Takes w (Start id key input) given rest = ⊥
 Takes w (Event e) given rest = ⊥
 Takes w (Moment moment) given rest = ⊥
 
+-- the world behind a label; one that is not taken leaves it as it is
+abbrev pub behind : World → Label → World
+behind w l = unwrap_or (after w l) w
+
 -- behind that world these labels are steps, and replies that were given in this order, of which all are used
 abbrev pub AreTaken : World → List Label → List Called → Type 0
 AreTaken w [] given = given ≡ []
-AreTaken w (l ∷ ls) given = (rest : List Called) × Takes w l given rest × ForSome (after w l) (λ next. AreTaken next ls rest)
+AreTaken w (l ∷ ls) given = (rest : List Called) × Takes w l given rest × AreTaken (behind w l) ls rest
 
 -- so many of them are steps at most, and what was given last may be left
 pub record IsGroup (w : World) (labels : List Label) (limit : ℕ) (called : List Called) : Type 0 where
