@@ -1,9 +1,9 @@
 -- How what steps and replies add is joined to what a settling adds.
-use Rattle.std.proofs.Common.{◌≡◌, ◌∙◌, ap, sym, refl, subst, ℕ, zero, ◌+◌, ◌≤◌, List, [], ◌∷◌, ◌++◌, length, map, append_assoc, append-nil, ◌&&◌, Bool, true, false, Option, Some, None, Result, Ok, Err, arith, length-append}
+use Rattle.std.proofs.Common.{◌≡◌, ◌∙◌, ap, sym, refl, subst, ℕ, zero, ◌+◌, ◌≤◌, List, [], ◌∷◌, ◌++◌, length, map, append_assoc, append-nil, ◌&&◌, ◌||◌, not, Bool, true, false, Option, Some, None, Result, Ok, Err, arith, length-append}
 use Rattle.std.proofs.lemmas.List.{map-append}
 use Rattle.std.proofs.lemmas.List.Elements.{filter-append}
 use Rattle.std.proofs.lemmas.Option.{option_and_then_some, same_Some}
-use Rattle.std.specs.Prelude.{unwrap_or}
+use Rattle.std.specs.Prelude.{◌==◌, unwrap_or}
 use Rattle.std.specs.Option.{ok_or}
 use Rattle.swf_calls.specs.Request.{Request}
 use Rattle.swf_calls.specs.declared.reply.CallReply.{CallReply}
@@ -28,7 +28,7 @@ use Rattle.swf_engine.specs.Answers.{Stays, Submits, Steps, Went, Fails, Settles
 use Rattle.swf_engine.specs.Core.{Core}
 use Rattle.swf_engine.specs.EngineCalls.{Appends, SubmitCalls}
 use Rattle.swf_engine.specs.Moves.{Adds, IsStep, IsFull}
-use Rattle.swf_engine.specs.Settling.{Called, AreAsked, IsAwaited, Takes, behind, AreTaken, IsGroup, is_step, is_settled, steps_in}
+use Rattle.swf_engine.specs.Settling.{Called, AreAsked, AsksBoard, IsAwaited, calls_in, Takes, behind, AreTaken, IsGroup, is_step, is_settled, steps_in}
 use Rattle.swf_engine.proofs.EngineCallLemmas.{none_appended, appends_join, appends_last_join, appends_last}
 use Rattle.swf_engine.proofs.MoveLemmas.{adds_join, breaks_join, stays_adds}
 use Rattle.swf_engine.proofs.OpenCallLemmas.{awaited_replies, still_open}
@@ -36,6 +36,10 @@ use Rattle.swf_engine.proofs.OpenCallLemmas.{awaited_replies, still_open}
 and_true : (b : Bool) → (b && true) ≡ b
 and_true true = refl
 and_true false = refl
+
+or_true : (b : Bool) → (b || true) ≡ true
+or_true true = refl
+or_true false = refl
 
 -- ---- what was asked
 
@@ -45,6 +49,31 @@ asked_join (c ∷ cs) second old mid new a b = (a.0, a.1, asked_join cs second a
 
 pub asked_one : (c : Called) (old new : List Party) → Performs c.request (ok_or c.reply tt) old new → AreAsked (c ∷ []) old new
 asked_one c old new p = (new, p, refl)
+
+pub board_none : (asks : Bool) (ps : List Party) → AsksBoard asks [] ps ps
+board_none asks ps = record { asked = refl; by_hand = λ e. refl }
+
+-- parties that are asked where a board answers calls
+pub board_asked : (asks : Bool) (called : List Called) (old new : List Party) → asks ≡ true → AreAsked called old new → AsksBoard asks called old new
+board_asked asks called old new is asked = record { asked = asked; by_hand = λ e. absurd (cc) }
+
+board_join : (asks : Bool) (first second : List Called) (old mid new : List Party) → AsksBoard asks first old mid → AsksBoard asks second mid new → AsksBoard asks (first ++ second) old new
+board_join asks first second old mid new a b = record {
+  asked = asked_join first second old mid new a.asked b.asked;
+  by_hand = λ e. ap (λ cs. cs ++ second) (a.by_hand e) ∙ b.by_hand e;
+}
+
+-- ---- where it ends
+
+-- steps that ended a settling whose calls are answered by hand, or that is not quiet
+pub settled_by : (asks quiet : Bool) (w : World) → (asks && quiet) ≡ false → quiet ≡ is_settled false w → quiet ≡ is_settled asks w
+settled_by false quiet w e is = is
+settled_by true quiet w e is = e ∙ sym (ap (λ b. b && (length (calls_in w) == 0)) (sym (is ∙ and_true (is_quiet w)) ∙ e))
+
+-- no strand is enabled, and no call is open
+pub settled_all : (asks quiet : Bool) (w : World) → quiet ≡ true → quiet ≡ is_settled false w → (length (calls_in w) == 0) ≡ true → true ≡ is_settled asks w
+settled_all asks quiet w q is none =
+    sym (ap (λ b. b && (not asks || (length (calls_in w) == 0))) (sym (is ∙ and_true (is_quiet w)) ∙ q) ∙ ap (λ b. not asks || b) none ∙ or_true (not asks))
 
 -- ---- what was taken
 
@@ -151,6 +180,12 @@ module _ {S : Type 0} (moment : S → ℕ) (left_since : S → ℕ → Image →
       → Fails moment left_since said may_leave seen calls limit called old new before later OutOfMemory
   fails_here n called old new before later limit le t = (t.labels, all_group before.world t.labels limit called t.taken (omega (arith, t.count, le)), t.adds, t.appended)
 
+  -- so many steps were added and these parties were asked, none where calls are answered by hand
+  pub record Going (asks : Bool) (n : ℕ) (first last : List Party) (old new : S) (before later : Core) : Type 0 where
+    pub called : List Called
+    pub board : AsksBoard asks called first last
+    pub went : Went moment left_since said may_leave seen calls n called old new before later
+
   module _ (only_now : (s : S) (image : Image) (pieces : List Piece) → left_since s (moment s) image pieces → may_leave s image × IsSaid (said s) pieces) where
     pub none_went : (old : S) (before : Core) → Went moment left_since said may_leave seen calls 0 [] old old before before
     none_went old before = record {
@@ -161,12 +196,12 @@ module _ {S : Type 0} (moment : S → ℕ) (left_since : S → ℕ → Image →
       appended = none_appended (calls old) before.gate;
     }
 
-    pub went_join : (n m : ℕ) (first second : List Called) (old mid new : S) (before middle later : Core) → said mid ≡ said old → Went moment left_since said may_leave seen calls n first old mid before middle
-        → Went moment left_since said may_leave seen calls m second mid new middle later → Went moment left_since said may_leave seen calls (n + m) (first ++ second) old new before later
-    went_join n m first second old mid new before middle later silent a b = record {
+    pub went_join : (n m k : ℕ) (first second : List Called) (old mid new : S) (before middle later : Core) → n + m ≡ k → said mid ≡ said old → Went moment left_since said may_leave seen calls n first old mid before middle
+        → Went moment left_since said may_leave seen calls m second mid new middle later → Went moment left_since said may_leave seen calls k (first ++ second) old new before later
+    went_join n m k first second old mid new before middle later is silent a b = record {
       labels = a.labels ++ b.labels;
       taken = taken_join a.labels b.labels before.world middle.world first second a.adds.run a.taken b.taken;
-      count = omega (arith, steps_join a.labels b.labels, a.count, b.count);
+      count = omega (arith, steps_join a.labels b.labels, a.count, b.count, is);
       adds = adds_join moment left_since said may_leave seen only_now old mid new before middle later a.labels b.labels silent a.adds b.adds;
       appended = appends_join (calls old) (calls mid) (calls new) before.gate middle.gate later.gate a.labels b.labels a.appended b.appended;
     }
@@ -217,6 +252,39 @@ module _ {S : Type 0} (moment : S → ℕ) (left_since : S → ℕ → Image →
           t.appended,
           subst (λ (x : Core). IsFull x (label ∷ []) size) (sym same.1) full,
         )
+
+    -- ---- so far
+
+    pub going_none : (asks : Bool) (ps : List Party) (old : S) (before : Core) → Going asks 0 ps ps old old before before
+    going_none asks ps old before = record { called = []; board = record { asked = refl; by_hand = λ e. refl }; went = none_went old before }
+
+    pub going_on : (asks : Bool) (n m k : ℕ) (second : List Called) (first middle_parties last : List Party) (old mid new : S) (before middle later : Core) → n + m ≡ k → said mid ≡ said old
+        → Going asks n first middle_parties old mid before middle → AsksBoard asks second middle_parties last → Went moment left_since said may_leave seen calls m second mid new middle later
+        → Going asks k first last old new before later
+    going_on asks n m k second first middle_parties last old mid new before middle later is silent g b w = record {
+      called = g.called ++ second;
+      board = board_join asks g.called second first middle_parties last g.board b;
+      went = went_join n m k g.called second old mid new before middle later is silent g.went w;
+    }
+
+    -- what a call that is not done leaves
+    pub going_fails : (asks : Bool) (n left limit : ℕ) (second : List Called) (first middle_parties last : List Party) (old mid new : S) (before middle later : Core) (fault : EngineFault) → n + left ≤ limit → said mid ≡ said old
+        → Going asks n first middle_parties old mid before middle → AsksBoard asks second middle_parties last → Fails moment left_since said may_leave seen calls left second mid new middle later fault
+        → (called : List Called) × AsksBoard asks called first last × Fails moment left_since said may_leave seen calls limit called old new before later fault
+    going_fails asks n left limit second first middle_parties last old mid new before middle later fault fits silent g b f = (
+      g.called ++ second,
+      board_join asks g.called second first middle_parties last g.board b,
+      fails_join n left limit g.called second old mid new before middle later fault silent fits g.went f,
+    )
+
+    pub going_stops : (asks : Bool) (n limit : ℕ) (first last : List Party) (old new : S) (before later : Core) → n ≤ limit → Going asks n first last old new before later
+        → (called : List Called) × AsksBoard asks called first last × Fails moment left_since said may_leave seen calls limit called old new before later OutOfMemory
+    going_stops asks n limit first last old new before later le g = (g.called, g.board, fails_here n g.called old new before later limit le g.went)
+
+    pub going_settled : (asks : Bool) (limit : ℕ) (first last : List Party) (old new : S) (before later : Core) (settled : Settled) → settled.steps ≤ limit → settled.quiet ≡ is_settled asks later.world
+        → (settled.quiet ≡ false → settled.steps ≡ limit) → Going asks settled.steps first last old new before later
+        → (called : List Called) × AsksBoard asks called first last × Settles moment left_since said may_leave seen calls asks called old new before later limit (Ok settled)
+    going_settled asks limit first last old new before later settled le quiet all g = (g.called, g.board, (g.went, le, quiet, all))
 
     -- ---- a step
 

@@ -1,4 +1,4 @@
-use Rattle.std.proofs.Common.{◌≡◌, ◌∙◌, refl, sym, subst, ℕ, [], Ok, arith}
+use Rattle.std.proofs.Common.{◌≡◌, ◌∙◌, refl, sym, subst, ℕ, ◌+◌, [], Ok, arith}
 use Rattle.swf_engine.specs.Answers.{Steps, Went}
 use Rattle.swf_engine.specs.Core.{Core}
 use Rattle.swf_engine.proofs.SettleLemmas.{none_went, went_step, went_join, settled_quiet, settled_limit, not_settled}
@@ -22,8 +22,8 @@ loop-steps-preserved g c =
     let i = c.loop-steps.invariant in
     record {
       place = c.in-Ok-true.ensures.place;
-      went = went_join S.moment S.left_since S.said S.may_leave S.seen S.calls g.met.S.Store.only_now c.loop-steps.steps 1 [] [] c.args.store.now c.loop-steps.store c.step.new.store c.args.self.now c.loop-steps.self c.step.new.self
-          i.said i.went
+      went = went_join S.moment S.left_since S.said S.may_leave S.seen S.calls g.met.S.Store.only_now c.loop-steps.steps 1 (c.loop-steps.steps + 1) [] [] c.args.store.now c.loop-steps.store c.step.new.store c.args.self.now c.loop-steps.self c.step.new.self
+          refl i.said i.went
           (went_step S.moment S.left_since S.said S.may_leave S.seen S.calls c.loop-steps.store c.step.new.store c.loop-steps.self c.step.new.self
           (subst (λ b. Steps S.moment S.left_since S.said S.may_leave S.seen S.calls c.loop-steps.store c.step.new.store c.loop-steps.self c.step.new.self (Ok b)) c.in-Ok-true.field-0-test c.in-Ok-true.ensures.steps));
       said = c.step.ensures.said ∙ i.said;
