@@ -47,7 +47,7 @@ pub asked_join : (first second : List Called) (old mid new : List Party) → Are
 asked_join [] second old mid new a b = subst (λ ps. AreAsked second ps new) a b
 asked_join (c ∷ cs) second old mid new a b = (a.0, a.1, asked_join cs second a.0 mid new a.2 b)
 
-pub asked_one : (c : Called) (old new : List Party) → Performs c.request (ok_or c.reply tt) old new → AreAsked (c ∷ []) old new
+pub asked_one : (c : Called) (old new : List Party) → Performs c.request (ok_or c.reply (tt {0})) old new → AreAsked (c ∷ []) old new
 asked_one c old new p = (new, p, refl)
 
 pub board_none : (asks : Bool) (ps : List Party) → AsksBoard asks [] ps ps
