@@ -233,25 +233,23 @@ module _ {S : Type 0} (moment : S → ℕ) (left_since : S → ℕ → Image →
       appends_join (calls old) (calls mid) (calls new) before.gate middle.gate later.gate a.labels f.0 a.appended f.3,
     )
 
+    -- a call that changed nothing fails as one behind which store and engine are as they were
+    stays_fails : (limit : ℕ) (called : List Called) (old new : S) (before later : Core) (fault : EngineFault) → Stays old new before later → Fails moment left_since said may_leave seen calls limit called old old before before fault
+        → Fails moment left_since said may_leave seen calls limit called old new before later fault
+    stays_fails limit called old new before later fault same f =
+        subst (λ (x : S). Fails moment left_since said may_leave seen calls limit called old x before later fault) (sym same.0)
+        (subst (λ (x : Core). Fails moment left_since said may_leave seen calls limit called old old before x fault) (sym same.1) f)
+
     -- nothing was added
     fails_still : (limit : ℕ) (called : List Called) (old new : S) (before later : Core) → Stays old new before later → Fails moment left_since said may_leave seen calls limit called old new before later OutOfMemory
-    fails_still limit called old new before later same =
-        let t = went_still 0 [] old old new before before later same (none_went old before) in
-        ([], no_group before.world limit called, t.adds, t.appended)
+    fails_still limit called old new before later same = stays_fails limit called old new before later OutOfMemory same
+        ([], no_group before.world limit called, stays_adds moment left_since said may_leave seen only_now old before, none_appended (calls old) before.gate)
 
-    -- a label alone that has no room, or whose frame was not appended
+    -- a label alone has no room
     fails_label : (limit : ℕ) (called : List Called) (old new : S) (before later : Core) (label : Label) (size : ℕ) → IsGroup before.world (label ∷ []) limit called → refusal before.world label ≡ None
         → IsFull before (label ∷ []) size → Stays old new before later → Fails moment left_since said may_leave seen calls limit called old new before later (Full size)
-    fails_label limit called old new before later label size group free full same =
-        let t = went_still 0 [] old old new before before later same (none_went old before) in (
-          [],
-          label,
-          subst (λ (x : Core). refusal x.world label ≡ None) (sym same.1) free,
-          group,
-          t.adds,
-          t.appended,
-          subst (λ (x : Core). IsFull x (label ∷ []) size) (sym same.1) full,
-        )
+    fails_label limit called old new before later label size group free full same = stays_fails limit called old new before later (Full size) same
+        ([], label, free, group, stays_adds moment left_since said may_leave seen only_now old before, none_appended (calls old) before.gate, full)
 
     -- ---- so far
 
