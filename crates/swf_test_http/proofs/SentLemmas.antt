@@ -1,12 +1,14 @@
 -- What is looked at before a message is written makes it one that may be sent.
-use Rattle.std.proofs.Common.{◌≡◌, ◌∙◌, sym, refl, ap, ℕ, ◌≤◌, ◌≢◌, List, [], ◌∷◌, Bool, true, false, not, ◌&&◌, ◌||◌, nat_lt, length, reverse, All, codes}
+use Rattle.std.proofs.Common.{◌≡◌, ◌∙◌, sym, subst, refl, ap, ℕ, List, [], ◌∷◌, Bool, true, false, not, ◌&&◌, ◌||◌, nat_lt, length, reverse, All, codes}
 use Rattle.std.specs.List.{list_all, list_any}
+use Rattle.std.specs.Str.{encode_utf8_all}
 use Rattle.std.proofs.lemmas.Bool.{ltb-true}
 use Rattle.std.proofs.lemmas.List.{reverse-reverse}
-use Rattle.std.proofs.lemmas.List.Elements.{All-nil, All-cons}
+use Rattle.std.proofs.lemmas.List.Elements.{All-nil, All-cons, All-head, All-tail}
 use Rattle.http1.specs.Text.{eq_ignore_case}
 use Rattle.httparse.specs.Grammar.{AllPass, IsToken, is_token_byte, skip_ows, trim_ows}
 use Rattle.swf_text.proofs.SameLemmas.{both_true}
+use Rattle.swf_http.proofs.SentLemmas.{text_bytes, token_ascii}
 use Rattle.swf_calls.specs.declared.headers.Header.{Header}
 use Rattle.swf_calls.specs.Request.{are_sendable, begins_blank, is_blank, is_field_name, is_field_value, is_name_character, is_sendable, is_visible as is_visible_character}
 use Rattle.swf_http.specs.declared.message.Request.{Request}
@@ -82,23 +84,28 @@ none_true true b e = cc
 -- one of the headers that a response's writer writes itself, or never
 abbrev is_own : Header → Bool
 is_own h =
-    eq_ignore_case h.name (codes "content-length")
-    || (eq_ignore_case h.name (codes "connection") || eq_ignore_case h.name (codes "transfer-encoding"))
+    eq_ignore_case (encode_utf8_all h.name) (codes "content-length")
+    || (eq_ignore_case (encode_utf8_all h.name) (codes "connection") || eq_ignore_case (encode_utf8_all h.name) (codes "transfer-encoding"))
 
-other_from : (h : Header) → is_own h ≡ false → IsOther h
-other_from h no =
-    let later = eq_ignore_case h.name (codes "connection") || eq_ignore_case h.name (codes "transfer-encoding") in
-    let p = none_true (eq_ignore_case h.name (codes "content-length")) later no in
-    (p.0, none_true (eq_ignore_case h.name (codes "connection")) (eq_ignore_case h.name (codes "transfer-encoding")) p.1)
+other_from : (h : Header) → IsSendable h → is_own h ≡ false → IsOther h
+other_from h is free =
+    let bytes : encode_utf8_all h.name ≡ h.name = text_bytes h.name (token_ascii h.name is.name) in
+    let differs : (word : List ℕ) → eq_ignore_case (encode_utf8_all h.name) word ≡ false → eq_ignore_case h.name word ≡ false =
+    λ word. subst (λ (name : List ℕ). eq_ignore_case name word ≡ false) bytes in
+    let connection = eq_ignore_case (encode_utf8_all h.name) (codes "connection") in
+    let coding = eq_ignore_case (encode_utf8_all h.name) (codes "transfer-encoding") in
+    let p = none_true (eq_ignore_case (encode_utf8_all h.name) (codes "content-length")) (connection || coding) free in
+    let q = none_true connection coding p.1 in
+    (differs (codes "content-length") p.0, differs (codes "connection") q.0, differs (codes "transfer-encoding") q.1)
 
-all_other : (hs : List Header) → list_any is_own hs ≡ false → All IsOther hs
-all_other [] no = All-nil IsOther
-all_other (h ∷ hs) no =
-    let p = none_true (is_own h) (list_any is_own hs) no in
-    All-cons IsOther h hs (other_from h p.0) (all_other hs p.1)
+all_other : (hs : List Header) → All IsSendable hs → list_any is_own hs ≡ false → All IsOther hs
+all_other [] are free = All-nil IsOther
+all_other (h ∷ hs) are free =
+    let p = none_true (is_own h) (list_any is_own hs) free in
+    All-cons IsOther h hs (other_from h (All-head IsSendable h hs are) p.0) (all_other hs (All-tail IsSendable h hs are) p.1)
 
-pub response_from : (r : Response) → IsSendableStatus r.status → are_sendable r.headers ≡ true
-    → list_any (λ h. eq_ignore_case h.name (codes "content-length")
-    || (eq_ignore_case h.name (codes "connection") || eq_ignore_case h.name (codes "transfer-encoding"))) r.headers ≡ false
+pub response_from : (r : Response) → IsSendableStatus r.status → are_sendable r.headers ≡ true → list_any is_own r.headers ≡ false
     → IsSendableResponse r
-response_from r status are none = record { status = status; headers = all_sendable r.headers are; others = all_other r.headers none }
+response_from r status are none =
+    let headers = all_sendable r.headers are in
+    record { status = status; headers = headers; others = all_other r.headers headers none }

@@ -1,6 +1,7 @@
 // Messages that are read and written again.
 ghost use Rattle.std.specs.Prelude.{◌≡◌, ◌&&◌, ◌||◌, chars, codes, length, nat_lt, not, true, IfOk};
 ghost use Rattle.std.specs.List.{list_all, list_any};
+ghost use Rattle.std.specs.Str.{encode_utf8_all};
 ghost use Rattle.http1.specs.Text.{eq_ignore_case};
 ghost use Rattle.httparse.specs.Grammar.{IsToken};
 ghost use Rattle.swf_http.specs.Sent.{is_visible, IsSendableRequest, IsSendableResponse, IsSendableStatus};
@@ -50,12 +51,19 @@ fn has_character(text: &str) -> bool
     }
 }
 
+// Whether each character of a text shows.
+fn is_of_visible(text: &str) -> bool
+    ensures { result ≡ list_all is_visible (chars text.now) }
+{
+    text.chars().all(|character| is_visible(character))
+}
+
 // Whether a text has characters, and each of them shows.
 fn is_target(text: &Text) -> bool
     ensures { result ≡ (nat_lt 0 (length text.now) && list_all is_visible text.now) }
 {
     let text = text.as_str();
-    has_character(text) && text.chars().all(|character| is_visible(character))
+    has_character(text) && is_of_visible(text)
 }
 
 // Whether a request can be sent.
@@ -69,8 +77,9 @@ fn can_send_request(request: &Request) -> Result<bool, AllocError>
 
 // Whether a header is one that `write_response` writes itself, or never.
 fn is_own(header: &Header) -> bool
-    ensures { result ≡ (eq_ignore_case header.now.name (codes "content-length")
-        || (eq_ignore_case header.now.name (codes "connection") || eq_ignore_case header.now.name (codes "transfer-encoding"))) }
+    ensures { result ≡ (eq_ignore_case (encode_utf8_all header.now.name) (codes "content-length")
+        || (eq_ignore_case (encode_utf8_all header.now.name) (codes "connection")
+        || eq_ignore_case (encode_utf8_all header.now.name) (codes "transfer-encoding"))) }
 {
     let name = header.name.as_str().as_bytes();
     eq_ignore_case(name, b"content-length")
@@ -80,8 +89,9 @@ fn is_own(header: &Header) -> bool
 
 // Whether one of some headers is such.
 fn has_own(headers: &Headers) -> bool
-    ensures { result ≡ list_any (λ h. eq_ignore_case h.name (codes "content-length")
-        || (eq_ignore_case h.name (codes "connection") || eq_ignore_case h.name (codes "transfer-encoding"))) headers.now }
+    ensures { result ≡ list_any (λ h. eq_ignore_case (encode_utf8_all h.name) (codes "content-length")
+        || (eq_ignore_case (encode_utf8_all h.name) (codes "connection")
+        || eq_ignore_case (encode_utf8_all h.name) (codes "transfer-encoding"))) headers.now }
 {
     headers.as_slice().iter().any(|header| is_own(header))
 }
