@@ -1206,6 +1206,8 @@ def replayed(labels):
 
 def part(world, lines):
     """What is printed from one opening of the store to the next. Where a reply cannot be said, the program ends with 4."""
+    if any(line.startswith(("! fail store ", "! fail next ")) for line in lines):
+        raise NotModelled("such a call that fails")
     failing = [int(line[len("! fail say "):]) for line in lines if line.startswith("! fail say ")]
     said, is_open, failed, shown = 0, True, False, []
     world.board = Board(lines)
