@@ -1211,19 +1211,21 @@ def part(world, lines):
     failing = [int(line[len("! fail say "):]) for line in lines if line.startswith("! fail say ")]
     said, is_open, failed, shown = 0, True, False, []
     world.board = Board(lines)
-    for line in lines:
-        shown.append(line if line.startswith(("#", "!")) else "> " + line)
-        if not is_open or line.startswith(("#", "!")):
-            continue
-        told, failed = answer(world, line), said in failing
-        is_open = line != "quit" and not failed
-        said += 1
-        if not failed:
-            shown.append(text_of(told))
-    for line in shown:
-        print(line)
-        if line == "! asked":
-            print(world.board.asked())
+    try:
+        for line in lines:
+            shown.append(line if line.startswith(("#", "!")) else "> " + line)
+            if not is_open or line.startswith(("#", "!")):
+                continue
+            told, failed = answer(world, line), said in failing
+            is_open = line != "quit" and not failed
+            said += 1
+            if not failed:
+                shown.append(text_of(told))
+    finally:
+        for line in shown:
+            print(line)
+            if line == "! asked":
+                print(world.board.asked())
     if failed:
         print("! status 4")
 
