@@ -5,4 +5,5 @@ pub mod ExchangeLemmas
 pub mod MemoryLemmas
 pub mod PartyLemmas
 pub mod SendLemmas
+pub mod Sends
 pub mod TargetLemmas

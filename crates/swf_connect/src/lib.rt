@@ -5,6 +5,7 @@ mod answer;
 mod asked;
 mod connector;
 mod content;
+mod crossing;
 mod dial;
 mod exchange;
 mod fails;
@@ -20,6 +21,7 @@ mod uri;
 
 pub use asked::Asked;
 pub use connector::Connector;
+pub use crossing::connectors_cross;
 pub use dial::{Dial, Link};
 pub use http_connector::HttpConnector;
 pub use memory_connector::MemoryConnector;

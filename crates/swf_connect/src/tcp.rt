@@ -97,10 +97,18 @@ impl<R> TcpDial<R> {
     }
 }
 
+/// A host without the brackets that a URL has around an address of IPv6.
+fn bare(host: &str) -> &str {
+    let Some(open) = host.strip_prefix('[') else {
+        return host;
+    };
+    open.strip_suffix(']').unwrap_or(host)
+}
+
 /// A connection to the first of a host's addresses that answers.
 fn connect<R: Net>(rt: &R, host: &str, port: u16) -> io::Result<R::Stream> {
     let mut last = io::Error::from(ErrorKind::NotFound);
-    for address in (host, port).to_socket_addrs(rt)? {
+    for address in (bare(host), port).to_socket_addrs(rt)? {
         match TcpStream::connect_timeout(rt, &address, Duration::from_secs(MOST_CONNECT)) {
             Ok(stream) => {
                 stream.set_nodelay(true)?;

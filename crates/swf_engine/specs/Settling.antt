@@ -23,7 +23,7 @@ pub record Called : Type 0 where
 -- it performed these requests, one after the other, with these replies
 abbrev pub AreAsked : List Called → List Party → List Party → Type 0
 AreAsked [] old new = new ≡ old
-AreAsked (c ∷ cs) old new = (middle : List Party) × Performs c.request (ok_or c.reply tt) old middle × AreAsked cs middle new
+AreAsked (c ∷ cs) old new = (middle : List Party) × Performs c.request (ok_or c.reply (tt {0})) old middle × AreAsked cs middle new
 
 -- whom a call asked: nobody, where calls are answered by hand
 pub record AsksBoard (calls : Bool) (called : List Called) (old new : List Party) : Type 0 where

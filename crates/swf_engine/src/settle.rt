@@ -105,10 +105,10 @@ impl Engine {
         &mut self,
         store: &mut S,
         board: &mut Switchboard,
-        open: Vec<(Text, CallRequest)>,
+        awaited: Vec<(Text, CallRequest)>,
     ) -> Result<(), EngineFault>
         requires place { IsEngineOf (S.seen store.old) self.old }
-        requires open { open.items ≡ calls_in self.old.world }
+        requires awaited { awaited.items ≡ calls_in self.old.world }
         ensures place { WhereUsable result (IsEngineOf (S.seen store.new) self.new) }
         ensures asks { (called : List Called) × AreAsked called (⟦<Switchboard as Parties>⟧.parties board.old) (⟦<Switchboard as Parties>⟧.parties board.new)
             × Asks S.moment S.left_since S.said S.may_leave S.seen S.calls called store.old store.new self.old self.new result }
@@ -117,7 +117,7 @@ impl Engine {
         ensures honest { is_some (S.seen store.new) ≡ is_some (S.seen store.old) }
         ensures cause { EngineCause (S.store_faults store.old) (S.store_faults store.new) result }
     {
-        for (activity, request) in open {
+        for (activity, request) in awaited {
             match self.ask(store, board, activity, &request) {
                 Ok(()) => {}
                 Err(fault) => return Err(fault),
@@ -156,11 +156,11 @@ impl Engine {
                     quiet: taken.quiet,
                 });
             }
-            let open = self.world.open_calls()?;
-            if open.is_empty() {
+            let awaited = self.world.open_calls()?;
+            if awaited.is_empty() {
                 return Ok(Settled { steps, quiet: true });
             }
-            self.ask_all(store, board, open)?;
+            self.ask_all(store, board, awaited)?;
         }
         Err(EngineFault::OutOfMemory)
     }

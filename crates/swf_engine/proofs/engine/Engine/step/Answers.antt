@@ -9,8 +9,8 @@ use Rattle.swf_engine.specs.Answers.{Steps}
 use Rattle.swf_engine.specs.Causes.{WhereUsable}
 use Rattle.swf_engine.specs.Core.{Core, IsEngineOf}
 use Rattle.swf_engine.proofs.StepLemmas.{engine_of, where_fault, stepped, not_stepped}
-use Rattle.swf_engine.proofs.settle.Engine.step.Goals as goal
-use Rattle.swf_engine.proofs.settle.Engine.step.Goals.{in-Ok, in-Err}
+use Rattle.swf_engine.proofs.engine.Engine.step.Goals as goal
+use Rattle.swf_engine.proofs.engine.Engine.step.Goals.{in-Ok, in-Err}
 
 pub add_prepared-requires-clause-suits : goal.add_prepared-requires-clause-suits
 add_prepared-requires-clause-suits g c =
