@@ -17,7 +17,8 @@ the outside in. Which of the strands that can go on takes the next step is free 
 Where jq and the profile differ (the texts of errors, texts times numbers, an `if` without `else` before jq 1.7), a session is of
 no use here. Errors of jq are told in the profile's words where that can be done. The limit on turns is known of one form alone:
 an expression with a `range` of 499,999 or more is taken to be above it. Where a session comes to what is not modelled, a line
-that begins with `! not modelled` ends it. Of the lines that begin with `!` it knows `! reopen` and `! fail say N`.
+that begins with `! not modelled` ends it. Of the lines that begin with `!` it knows `! reopen`, `! fail say N`, the words of a
+session, and all that say who answers calls; a response is read by the library of Python.
 
 Usage: bench/meaning.py < sessions.txt, the blocks of crates/swf_test_sessions/data; `bench/meaning.py stops < stops.txt` tells what
 comes of stops: how many calls of the store the session takes, and how many of its stops came to another end; and
@@ -28,6 +29,8 @@ import base64
 import copy
 import datetime
 import functools
+import http.client
+import io
 import json
 import os
 import re
@@ -396,6 +399,96 @@ def answered(asked, request, reply):
         return reply["content"]
     sent = {name: request[name] for name in ("headers", "method", "uri")}
     return {"content": reply["content"], "headers": reply["headers"], "request": sent, "statusCode": status}
+
+
+# --- Who answers calls
+
+# A type of JSON, or one with its syntax, in front of its parameters.
+JSON_TYPE = re.compile(r"[ \t]*(application/json|[^;]*[+]json)[ \t]*(;.*)?", re.A | re.I | re.S)
+
+
+class Given:
+    """What stands for a socket where a response is read: bytes that are given."""
+
+    def __init__(self, given):
+        self.given = given
+
+    def makefile(self, mode):
+        return io.BytesIO(self.given)
+
+
+def content_of(kind, body):
+    """What a body is as a value."""
+    if not body:
+        return None
+    try:
+        text = body.decode("utf-8")
+    except UnicodeDecodeError:
+        return base64.b64encode(body).decode("ascii")
+    fault, value = judge.read(text, 64) if JSON_TYPE.fullmatch(kind) else ("no JSON", None)
+    return text if fault else value
+
+
+def response_of(given, method):
+    """The answer that bytes are. Those that begin no whole response reached nobody."""
+    response = http.client.HTTPResponse(Given(given), method=method)
+    try:
+        response.begin()
+        body = response.read()
+    except (http.client.HTTPException, ValueError):
+        return {"unreached": True}
+    if not 100 <= response.status <= 599:
+        return {"unreached": True}
+    headers = {}
+    for name, value in response.getheaders():
+        headers[name.lower()] = headers[name.lower()] + ", " + value if name.lower() in headers else value
+    return {"content": content_of(headers.get("content-type", ""), body), "headers": headers, "status": response.status}
+
+
+class Board:
+    """Who answers the calls of a part of a session: one over HTTP, whose links give what stands there, one for each dial that does
+    not fail, and behind it others, each of a scheme, which reach nobody."""
+
+    def __init__(self, lines):
+        orders = [line[2:].partition(" ")[::2] for line in lines if line.startswith("! ")]
+        self.links = deque(self.link(word, rest) for word, rest in orders if word in ("response", "raw"))
+        self.failing = [int(rest[len("dial "):]) for word, rest in orders if word == "fail" and rest.startswith("dial ")]
+        self.schemes = [rest for word, rest in orders if word == "also"]
+        self.is_nobody = not (self.links or self.failing or self.schemes)
+        self.dials, self.told = 0, [0] * len(self.schemes)
+        words = next((rest for word, rest in orders if word == "words"), "").replace("=", ",").split(",")
+        options = dict(zip(words[:-1:2], words[1::2]))
+        self.answers, self.steps = options.get("--calls") == "http", int(options.get("--steps", 1000))
+
+    @staticmethod
+    def link(word, rest):
+        if word == "raw":
+            return bytes.fromhex(rest)
+        status, kind, body = (rest.split(" ", 2) + [""])[:3]
+        body = body.encode("utf-8")
+        return f"HTTP/1.1 {status} \r\nContent-Type: {kind}\r\nContent-Length: {len(body)}\r\n\r\n".encode("ascii") + body
+
+    def dialed(self, request):
+        """What the one over HTTP answers."""
+        if not urllib.parse.urlsplit(request["uri"]).hostname:
+            return {"unreached": True}
+        self.dials += 1
+        if self.dials - 1 in self.failing or not self.links:
+            return {"unreached": True}
+        return response_of(self.links.popleft(), request["method"])
+
+    def perform(self, request):
+        """What the first that takes a request answers."""
+        if request["uri"].startswith("http:") and not self.is_nobody:
+            return self.dialed(request)
+        for at, scheme in enumerate(self.schemes):
+            if request["uri"].startswith(scheme + ":"):
+                self.told[at] += 1
+                break
+        return {"unreached": True}
+
+    def asked(self):
+        return "" if self.is_nobody else " ".join(["-", *map(str, self.told)])
 
 
 # --- What a `listen` takes
@@ -901,7 +994,7 @@ class World:
     def __init__(self):
         self.labels, self.places, self.catalog = ([], {}, Catalog())
         self.instances, self.queue, self.now = ({}, deque(), 0)
-        self.outbox, self.takers = [], 0
+        self.outbox, self.takers, self.board = [], 0, Board([])
 
     def add(self, label):
         """Does what a label says, and gives its place."""
@@ -1048,13 +1141,21 @@ def reply(world, line):
 
 
 def settle(world, line):
-    most = 1000 if line == "settle" else number(words(line, 1)[0], 1, 1000000)
-    for steps in range(most):
-        if not world.queue:
+    """Takes steps, and where no strand is enabled any more asks for all calls that are open then, as long as there are some."""
+    most = world.board.steps if line == "settle" else number(words(line, 1)[0], 1, 1000000)
+    steps = 0
+    while True:
+        while world.queue and steps < most:
+            name = world.queue[0]
+            world.add({"label": "step", "id": name, "strand": world.instances[name].next_strand(world.now)})
+            steps += 1
+        if world.queue:
+            return {"ok": "budget", "steps": most}
+        calls = [it for known in world.instances.values() for it in known.open_calls()]
+        if not world.board.answers or not calls:
             return {"ok": "quiet", "steps": steps}
-        name = world.queue[0]
-        world.add({"label": "step", "id": name, "strand": world.instances[name].next_strand(world.now)})
-    return {"ok": "budget", "steps": most} if world.queue else {"ok": "quiet", "steps": most}
+        for activity, request in calls:
+            world.add({"label": "reply", "activity": activity, "reply": world.board.perform(request)})
 
 
 def status(world, line):
@@ -1105,17 +1206,26 @@ def replayed(labels):
 
 def part(world, lines):
     """What is printed from one opening of the store to the next. Where a reply cannot be said, the program ends with 4."""
+    if any(line.startswith(("! fail store ", "! fail next ")) for line in lines):
+        raise NotModelled("such a call that fails")
     failing = [int(line[len("! fail say "):]) for line in lines if line.startswith("! fail say ")]
-    said, is_open, failed = 0, True, False
-    for line in lines:
-        print(line if line.startswith(("#", "!")) else "> " + line)
-        if not is_open or line.startswith(("#", "!")):
-            continue
-        told, failed = answer(world, line), said in failing
-        is_open = line != "quit" and not failed
-        said += 1
-        if not failed:
-            print(text_of(told))
+    said, is_open, failed, shown = 0, True, False, []
+    world.board = Board(lines)
+    try:
+        for line in lines:
+            shown.append(line if line.startswith(("#", "!")) else "> " + line)
+            if not is_open or line.startswith(("#", "!")):
+                continue
+            told, failed = answer(world, line), said in failing
+            is_open = line != "quit" and not failed
+            said += 1
+            if not failed:
+                shown.append(text_of(told))
+    finally:
+        for line in shown:
+            print(line)
+            if line == "! asked":
+                print(world.board.asked())
     if failed:
         print("! status 4")
 

@@ -8,6 +8,7 @@
 //! and given once more. A line that begins with `#` names what follows, and stands in the transcript as it is.
 #![tactic(auto)]
 
+mod board;
 mod faults;
 mod session;
 mod stops;
@@ -16,6 +17,7 @@ use std::alloc::{AllocError, Global};
 use std::fs;
 use std::io::{self, ErrorKind};
 use swf_cli::swf_run;
+use swf_connect::Switchboard;
 use swf_host::{Input, MemoryHost, NoWork, Turn};
 use swf_store::{Image, MemoryStore};
 use swf_test_tables::add_line;
@@ -64,12 +66,32 @@ fn words_of(alloc: Global, text: &str) -> Result<Vec<String>, AllocError> {
 }
 
 // Runs the program with these words, and answers its status.
-fn status_of(alloc: Global, words: &str, host: &mut TestHost) -> Result<u8, AllocError> {
+fn status_of(
+    alloc: Global,
+    words: &str,
+    host: &mut TestHost,
+    board: &mut Switchboard,
+) -> Result<u8, AllocError> {
     let words = words_of(alloc, words)?;
-    Ok(swf_run(alloc, &words, host))
+    Ok(swf_run(alloc, &words, host, board))
 }
 
-// Runs the program with these words over the files of an image.
+// Runs the program with these words over the files of an image, where a board answers calls.
+fn run_over(
+    alloc: Global,
+    words: &str,
+    image: Image,
+    failing: Failing,
+    script: Vec<Turn<NoWork>>,
+    board: &mut Switchboard,
+) -> Result<Ran, AllocError> {
+    let store = MemoryStore::new(alloc, image, failing.store);
+    let mut host = TestHost::new(alloc, store, script, failing.next, failing.say);
+    let status = status_of(alloc, words, &mut host, board)?;
+    Ok(Ran { status, host })
+}
+
+// Runs the program with these words over the files of an image, where nobody answers calls.
 fn run(
     alloc: Global,
     words: &str,
@@ -77,10 +99,8 @@ fn run(
     failing: Failing,
     script: Vec<Turn<NoWork>>,
 ) -> Result<Ran, AllocError> {
-    let store = MemoryStore::new(alloc, image, failing.store);
-    let mut host = TestHost::new(alloc, store, script, failing.next, failing.say);
-    let status = status_of(alloc, words, &mut host)?;
-    Ok(Ran { status, host })
+    let mut board = Switchboard::new(Vec::new(alloc));
+    run_over(alloc, words, image, failing, script, &mut board)
 }
 
 // An input of a connection.
@@ -178,7 +198,7 @@ fn add_file(
 }
 
 /// The files with documents, sessions and rows.
-const FILES: [&str; 12] = [
+const FILES: [&str; 13] = [
     "documents.txt",
     "sessions.txt",
     "events.txt",
@@ -189,6 +209,7 @@ const FILES: [&str; 12] = [
     "calls-functions.txt",
     "calls-workflows.txt",
     "calls-in-tasks.txt",
+    "calls-http.txt",
     "faults.txt",
     "stops.txt",
 ];
