@@ -16,7 +16,8 @@ use swf_store::{FileStore, StoreFault};
 const NO_MEANING: u8 = 2;
 
 /// What the words may be.
-const USAGE: &str = "usage: swf [--steps N] [--calls manual|http] check|session|show, where N is from 1 to 1000000";
+const USAGE: &str =
+    "usage: swf [--steps N] [--calls manual|http] check|session|show, where N is from 1 to 1000000";
 
 /// The store could not be made.
 const STORE_FAULT: u8 = 3;

@@ -51,7 +51,7 @@ reply_send = search (sendable, reply_inside_send) depth 4
 asked_inside_send : IsSend (asked.the_field).row
 asked_inside_send = search (sendable, request_send, reply_send, option.the_field_send) depth 20
 
-asked_send : IsSend asked.the_row
+pub asked_send : IsSend asked.the_row
 asked_send = search (sendable, asked_inside_send) depth 4
 
 pub memory_connector_send : IsSend memory_connector.the_row

@@ -15,9 +15,12 @@ use Rattle.swf_cli.proofs.answer.settle.Goals as goal
 pub returns-in-Ok-clause-done : goal.returns-in-Ok-clause-done
 returns-in-Ok-clause-done g c =
     let H = g.S.Store in
-    let most_is : c.unwrap_or-most.result ≡ unwrap_or c.args.limit c.args.words.now.steps = c.unwrap_or-most.ensures ∙ ap (λ (n : ℕ). unwrap_or c.args.limit n) c.from.ensures in
-    (c.settle.ensures.settles.0, c.settle.ensures.settles.1, settle_line_as c.args.words.now c.settle.ensures.settles.0 H.moment H.left_since H.said H.may_leave H.seen g.met.S.Store.only_now H.calls c.args.limit c.unwrap_or-most.result c.args.store.now c.settle.new.store c.args.engine.now c.settle.new.self c.settle.result (Ok c.settled_reply.result)
-    most_is c.settle.ensures.settles.2 (ap (settled_reply c.unwrap_or-most.result) c.in-Ok.is ∙ ap Ok (sym c.settled_reply.ensures)))
+    let most_is : c.unwrap_or-most.result ≡ unwrap_or c.args.limit c.args.words.now.steps = c.unwrap_or-most.ensures ∙ ap (λ (n : ℕ). unwrap_or c.args.limit n) c.from.ensures in (
+      c.settle.ensures.settles.0,
+      c.settle.ensures.settles.1,
+      settle_line_as c.args.words.now c.settle.ensures.settles.0 H.moment H.left_since H.said H.may_leave H.seen g.met.S.Store.only_now H.calls c.args.limit c.unwrap_or-most.result c.args.store.now c.settle.new.store c.args.engine.now c.settle.new.self c.settle.result (Ok c.settled_reply.result)
+          most_is c.settle.ensures.settles.2 (ap (settled_reply c.unwrap_or-most.result) c.in-Ok.is ∙ ap Ok (sym c.settled_reply.ensures)),
+    )
 
 pub returns-in-Ok-clause-sayable : goal.returns-in-Ok-clause-sayable
 returns-in-Ok-clause-sayable g c =
@@ -40,8 +43,12 @@ returns-in-Err g c =
       faults = subst MayAddFault (sym c.or_memory.ensures)
           (settle_faults H.moment H.left_since H.said H.may_leave H.seen g.met.S.Store.only_now H.calls c.args.words.now.http c.settle.ensures.settles.0 c.unwrap_or-most.result c.args.store.now c.settle.new.store c.args.engine.now c.settle.new.self c.in-Err.fault settles);
       place = or_memory_usable Settled c.in-Err.fault c.or_memory.result (IsEngineOf (H.seen c.settle.new.store) c.settle.new.self) c.or_memory.ensures usable;
-      done = (c.settle.ensures.settles.0, c.settle.ensures.settles.1, settle_line_as c.args.words.now c.settle.ensures.settles.0 H.moment H.left_since H.said H.may_leave H.seen g.met.S.Store.only_now H.calls c.args.limit c.unwrap_or-most.result c.args.store.now c.settle.new.store c.args.engine.now c.settle.new.self c.settle.result c.or_memory.result
-          most_is c.settle.ensures.settles.2 (ap (settled_reply c.unwrap_or-most.result) c.in-Err.is ∙ sym c.or_memory.ensures));
+      done = (
+        c.settle.ensures.settles.0,
+        c.settle.ensures.settles.1,
+        settle_line_as c.args.words.now c.settle.ensures.settles.0 H.moment H.left_since H.said H.may_leave H.seen g.met.S.Store.only_now H.calls c.args.limit c.unwrap_or-most.result c.args.store.now c.settle.new.store c.args.engine.now c.settle.new.self c.settle.result c.or_memory.result
+            most_is c.settle.ensures.settles.2 (ap (settled_reply c.unwrap_or-most.result) c.in-Err.is ∙ sym c.or_memory.ensures),
+      );
       calls = inl (c.settle.result, c.settle.ensures.settles.0, subst (λ (n : ℕ). Settles H.moment H.left_since H.said H.may_leave H.seen H.calls c.args.words.now.http c.settle.ensures.settles.0 c.args.store.now c.settle.new.store c.args.engine.now c.settle.new.self n c.settle.result) most_is c.settle.ensures.settles.2);
       by_hand = c.settle.ensures.by_hand;
       sayable = subst (λ (r : Result Reply EngineFault). IfOk r IsSayable) (sym c.or_memory.ensures) (sayable_or_memory c.in-Err.fault);

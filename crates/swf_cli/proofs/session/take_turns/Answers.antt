@@ -16,7 +16,7 @@ loop-init g c = record {
     [],
     asks_none _ _,
     λ start before first told took is stands leaves.
-      begins c.args.words.now g.H.Store.moment g.H.Store.left_since g.H.Store.said g.H.Store.may_leave g.H.Store.seen g.H.Host.taken start c.args.host.now c.args.engine.now before first told took is stands leaves,
+        begins c.args.words.now g.H.Store.moment g.H.Store.left_since g.H.Store.said g.H.Store.may_leave g.H.Store.seen g.H.Host.taken start c.args.host.now c.args.engine.now before first told took is stands leaves,
   );
   by_hand = λ e. refl;
   heard = λ first told took is. ([], heard_none g.H.Store.moment g.H.Store.left_since g.H.Store.said g.H.Store.may_leave g.H.Store.seen g.H.Host.taken c.args.host.now first told took is);
@@ -27,18 +27,26 @@ loop-init g c = record {
 }
 
 pub returns-in-Ends-clause-ran : goal.returns-in-Ends-clause-ran
-returns-in-Ends-clause-ran g c = (c.loop.invariant.asked.0 ++ c.in-Ends.ensures.turn.0, asks_join _ _ _ _ _ _ c.loop.invariant.asked.1 c.in-Ends.ensures.turn.1, λ start before first told took is stands leaves.
-    let H = g.H.Store in
-    let s = c.loop.invariant.asked.2 start before first told took is stands leaves in
-    turn_ends c.args.words.now H.moment H.left_since H.said H.may_leave H.seen g.H.Host.taken start c.loop.host c.take_turn.new.host c.loop.engine c.take_turn.new.engine before first told c.loop.invariant.asked.0 c.loop.counter s c.in-Ends.ensures.turn.0
-    (c.in-Ends.ensures.turn.2 s.stands.0 s.stands.1 (first ++ inputs_of s.turns) s.took (told ++ pieces_of session (length first) s.turns) s.said_all (before ++ labels_of s.turns) s.stands.2))
+returns-in-Ends-clause-ran g c = (
+  c.loop.invariant.asked.0 ++ c.in-Ends.ensures.turn.0,
+  asks_join _ _ _ _ _ _ c.loop.invariant.asked.1 c.in-Ends.ensures.turn.1,
+  λ start before first told took is stands leaves.
+      let H = g.H.Store in
+      let s = c.loop.invariant.asked.2 start before first told took is stands leaves in
+      turn_ends c.args.words.now H.moment H.left_since H.said H.may_leave H.seen g.H.Host.taken start c.loop.host c.take_turn.new.host c.loop.engine c.take_turn.new.engine before first told c.loop.invariant.asked.0 c.loop.counter s c.in-Ends.ensures.turn.0
+      (c.in-Ends.ensures.turn.2 s.stands.0 s.stands.1 (first ++ inputs_of s.turns) s.took (told ++ pieces_of session (length first) s.turns) s.said_all (before ++ labels_of s.turns) s.stands.2),
+)
 
 pub returns-in-Stops-clause-ran : goal.returns-in-Stops-clause-ran
-returns-in-Stops-clause-ran g c = (c.loop.invariant.asked.0 ++ c.in-Stops.ensures.turn.0, asks_join _ _ _ _ _ _ c.loop.invariant.asked.1 c.in-Stops.ensures.turn.1, λ start before first told took is stands leaves.
-    let H = g.H.Store in
-    let s = c.loop.invariant.asked.2 start before first told took is stands leaves in
-    turn_stops c.args.words.now H.moment H.left_since H.said H.may_leave H.seen g.H.Host.taken start c.loop.host c.take_turn.new.host c.loop.engine c.take_turn.new.engine before first told c.loop.invariant.asked.0 c.loop.counter s c.in-Stops.ensures.turn.0 c.in-Stops.status
-    (c.in-Stops.ensures.turn.2 s.stands.0 s.stands.1 (first ++ inputs_of s.turns) s.took (told ++ pieces_of session (length first) s.turns) s.said_all (before ++ labels_of s.turns) s.stands.2))
+returns-in-Stops-clause-ran g c = (
+  c.loop.invariant.asked.0 ++ c.in-Stops.ensures.turn.0,
+  asks_join _ _ _ _ _ _ c.loop.invariant.asked.1 c.in-Stops.ensures.turn.1,
+  λ start before first told took is stands leaves.
+      let H = g.H.Store in
+      let s = c.loop.invariant.asked.2 start before first told took is stands leaves in
+      turn_stops c.args.words.now H.moment H.left_since H.said H.may_leave H.seen g.H.Host.taken start c.loop.host c.take_turn.new.host c.loop.engine c.take_turn.new.engine before first told c.loop.invariant.asked.0 c.loop.counter s c.in-Stops.ensures.turn.0 c.in-Stops.status
+      (c.in-Stops.ensures.turn.2 s.stands.0 s.stands.1 (first ++ inputs_of s.turns) s.took (told ++ pieces_of session (length first) s.turns) s.said_all (before ++ labels_of s.turns) s.stands.2),
+)
 
 pub loop-preserved : goal.loop-preserved
 loop-preserved g c =
@@ -49,9 +57,9 @@ loop-preserved g c =
         c.loop.invariant.asked.0 ++ c.in-GoesOn.ensures.turn.0,
         asks_join _ _ _ _ _ _ c.loop.invariant.asked.1 c.in-GoesOn.ensures.turn.1,
         λ start before first told took is stands leaves.
-          let s = c.loop.invariant.asked.2 start before first told took is stands leaves in
-          turn_goes_on c.args.words.now H.moment H.left_since H.said H.may_leave H.seen g.H.Host.taken start c.loop.host c.take_turn.new.host c.loop.engine c.take_turn.new.engine before first told c.loop.invariant.asked.0 c.loop.counter s c.in-GoesOn.ensures.turn.0
-          (c.in-GoesOn.ensures.turn.2 s.stands.0 s.stands.1 (first ++ inputs_of s.turns) s.took (told ++ pieces_of session (length first) s.turns) s.said_all (before ++ labels_of s.turns) s.stands.2),
+            let s = c.loop.invariant.asked.2 start before first told took is stands leaves in
+            turn_goes_on c.args.words.now H.moment H.left_since H.said H.may_leave H.seen g.H.Host.taken start c.loop.host c.take_turn.new.host c.loop.engine c.take_turn.new.engine before first told c.loop.invariant.asked.0 c.loop.counter s c.in-GoesOn.ensures.turn.0
+            (c.in-GoesOn.ensures.turn.2 s.stands.0 s.stands.1 (first ++ inputs_of s.turns) s.took (told ++ pieces_of session (length first) s.turns) s.said_all (before ++ labels_of s.turns) s.stands.2),
       );
       by_hand = λ e. c.take_turn.ensures.by_hand e ∙ c.loop.invariant.by_hand e;
       heard = λ first told took is.
@@ -65,11 +73,15 @@ loop-preserved g c =
     }
 
 pub returns-clause-ran : goal.returns-clause-ran
-returns-clause-ran g c = (c.loop.invariant.asked.0, c.loop.invariant.asked.1, λ start before first told took is stands leaves.
-    let H = g.H.Store in
-    let s = c.loop.invariant.asked.2 start before first told took is stands leaves in
-    let all : c.loop.counter ≡ most_turns = omega arith in
-    all_made c.args.words.now H.moment H.left_since H.said H.may_leave H.seen g.H.Host.taken start c.loop.host c.loop.engine before first told c.loop.invariant.asked.0 c.loop.counter s all)
+returns-clause-ran g c = (
+  c.loop.invariant.asked.0,
+  c.loop.invariant.asked.1,
+  λ start before first told took is stands leaves.
+      let H = g.H.Store in
+      let s = c.loop.invariant.asked.2 start before first told took is stands leaves in
+      let all : c.loop.counter ≡ most_turns = omega arith in
+      all_made c.args.words.now H.moment H.left_since H.said H.may_leave H.seen g.H.Host.taken start c.loop.host c.loop.engine before first told c.loop.invariant.asked.0 c.loop.counter s all,
+)
 
 pub returns-in-Stops-clause-sound : goal.returns-in-Stops-clause-sound
 returns-in-Stops-clause-sound g c = λ s. c.in-Stops.ensures.sound (c.loop.invariant.sound s)

@@ -20,9 +20,12 @@ returns-then-line-gt-MOST_LINE-clause-done g c =
 pub returns-clause-done : goal.returns-clause-done
 returns-clause-done g c =
     let H = g.H.Store in
-    let short : is_long c.args.line.now ≡ false = search rules in
-    (c.answer_line.ensures.done.0, c.answer_line.ensures.done.1, asked_short c.args.words.now c.answer_line.ensures.done.0 H.moment H.left_since H.said H.may_leave H.seen g.met.H.Store.only_now (command_of c.args.line.now) (line_read c.args.line.now) c.args.host.now c.answer_line.new.store c.args.engine.now c.answer_line.new.engine (reply_of c.answer_line.result)
-    (ap (λ (b : Bool). if b then None else Some (command_of c.args.line.now)) short) c.answer_line.ensures.done.2)
+    let short : is_long c.args.line.now ≡ false = search rules in (
+      c.answer_line.ensures.done.0,
+      c.answer_line.ensures.done.1,
+      asked_short c.args.words.now c.answer_line.ensures.done.0 H.moment H.left_since H.said H.may_leave H.seen g.met.H.Store.only_now (command_of c.args.line.now) (line_read c.args.line.now) c.args.host.now c.answer_line.new.store c.args.engine.now c.answer_line.new.engine (reply_of c.answer_line.result)
+          (ap (λ (b : Bool). if b then None else Some (command_of c.args.line.now)) short) c.answer_line.ensures.done.2,
+    )
 
 pub returns-then-line-gt-MOST_LINE-clause-calls : goal.returns-then-line-gt-MOST_LINE-clause-calls
 returns-then-line-gt-MOST_LINE-clause-calls g c =
