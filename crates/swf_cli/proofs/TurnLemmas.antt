@@ -345,7 +345,7 @@ module _ (words : Words) (answers : List Called) where
 
         pub closed_done : Comes old one Closed → TurnDone (session {W = W}) words None answers moment left_since said may_leave seen taken old one engine history inputs pieces Ends
         closed_done came = record {
-          turn = record { first = Closed; more = []; answers = []; labels = []; reply = None };
+          turn = record { first = Closed; more = []; answers = answers; labels = []; reply = None };
           asked = refl;
           turned = record {
             may = λ part b. begins_none part b;

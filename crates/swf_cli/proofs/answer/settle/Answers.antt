@@ -1,4 +1,4 @@
-use Rattle.std.proofs.Common.{inl, ◌≡◌, sym, subst, ◌∙◌, ℕ, unwrap_or, Ok, Result, ap, arith}
+use Rattle.std.proofs.Common.{[], inl, ◌≡◌, sym, subst, ◌∙◌, ℕ, unwrap_or, Ok, Result, ap, arith}
 use Rattle.std.specs.Result.{IfOk}
 use Rattle.swf_engine.specs.declared.settle.Settled.{Settled}
 use Rattle.swf_engine.specs.declared.fault.EngineFault.{EngineFault}
@@ -28,7 +28,7 @@ returns-in-Ok-clause-sayable g c =
     let most_is : c.unwrap_or-most.result ≡ unwrap_or c.args.limit c.args.words.now.steps = c.unwrap_or-most.ensures ∙ ap (λ (n : ℕ). unwrap_or c.args.limit n) c.from.ensures in
     let s = subst (λ (r : Result Settled EngineFault). Settles H.moment H.left_since H.said H.may_leave H.seen H.calls c.args.words.now.http c.settle.ensures.settles.0 c.args.store.now c.settle.new.store c.args.engine.now c.settle.new.self c.unwrap_or-most.result r) c.in-Ok.is c.settle.ensures.settles.2 in
     let most = s.1 in
-    subst IsSayable (sym c.settled_reply.ensures) (settled_sayable c.in-Ok.settled.quiet c.in-Ok.settled.steps c.unwrap_or-most.result (limit_small c.args.words.now c.args.limit c.unwrap_or-most.result most_is c.requires.words c.requires.modest) (λ e. omega (arith, most)))
+    subst IsSayable (sym c.settled_reply.ensures) (settled_sayable c.in-Ok.settled.quiet c.in-Ok.settled.steps c.unwrap_or-most.result (limit_small c.args.words.now [] c.args.limit c.unwrap_or-most.result most_is c.requires.words c.requires.modest) (λ e. omega (arith, most)))
 
 pub returns-in-Err : goal.returns-in-Err
 returns-in-Err g c =
