@@ -8,9 +8,10 @@ use std::process::ExitCode;
 use std::rt::Env;
 use swf_check::WholeHost;
 use swf_cli::{Mode, read_words, swf_run};
-use swf_connect::{Connector, HttpConnector, Switchboard, TcpDial};
+use swf_connect::{Connector, HttpConnector, Switchboard};
 use swf_host::ConsoleHost;
 use swf_store::{FileStore, StoreFault};
+use swf_tcp::TcpDial;
 
 /// The words of the command line have no meaning.
 const NO_MEANING: u8 = 2;

@@ -10,7 +10,6 @@ pub mod MemoryCode
 pub mod Parties
 pub mod Reaching
 pub mod Sending
-pub mod Sockets
 pub mod Spoken
 pub mod TalkList
 pub mod Talks

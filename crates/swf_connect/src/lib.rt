@@ -16,7 +16,6 @@ mod memory_link;
 mod message;
 mod switchboard;
 mod talks;
-mod tcp;
 mod uri;
 
 pub use asked::Asked;
@@ -29,4 +28,3 @@ pub use memory_dial::MemoryDial;
 pub use memory_link::MemoryLink;
 pub use switchboard::{Parties, Switchboard};
 pub use talks::Spoken;
-pub use tcp::{TcpDial, TcpLink};

@@ -4,7 +4,8 @@ use std::io::{self, Read, Write};
 use std::net::{Ipv4Addr, SocketAddr, TcpListener};
 use std::test::Fail;
 use std::thread;
-use swf_connect::{Connector, HttpConnector, TcpDial};
+use swf_connect::{Connector, HttpConnector};
+use swf_tcp::TcpDial;
 
 const RESPONSE: &[u8] =
     b"HTTP/1.1 200 OK\r\nContent-Type: application/json\r\nContent-Length: 3\r\n\r\n[1]";

@@ -1,8 +1,8 @@
 // Links over sockets, and who makes them. They tell nothing of what passes.
-use crate::{Dial, Link};
 use std::io::{self, ErrorKind, Read, Write};
 use std::net::{Net, OpenStream, TcpStream, ToSocketAddrs};
 use std::time::Duration;
+use swf_connect::{Dial, Link};
 use swf_http::{Sink, Source};
 use swf_store::Failed;
 
@@ -25,7 +25,7 @@ pub struct TcpLink<S> {
 
 impl<S: Read> Source for TcpLink<S> {
     ghost use Rattle.std.specs.Prelude.{ℕ, None};
-    ghost use Rattle.swf_connect.specs.Sockets.{reads_of, writes_of};
+    ghost use Rattle.swf_tcp.specs.Sockets.{reads_of, writes_of};
 
     ghost left = { λ _. None };
 
@@ -50,7 +50,7 @@ impl<S: Read> Source for TcpLink<S> {
 
 impl<S: Write> Sink for TcpLink<S> {
     ghost use Rattle.std.specs.Prelude.{ℕ, None};
-    ghost use Rattle.swf_connect.specs.Sockets.{reads_of, writes_of};
+    ghost use Rattle.swf_tcp.specs.Sockets.{reads_of, writes_of};
 
     ghost written = { λ _. None };
 
@@ -126,7 +126,7 @@ impl<R: Net> Dial for TcpDial<R> {
     type Link = TcpLink<R::Stream>;
 
     ghost use Rattle.std.specs.Prelude.{None};
-    ghost use Rattle.swf_connect.specs.Sockets.{faults_of};
+    ghost use Rattle.swf_tcp.specs.Sockets.{faults_of};
 
     ghost talks = { λ _. None };
 

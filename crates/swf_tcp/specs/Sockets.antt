@@ -1,7 +1,7 @@
 -- The counts of links over sockets, and of who makes them.
 use Rattle.std.specs.Prelude.{ℕ}
-use Rattle.swf_connect.specs.declared.tcp.TcpLink.{TcpLink}
-use Rattle.swf_connect.specs.declared.tcp.TcpDial.{TcpDial}
+use Rattle.swf_tcp.specs.declared.tcp.TcpLink.{TcpLink}
+use Rattle.swf_tcp.specs.declared.tcp.TcpDial.{TcpDial}
 
 abbrev pub reads_of : {S : Type 0} → TcpLink S → ℕ
 reads_of link = link.reads
