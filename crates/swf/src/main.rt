@@ -1,7 +1,6 @@
 //! A durable engine for the CNCF Serverless Workflow DSL 1.0.0: the program over its library.
 #![tactic(auto)]
 
-use std::alloc::{AllocError, Global};
 use std::env;
 use std::io::{self, BufReader, ErrorKind};
 use std::process::ExitCode;
@@ -41,9 +40,14 @@ fn main(rt: HostRuntime) -> ExitCode {
     let Ok(reader) = BufReader::new(alloc, rt.reader()) else {
         return ExitCode::from(NO_MEMORY);
     };
-    let Ok(mut board) = board(rt) else {
+    let Ok(http) = Box::new(alloc, HttpConnector::new(alloc, TcpDial::new(rt))) else {
         return ExitCode::from(NO_MEMORY);
     };
+    let mut connectors: Vec<Box<dyn Connector + Send>> = Vec::new(alloc);
+    if connectors.push(http).is_err() {
+        return ExitCode::from(NO_MEMORY);
+    }
+    let mut board = Switchboard::new(connectors);
     if meaning.mode == Mode::Check {
         let mut host = WholeHost::new(alloc, reader, io::writer(&rt));
         return ExitCode::from(swf_run(alloc, &words, &mut host, &mut board));
@@ -55,15 +59,6 @@ fn main(rt: HostRuntime) -> ExitCode {
     };
     let mut host = ConsoleHost::new(alloc, store, reader, io::writer(&rt));
     ExitCode::from(swf_run(alloc, &words, &mut host, &mut board))
-}
-
-// The board: one connector over HTTP.
-fn board(rt: HostRuntime) -> Result<Switchboard, AllocError> {
-    let alloc = rt.alloc();
-    let mut connectors: Vec<Box<dyn Connector + Send>> = Vec::new(alloc);
-    let http = HttpConnector::new(alloc, TcpDial::new(rt));
-    connectors.push(Box::new(alloc, http)?)?;
-    Ok(Switchboard::new(connectors))
 }
 
 // The status of a program that ends before it does anything. Where the words have no meaning, standard error is told what they may be.

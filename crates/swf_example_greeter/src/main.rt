@@ -27,13 +27,6 @@ const LINES: [&str; 5] = [
     "quit",
 ];
 
-// The connectors, in the order in which they are asked whether they take a call.
-fn board(alloc: Global) -> Result<Switchboard, AllocError> {
-    let mut connectors: Vec<Box<dyn Connector + Send>> = Vec::new(alloc);
-    connectors.push(Box::new(alloc, Greeter::new(alloc))?)?;
-    Ok(Switchboard::new(connectors))
-}
-
 // A host without a folder: it gives the lines, and keeps the journal and what is said.
 fn host(alloc: Global) -> Result<MemoryHost<NoWork, NoWork>, AllocError> {
     let store = MemoryStore::new(alloc, Image::empty(alloc), Vec::new(alloc));
@@ -54,16 +47,20 @@ fn words(alloc: Global) -> Result<Vec<String>, AllocError> {
     Ok(words)
 }
 
-// Runs the session over a board, and answers its status and all that was said.
-fn run(alloc: Global, board: &mut Switchboard) -> Result<(u8, Vec<u8>), AllocError> {
+// Runs the session, and answers its status, all that was said, and how many calls the connectors tell. They stand in the order in which they
+// are asked whether they take a call.
+fn run(alloc: Global) -> Result<(u8, Vec<u8>, u64), AllocError> {
     let words = words(alloc)?;
     let mut host = host(alloc)?;
-    let status = swf_run(alloc, &words, &mut host, board);
+    let mut connectors: Vec<Box<dyn Connector + Send>> = Vec::new(alloc);
+    connectors.push(Box::new(alloc, Greeter::new(alloc))?)?;
+    let mut board = Switchboard::new(connectors);
+    let status = swf_run(alloc, &words, &mut host, &mut board);
     let mut said = Vec::new(alloc);
     for piece in host.said() {
         said.extend_from_slice(piece.bytes.as_slice())?;
     }
-    Ok((status, said))
+    Ok((status, said, asked(board)))
 }
 
 // How many calls the connectors of a board tell.
@@ -77,9 +74,7 @@ fn asked(board: Switchboard) -> u64 {
 
 fn main(rt: HostRuntime) -> io::Result<()> {
     let alloc = rt.alloc();
-    let mut board = board(alloc)?;
-    let (status, said) = run(alloc, &mut board)?;
-    let asked = asked(board);
+    let (status, said, asked) = run(alloc)?;
     match String::from_utf8(said) {
         Ok(said) => print!(rt; "{said}status {status}, asked {asked}\n"),
         Err(_) => Err(io::Error::from(ErrorKind::InvalidData)),

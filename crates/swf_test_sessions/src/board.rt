@@ -2,7 +2,7 @@
 // connectors of other schemes, which reach nobody. A part that names none of them has no connector at all.
 use std::alloc::{AllocError, Global};
 use std::io;
-use swf_connect::{Connector, HttpConnector, MemoryConnector, MemoryDial, Switchboard};
+use swf_connect::{HttpConnector, MemoryConnector, MemoryDial, Switchboard};
 use swf_test_tables::{bytes_of, number_of, split};
 use swf_text::Text;
 
@@ -15,6 +15,14 @@ pub(crate) struct Answering<'a> {
     failing: Vec<u64>,
     /// The schemes of the connectors behind that over HTTP.
     schemes: Vec<&'a str>,
+}
+
+/// Those who answer the calls of a part.
+#[derive(Drop)]
+pub(crate) struct Answerers {
+    pub(crate) http: Option<HttpConnector<MemoryDial>>,
+    /// Connectors that reach nobody.
+    pub(crate) silent: Vec<MemoryConnector>,
 }
 
 impl<'a> Answering<'a> {
@@ -54,23 +62,28 @@ impl<'a> Answering<'a> {
         self.links.is_empty() && self.failing.is_empty() && self.schemes.is_empty()
     }
 
-    /// The board of them.
-    pub(crate) fn board(self, alloc: Global) -> Result<Switchboard, AllocError> {
-        let mut connectors: Vec<Box<dyn Connector + Send>> = Vec::new(alloc);
+    /// The connectors of them.
+    pub(crate) fn connectors(self, alloc: Global) -> Result<Answerers, AllocError> {
         if self.is_nobody() {
-            return Ok(Switchboard::new(connectors));
+            return Ok(Answerers {
+                http: None,
+                silent: Vec::new(alloc),
+            });
         }
         let Answering {
             links,
             failing,
             schemes,
         } = self;
-        let http = HttpConnector::new(alloc, MemoryDial::new(alloc, links, failing));
-        connectors.push(Box::new(alloc, http)?)?;
+        let mut silent = Vec::new(alloc);
         for scheme in schemes.as_slice() {
-            connectors.push(Box::new(alloc, silent(alloc, scheme)?)?)?;
+            silent.push(silent_one(alloc, scheme)?)?;
         }
-        Ok(Switchboard::new(connectors))
+        let http = HttpConnector::new(alloc, MemoryDial::new(alloc, links, failing));
+        Ok(Answerers {
+            http: Some(http),
+            silent,
+        })
     }
 }
 
@@ -86,7 +99,7 @@ fn response(alloc: Global, order: &str) -> io::Result<Vec<u8>> {
 }
 
 // A connector of a scheme, which has no reply.
-fn silent(alloc: Global, scheme: &str) -> Result<MemoryConnector, AllocError> {
+fn silent_one(alloc: Global, scheme: &str) -> Result<MemoryConnector, AllocError> {
     let scheme = Text::copy_of(alloc, scheme)?;
     let none = Vec::new(alloc);
     Ok(MemoryConnector::new(alloc, scheme, Vec::new(alloc), none))

@@ -13,11 +13,12 @@ mod faults;
 mod session;
 mod stops;
 
+use crate::board::{Answerers, Answering, asked};
 use std::alloc::{AllocError, Global};
 use std::fs;
 use std::io::{self, ErrorKind};
 use swf_cli::swf_run;
-use swf_connect::Switchboard;
+use swf_connect::{Connector, Switchboard};
 use swf_host::{Input, MemoryHost, NoWork, Turn};
 use swf_store::{Image, MemoryStore};
 use swf_test_tables::add_line;
@@ -47,11 +48,12 @@ impl Failing {
     }
 }
 
-/// What a run ended with, and its host.
+/// What a run ended with, its host, and how often each of those who answer calls was asked.
 #[derive(Drop)]
 struct Ran {
     status: u8,
     host: TestHost,
+    asked: String,
 }
 
 // The words of a command line, which have commas between them.
@@ -65,30 +67,34 @@ fn words_of(alloc: Global, text: &str) -> Result<Vec<String>, AllocError> {
     Ok(words)
 }
 
-// Runs the program with these words, and answers its status.
-fn status_of(
-    alloc: Global,
-    words: &str,
-    host: &mut TestHost,
-    board: &mut Switchboard,
-) -> Result<u8, AllocError> {
-    let words = words_of(alloc, words)?;
-    Ok(swf_run(alloc, &words, host, board))
-}
-
-// Runs the program with these words over the files of an image, where a board answers calls.
+// Runs the program with these words over the files of an image, where these answer calls.
 fn run_over(
     alloc: Global,
     words: &str,
     image: Image,
     failing: Failing,
     script: Vec<Turn<NoWork>>,
-    board: &mut Switchboard,
+    answering: Answering<'_>,
 ) -> Result<Ran, AllocError> {
+    let words = words_of(alloc, words)?;
     let store = MemoryStore::new(alloc, image, failing.store);
     let mut host = TestHost::new(alloc, store, script, failing.next, failing.say);
-    let status = status_of(alloc, words, &mut host, board)?;
-    Ok(Ran { status, host })
+    let Answerers { http, silent } = answering.connectors(alloc)?;
+    let mut connectors: Vec<Box<dyn Connector + Send>> = Vec::new(alloc);
+    if let Some(http) = http {
+        connectors.push(Box::new(alloc, http)?)?;
+    }
+    for connector in silent {
+        connectors.push(Box::new(alloc, connector)?)?;
+    }
+    let mut board = Switchboard::new(connectors);
+    let status = swf_run(alloc, &words, &mut host, &mut board);
+    let asked = asked(alloc, board)?;
+    Ok(Ran {
+        status,
+        host,
+        asked,
+    })
 }
 
 // Runs the program with these words over the files of an image, where nobody answers calls.
@@ -99,8 +105,8 @@ fn run(
     failing: Failing,
     script: Vec<Turn<NoWork>>,
 ) -> Result<Ran, AllocError> {
-    let mut board = Switchboard::new(Vec::new(alloc));
-    run_over(alloc, words, image, failing, script, &mut board)
+    let nobody = Answering::nobody(alloc);
+    run_over(alloc, words, image, failing, script, nobody)
 }
 
 // An input of a connection.

@@ -9,7 +9,7 @@
 // The others tell what came of the run: `! inputs`, `! replies`, `! calls`, `! sizes`, `! said`, all that was said, `! due 7`, the
 // moment that an engine opened over its files tells, and whether 7 is due, and `! asked`, how often each connector was asked, where
 // `-` stands for one that does not tell it.
-use crate::board::{Answering, asked};
+use crate::board::Answering;
 use crate::{Failing, REOPEN, Ran, add_status, ask, run_over};
 use std::alloc::{AllocError, Global};
 use std::io;
@@ -221,7 +221,6 @@ fn add_shown(
     alloc: Global,
     transcript: &mut Vec<u8>,
     ran: &Ran,
-    asked: &str,
     lines: &[Shown<'_>],
 ) -> io::Result<()> {
     let mut place = 0usize;
@@ -239,7 +238,7 @@ fn add_shown(
             add_said(transcript, ran)?;
         }
         if shown.line == "! asked" {
-            add_line(transcript, "", asked)?;
+            add_line(transcript, "", ran.asked.as_str())?;
         }
         if let Some(told) = told(alloc, ran, shown.line)? {
             add_line(transcript, "", told.as_str())?;
@@ -261,10 +260,8 @@ fn add_part(alloc: Global, transcript: &mut Vec<u8>, part: Part<'_>) -> io::Resu
         script,
         shown,
     } = part;
-    let mut board = answering.board(alloc)?;
-    let ran = run_over(alloc, words, image, failing, script, &mut board)?;
-    let asked = asked(alloc, board)?;
-    add_shown(alloc, transcript, &ran, asked.as_str(), &shown)?;
+    let ran = run_over(alloc, words, image, failing, script, answering)?;
+    add_shown(alloc, transcript, &ran, &shown)?;
     add_status(alloc, transcript, ran.status, 0)?;
     Ok(ran.host.store().image().copy(alloc)?)
 }
