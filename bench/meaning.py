@@ -3,11 +3,12 @@
 prints the transcript that the program has to give for them.
 
 The rules are those of the Serverless Workflow DSL 1.0.0 reference ("Workflow", "Task", "Do", "Emit", "For", "Fork", "Listen",
-"Raise", "Set", "Switch", "Try", "Wait", "Data Flow", "Flow Directive", "Error", "Event Consumption Strategy", "Event Filter",
-"Duration", "Runtime Expressions") with the choices that docs/MEANING.md tells. Events are those of CloudEvents 1.0.2 and its
-JSON format, with instants by RFC 3339 and base64 by RFC 4648. It runs set, do, switch, raise, for, fork, try, wait, listen and
-emit; what documents may hold is asked of judge.py. Expressions are evaluated by the program `jq`, so a value never comes from
-here.
+"Raise", "Run", "Set", "Switch", "Try", "Wait", "Call", "HTTP Call", "Data Flow", "Flow Directive", "Error", "Event Consumption
+Strategy", "Event Filter", "Duration", "Endpoint", "HTTP Response", "Runtime Expressions") with the choices that docs/MEANING.md
+tells. Events are those of CloudEvents 1.0.2 and its JSON format, with instants by RFC 3339 and base64 by RFC 4648; templates of
+URIs are those of RFC 6570, level 1, and headers those of RFC 9110, section 5. It runs all twelve kinds of task, and a call only as
+far as its request and its answer; what documents may hold is asked of judge.py. Expressions are evaluated by the program `jq`, so a
+value never comes from here.
 
 An instance is a tree of nodes, and a step rewrites it at one place. Its strands are the single lines of control in it: one from
 the root and one from each branch, each up to the next fork. A strand is named by the numbers of the branches around it, from
@@ -16,7 +17,8 @@ the outside in. Which of the strands that can go on takes the next step is free 
 Where jq and the profile differ (the texts of errors, texts times numbers, an `if` without `else` before jq 1.7), a session is of
 no use here. Errors of jq are told in the profile's words where that can be done. The limit on turns is known of one form alone:
 an expression with a `range` of 499,999 or more is taken to be above it. Where a session comes to what is not modelled, a line
-that begins with `! not modelled` ends it. Of the lines that begin with `!` it knows `! reopen` and `! fail say N`.
+that begins with `! not modelled` ends it. Of the lines that begin with `!` it knows `! reopen`, `! fail say N`, the words of a
+session, and all that say who answers calls; a response is read by the library of Python.
 
 Usage: bench/meaning.py < sessions.txt, the blocks of crates/swf_test_sessions/data; `bench/meaning.py stops < stops.txt` tells what
 comes of stops: how many calls of the store the session takes, and how many of its stops came to another end; and
@@ -27,11 +29,14 @@ import base64
 import copy
 import datetime
 import functools
+import http.client
+import io
 import json
 import os
 import re
 import subprocess
 import sys
+import urllib.parse
 from collections import deque, namedtuple
 
 sys.dont_write_bytecode = True
@@ -40,13 +45,16 @@ import judge
 GREATEST = 9007199254740991
 LAST_MOMENT = 4503599627370495
 STANDARD = "https://serverlessworkflow.io/spec/1.0.0/errors/"
-STATUSES = {"expression": 400, "runtime": 500, "validation": 400}
+STATUSES = {"communication": 500, "configuration": 400, "expression": 400, "runtime": 500, "validation": 400}
 
 # A `range` of so many takes more turns than an expression may.
 LONG_RANGE = 499999
 
 # So many branches the live forks of an instance have together.
 MOST_BRANCHES = 256
+
+# So many functions and sub-workflows may be around a task that calls another.
+MOST_CALLS = 16
 
 # Calls of the store by which a journal is opened that is not there yet, and those that add a label.
 OPENING, ADDING = 5, 4
@@ -67,7 +75,7 @@ WORDS = [
 # A task of a document: its name, its place, and what stands there.
 Task = namedtuple("Task", "name place body")
 
-# The four kinds of node. `inside` is what a task that runs is at: one of the eight forms below.
+# The four kinds of node. `inside` is what a task that runs is at: one of the eleven forms below.
 Fresh = namedtuple("Fresh", "task raw")
 Live = namedtuple("Live", "task raw input inside")
 Done = namedtuple("Done", "output flow")
@@ -84,19 +92,29 @@ Sleep = namedtuple("Sleep", "until")
 # The values of names, and the events that a `listen` took, each behind the number of its filter.
 Hear = namedtuple("Hear", "bound heard")
 
+# A call that was sent, and what it was answered, or None as long as it is open.
+Await = namedtuple("Await", "activity request reply")
+
+# A function, and the workflow of a document, which has a scene of its own.
+Fun = namedtuple("Fun", "node")
+Sub = namedtuple("Sub", "scene node")
+
 # A node for each branch.
 Fork = namedtuple("Fork", "branches")
 
 # The forms with the next node of the same strand.
-AROUND = (Seq, Each, Try, Catch)
+AROUND = (Seq, Each, Try, Catch, Fun, Sub)
+
+# What all tasks of a document have in common while it runs: the document, what they see as `$workflow`, and the context.
+Scene = namedtuple("Scene", "document workflow context")
 
 
 class Raised(Exception):
     """A standard error at the task whose rule is being applied."""
 
-    def __init__(self, detail, kind="expression"):
+    def __init__(self, detail, kind="expression", status=None):
         super().__init__(detail)
-        self.detail, self.kind = detail, kind
+        self.detail, self.kind, self.status = detail, kind, status or STATUSES[kind]
 
 
 class NotModelled(Exception):
@@ -186,11 +204,16 @@ def filled(template, value, sight):
     return template
 
 
+def made(template, value, sight):
+    """What a template gives."""
+    return within_limits(filled(template, value, sight))
+
+
 def transformed(by, value, sight):
     """What `from` or `as` makes of a value."""
     if by is None:
         return value
-    return within_limits(value_of(by, value, sight) if isinstance(by, str) else filled(by, value, sight))
+    return within_limits(value_of(by, value, sight)) if isinstance(by, str) else made(by, value, sight)
 
 
 # --- Events and replies
@@ -298,6 +321,174 @@ def is_reply(value):
     if not judge.is_int(status) or not 100 <= status <= 599 or not isinstance(headers, dict):
         return False
     return all(isinstance(it, str) for it in headers.values())
+
+
+# --- Calls
+
+# The name of a header, and its value without blanks at its ends.
+TOKEN = re.compile("[!#$%&'*+.^_`|~0-9A-Za-z-]+")
+FIELD = re.compile("([!-~]([!-~ \t]*[!-~])?)?")
+
+
+def spelled(value):
+    """A text, a number or a Boolean as a text."""
+    if isinstance(value, str):
+        return value
+    if isinstance(value, (bool, int)):
+        return text_of(value)
+    raise Raised("cannot expand")
+
+
+def escaped(text):
+    return urllib.parse.quote(text, safe="-._~")
+
+
+def expanded(pattern, value):
+    """A URI with the members of a value in the place of their names. One that is null or not there is empty."""
+
+    def part(found):
+        if not isinstance(value, (dict, type(None))):
+            raise Raised("cannot index")
+        it = (value or {}).get(found[1])
+        if isinstance(it, bool):
+            raise Raised("cannot expand")
+        return "" if it is None else escaped(spelled(it))
+
+    return re.sub("[{](" + judge.NAME.pattern + ")[}]", part, pattern)
+
+
+def uri_of(asked, value, sight):
+    """The URI of a call. The values of its query are filled before it, and judged behind it."""
+    query = {name: made(it, value, sight) for name, it in sorted(asked.get("query", {}).items())}
+    endpoint = asked["endpoint"]["uri"] if isinstance(asked["endpoint"], dict) else asked["endpoint"]
+    if judge.braced(endpoint) is None:
+        uri = expanded(endpoint, value)
+    else:
+        uri = made(endpoint, value, sight)
+        if not isinstance(uri, str):
+            raise Raised("cannot expand")
+    for name, it in query.items():
+        uri += ("&" if "?" in uri else "?") + escaped(name) + "=" + escaped(spelled(it))
+    return uri
+
+
+def header_of(name, value):
+    """What a header has as its text."""
+    text = spelled(value)
+    if not (TOKEN.fullmatch(name) and FIELD.fullmatch(text)):
+        raise Raised("cannot expand")
+    return text
+
+
+def request_of(asked, value, sight):
+    """What is sent: the URI is made first, then each header by its name, then the body where there is one."""
+    uri = uri_of(asked, value, sight)
+    headers = {name: header_of(name, made(it, value, sight)) for name, it in sorted(asked.get("headers", {}).items())}
+    body = {"body": made(asked["body"], value, sight)} if "body" in asked else {}
+    return {**body, "headers": headers, "method": asked["method"].upper(), "uri": uri}
+
+
+def answered(asked, request, reply):
+    """What a call gives, by what it was answered."""
+    if "unreached" in reply:
+        raise Raised("unreached", "communication")
+    status, last = reply["status"], 399 if asked.get("redirect") else 299
+    if not 200 <= status <= last:
+        raise Raised(None, "communication", status)
+    if asked.get("output") != "response":
+        return reply["content"]
+    sent = {name: request[name] for name in ("headers", "method", "uri")}
+    return {"content": reply["content"], "headers": reply["headers"], "request": sent, "statusCode": status}
+
+
+# --- Who answers calls
+
+# A type of JSON, or one with its syntax, in front of its parameters.
+JSON_TYPE = re.compile(r"[ \t]*(application/json|[^;]*[+]json)[ \t]*(;.*)?", re.A | re.I | re.S)
+
+
+class Given:
+    """What stands for a socket where a response is read: bytes that are given."""
+
+    def __init__(self, given):
+        self.given = given
+
+    def makefile(self, mode):
+        return io.BytesIO(self.given)
+
+
+def content_of(kind, body):
+    """What a body is as a value."""
+    if not body:
+        return None
+    try:
+        text = body.decode("utf-8")
+    except UnicodeDecodeError:
+        return base64.b64encode(body).decode("ascii")
+    fault, value = judge.read(text, 64) if JSON_TYPE.fullmatch(kind) else ("no JSON", None)
+    return text if fault else value
+
+
+def response_of(given, method):
+    """The answer that bytes are. Those that begin no whole response reached nobody."""
+    response = http.client.HTTPResponse(Given(given), method=method)
+    try:
+        response.begin()
+        body = response.read()
+    except (http.client.HTTPException, ValueError):
+        return {"unreached": True}
+    if not 100 <= response.status <= 599:
+        return {"unreached": True}
+    headers = {}
+    for name, value in response.getheaders():
+        headers[name.lower()] = headers[name.lower()] + ", " + value if name.lower() in headers else value
+    return {"content": content_of(headers.get("content-type", ""), body), "headers": headers, "status": response.status}
+
+
+class Board:
+    """Who answers the calls of a part of a session: one over HTTP, whose links give what stands there, one for each dial that does
+    not fail, and behind it others, each of a scheme, which reach nobody."""
+
+    def __init__(self, lines):
+        orders = [line[2:].partition(" ")[::2] for line in lines if line.startswith("! ")]
+        self.links = deque(self.link(word, rest) for word, rest in orders if word in ("response", "raw"))
+        self.failing = [int(rest[len("dial "):]) for word, rest in orders if word == "fail" and rest.startswith("dial ")]
+        self.schemes = [rest for word, rest in orders if word == "also"]
+        self.is_nobody = not (self.links or self.failing or self.schemes)
+        self.dials, self.told = 0, [0] * len(self.schemes)
+        words = next((rest for word, rest in orders if word == "words"), "").replace("=", ",").split(",")
+        options = dict(zip(words[:-1:2], words[1::2]))
+        self.answers, self.steps = options.get("--calls") == "http", int(options.get("--steps", 1000))
+
+    @staticmethod
+    def link(word, rest):
+        if word == "raw":
+            return bytes.fromhex(rest)
+        status, kind, body = (rest.split(" ", 2) + [""])[:3]
+        body = body.encode("utf-8")
+        return f"HTTP/1.1 {status} \r\nContent-Type: {kind}\r\nContent-Length: {len(body)}\r\n\r\n".encode("ascii") + body
+
+    def dialed(self, request):
+        """What the one over HTTP answers."""
+        if not urllib.parse.urlsplit(request["uri"]).hostname:
+            return {"unreached": True}
+        self.dials += 1
+        if self.dials - 1 in self.failing or not self.links:
+            return {"unreached": True}
+        return response_of(self.links.popleft(), request["method"])
+
+    def perform(self, request):
+        """What the first that takes a request answers."""
+        if request["uri"].startswith("http:") and not self.is_nobody:
+            return self.dialed(request)
+        for at, scheme in enumerate(self.schemes):
+            if request["uri"].startswith(scheme + ":"):
+                self.told[at] += 1
+                break
+        return {"unreached": True}
+
+    def asked(self):
+        return "" if self.is_nobody else " ".join(["-", *map(str, self.told)])
 
 
 # --- What a `listen` takes
@@ -421,6 +612,8 @@ def is_enabled(node, now):
         return True
     if isinstance(inner.inside, Hear):
         return is_satisfied(inner.task, inner.inside)
+    if isinstance(inner.inside, Await):
+        return inner.inside.reply is not None
     return not isinstance(inner.inside, Fork) and inner.inside.until <= now
 
 
@@ -439,17 +632,48 @@ def offered(node, event):
     return node, 0
 
 
+def replied(node, activity, reply):
+    """A node behind an answer to a call in it, or None where that call is not open in it."""
+    inside = node.inside if isinstance(node, Live) else None
+    if isinstance(inside, Await):
+        is_asked = inside.activity == activity and inside.reply is None
+        return node._replace(inside=inside._replace(reply=reply)) if is_asked else None
+    if isinstance(inside, Fork):
+        found = [replied(branch, activity, reply) for branch in inside.branches]
+        is_asked = any(found)
+        return node._replace(inside=Fork([new or old for new, old in zip(found, inside.branches)])) if is_asked else None
+    if isinstance(inside, AROUND):
+        deeper = replied(inside.node, activity, reply)
+        return node._replace(inside=inside._replace(node=deeper)) if deeper else None
+    return None
+
+
 # --- The rules
 
 
-class Instance:
-    """An instance, and the rules that rewrite its tree. `around` has the loop variables and caught errors around a node."""
+class Catalog:
+    """The loaded documents, and the version of each namespace and name that was loaded last."""
 
-    def __init__(self, name, document, given, now):
-        self.document, self.context = document, None
-        self.workflow = {"id": name, "input": given, "startedAt": {"epoch": {"milliseconds": now}}}
+    def __init__(self):
+        self.documents, self.latest = {}, {}
+
+    def add(self, key, document):
+        self.documents[key], self.latest[key[:2]] = document, key[2]
+
+    def resolved(self, namespace, name, version):
+        """The key with the version that `latest` stands for, where there is one."""
+        return namespace, name, self.latest.get((namespace, name), version) if version == "latest" else version
+
+
+class Instance:
+    """An instance, and the rules that rewrite its tree. `around` has the loop variables and caught errors around a node. While a
+    step is taken, `scene` is the one at its place, and `calls` counts the functions and sub-workflows around that."""
+
+    def __init__(self, name, document, given, now, catalog):
+        workflow = {"id": name, "input": given, "startedAt": {"epoch": {"milliseconds": now}}}
+        self.catalog, self.scene, self.calls = catalog, Scene(document, workflow, None), 0
         self.root = Fresh(Task(None, [], document), given)
-        self.events, self.sent, self.last = 0, None, []
+        self.number, self.sent, self.last = 0, None, []
 
     def waits(self):
         """The strands that wait for something, each with its innermost node."""
@@ -458,7 +682,12 @@ class Instance:
 
     def timers(self):
         """The strands that wait for a moment, each with that."""
-        return [(name, node.inside.until) for name, node in self.waits() if not isinstance(node.inside, Hear)]
+        return [(name, node.inside.until) for name, node in self.waits() if isinstance(node.inside, (Sleep, Later))]
+
+    def open_calls(self):
+        """The calls that have no answer yet, each with its request."""
+        found = [node.inside for _, node in self.waits() if isinstance(node.inside, Await)]
+        return [(it.activity, it.request) for it in found if it.reply is None]
 
     def listens(self):
         """The strands that wait for an event."""
@@ -488,9 +717,15 @@ class Instance:
         self.root, count = offered(self.root, event)
         return count
 
+    def answer(self, activity, reply):
+        """Keeps the answer to a call where that is open."""
+        self.root = replied(self.root, activity, reply) or self.root
+
     def stepped(self, node, strand, around, now):
         """The node after a step of a strand, which is named from here on. A step that raises ends its own task and no other."""
         inside = None if isinstance(node, Fresh) else node.inside
+        if isinstance(inside, (Fun, Sub)) and isinstance(inside.node, (Fresh, Live)):
+            return node._replace(inside=self.called(inside, strand, now))
         if isinstance(inside, AROUND) and isinstance(inside.node, (Fresh, Live)):
             deeper = self.stepped(inside.node, strand, {**around, **self.names_inside(node)}, now)
             return node._replace(inside=inside._replace(node=deeper))
@@ -499,7 +734,19 @@ class Instance:
                 return self.branched(node, strand, around, now)
             return self.rewritten(node, around, now)
         except Raised as raised:
-            return Fault(self.standard(raised.kind, node.task, raised.detail))
+            return Fault(self.standard(raised, node.task))
+
+    def called(self, inside, strand, now):
+        """A function or a sub-workflow after a step in it, which sees nothing of what is around the call."""
+        self.calls += 1
+        if isinstance(inside, Sub):
+            outer, self.scene = self.scene, inside.scene
+            deeper = self.stepped(inside.node, strand, {}, now)
+            inside, self.scene = Sub(self.scene, deeper), outer
+        else:
+            inside = Fun(self.stepped(inside.node, strand, {}, now))
+        self.calls -= 1
+        return inside
 
     def branched(self, node, strand, around, now):
         """A fork after a step in one of its branches."""
@@ -528,9 +775,13 @@ class Instance:
             return self.completed(node, node.input, around)
         if isinstance(inside, Hear):
             return self.completed(node, [read(node.task, event) for _, event in inside.heard], around)
+        if isinstance(inside, Await):
+            return self.completed(node, answered(node.task.body["with"], inside.request, inside.reply), around)
         if isinstance(inside, Later):
             first = begun(node.task.place + ["try"], node.task.body["try"], node.input)
             return node._replace(inside=Try(inside.retries, 0, first))
+        if isinstance(inside, (Fun, Sub)) and isinstance(inside.node, Done):
+            return self.returned(node, around)
         if isinstance(inside.node, Done):
             return self.gone_on(node, around)
         if isinstance(inside, Try):
@@ -546,19 +797,20 @@ class Instance:
         return {}
 
     @staticmethod
-    def standard(kind, task, detail):
-        where = judge.pointer(task.place)
-        return {"type": STANDARD + kind, "status": STATUSES[kind], "title": kind, "detail": detail, "instance": where}
+    def standard(raised, task):
+        detail = {} if raised.detail is None else {"detail": raised.detail}
+        kind, where = raised.kind, judge.pointer(task.place)
+        return {"type": STANDARD + kind, "status": raised.status, "title": kind, **detail, "instance": where}
 
     def sight(self, task, raw, around):
         """What `input.from` of a task sees. The document's own sees the workflow alone."""
         if not task.place:
-            return {"workflow": self.workflow}
+            return {"workflow": self.scene.workflow}
         known = {"name": task.name, "reference": judge.pointer(task.place), "input": raw}
-        return {**around, "workflow": self.workflow, "context": self.context, "task": known}
+        return {**around, "workflow": self.scene.workflow, "context": self.scene.context, "task": known}
 
     def sight_within(self, node, around):
-        return {**self.sight(node.task, node.raw, around), "input": node.input, "context": self.context}
+        return {**self.sight(node.task, node.raw, around), "input": node.input, "context": self.scene.context}
 
     def entered(self, node, around, now):
         """A task that begins: `input.from`, then `if`, then what its kind does."""
@@ -581,8 +833,16 @@ class Instance:
             return live._replace(inside=Hear(self.expected(live, sight), []))
         if "emit" in body:
             self.sent = self.event_of(body["emit"]["event"]["with"], live, sight)
-            self.events += 1
+            self.number += 1
             return self.completed(live, value, around)
+        if body.get("call") == "http":
+            request = request_of(body["with"], value, sight)
+            self.number += 1
+            return live._replace(inside=Await(f"{self.scene.workflow['id']}/{self.number - 1}", request, None))
+        if "call" in body or "run" in body:
+            if self.calls == MOST_CALLS:
+                raise Raised("depth limit", "runtime")
+            return live._replace(inside=self.function(live, sight) if "call" in body else self.workflow(live, sight))
         if "for" in body:
             items = value_of(body["for"]["in"], value, sight)
             if not isinstance(items, list):
@@ -595,9 +855,31 @@ class Instance:
             return live._replace(inside=Fork([Fresh(branch, value) for branch in branches]))
         if "try" in body:
             return live._replace(inside=Try(0, 0, begun(task.place + ["try"], body["try"], value)))
-        if "do" in body:
-            return live._replace(inside=Seq(0, begun(task.place + ["do"], body["do"], value)))
-        raise NotModelled("a task of " + ", ".join(sorted(body)))
+        return live._replace(inside=Seq(0, begun(task.place + ["do"], body["do"], value)))
+
+    def function(self, live, sight):
+        """A function that begins, on what it is given or else on the task's own input."""
+        name, body = live.task.body["call"], live.task.body
+        given = made(body["with"], live.input, sight) if "with" in body else live.input
+        return Fun(Fresh(Task(name, ["use", "functions", name], self.scene.document["use"]["functions"][name]), given))
+
+    def workflow(self, live, sight):
+        """A sub-workflow that begins, in a scene of its own and without a context."""
+        asked = live.task.body["run"]["workflow"]
+        given = made(asked["input"], live.input, sight) if "input" in asked else live.input
+        key = self.catalog.resolved(asked["namespace"], asked["name"], asked.get("version", "latest"))
+        if key not in self.catalog.documents:
+            raise Raised("unknown workflow", "configuration")
+        document = self.catalog.documents[key]
+        scene = Scene(document, {**self.scene.workflow, "input": given}, None)
+        return Sub(scene, Fresh(Task(None, [], document), given))
+
+    def returned(self, node, around):
+        """Behind a function or a sub-workflow. The end of a function's workflow is that of the caller's, which is the same."""
+        output, flow = node.inside.node
+        if isinstance(node.inside, Fun) and flow == "end":
+            return node.inside.node
+        return self.completed(node, output, around)
 
     @staticmethod
     def expected(live, sight):
@@ -606,15 +888,15 @@ class Instance:
         for asked in filters_of(live.task)[1]:
             for name, rule in sorted(asked.get("correlate", {}).items()):
                 if "expect" in rule:
-                    found = within_limits(filled(rule["expect"], live.input, sight))
+                    found = made(rule["expect"], live.input, sight)
                     if text_of(bound.setdefault(name, found)) != text_of(found):
                         raise Raised("cannot correlate")
         return bound
 
     def event_of(self, template, live, sight):
         """The event that an `emit` sends."""
-        given = within_limits(filled(template, live.input, sight))
-        event = {**given, "id": f"{self.workflow['id']}/{self.events}", "specversion": "1.0"}
+        given = made(template, live.input, sight)
+        event = {**given, "id": f"{self.scene.workflow['id']}/{self.number}", "specversion": "1.0"}
         if event_fault(event) is not None:
             raise Raised("bad event", "validation")
         return envelope(event)
@@ -629,7 +911,7 @@ class Instance:
 
     def problem_of(self, error, live, sight):
         if isinstance(error, str):
-            error = self.document["use"]["errors"][error]
+            error = self.scene.document["use"]["errors"][error]
             sight = {name: sight[name] for name in ("workflow", "context", "task", "input")}
         problem = {"instance": judge.pointer(live.task.place), **filled(error, live.input, sight)}
         if not all(isinstance(it, str) for name, it in problem.items() if name != "status"):
@@ -643,7 +925,7 @@ class Instance:
         output = transformed(body.get("output", {}).get("as"), within_limits(output), sight)
         exported = body.get("export", {}).get("as") if node.task.place else None
         if exported is not None:
-            self.context = transformed(exported, output, {**sight, "output": output})
+            self.scene = self.scene._replace(context=transformed(exported, output, {**sight, "output": output}))
         return Done(output, flow or body.get("then", "continue") if node.task.place else "continue")
 
     def iteration(self, node, items, number, value, around):
@@ -683,7 +965,7 @@ class Instance:
             return Fault(problem)
         retry = catch.get("retry")
         if isinstance(retry, str):
-            retry = self.document["use"]["retries"][retry]
+            retry = self.scene.document["use"]["retries"][retry]
             sight = {**{name: plain[name] for name in ("workflow", "context", "task")}, "error": problem}
         if retry is not None:
             count = retry.get("limit", {}).get("attempt", {}).get("count")
@@ -710,9 +992,9 @@ class World:
     """What a list of labels makes."""
 
     def __init__(self):
-        self.labels, self.places, self.documents, self.latest = ([], {}, {}, {})
+        self.labels, self.places, self.catalog = ([], {}, Catalog())
         self.instances, self.queue, self.now = ({}, deque(), 0)
-        self.outbox, self.takers = [], 0
+        self.outbox, self.takers, self.board = [], 0, Board([])
 
     def add(self, label):
         """Does what a label says, and gives its place."""
@@ -720,11 +1002,11 @@ class World:
         if kind == "load":
             known = label["document"]["document"]
             key = (known["namespace"], known["name"], known["version"])
-            self.documents[key], self.latest[key[:2]] = label["document"], key[2]
+            self.catalog.add(key, label["document"])
             self.places[key] = len(self.labels)
         elif kind == "start":
-            document = self.documents[tuple(label["document"].split("/"))]
-            self.instances[label["id"]] = Instance(label["id"], document, label["input"], self.now)
+            document = self.catalog.documents[tuple(label["document"].split("/"))]
+            self.instances[label["id"]] = Instance(label["id"], document, label["input"], self.now, self.catalog)
             self.places[label["id"]] = len(self.labels)
             self.queue.append(label["id"])
         elif kind == "moment":
@@ -733,6 +1015,11 @@ class World:
         elif kind == "event":
             self.places[label["event"]["source"], label["event"]["id"]] = len(self.labels)
             self.takers = self.offer(label["event"])
+        elif kind == "reply":
+            self.places[label["activity"],] = len(self.labels)
+            for it in self.instances.values():
+                it.answer(label["activity"], label["reply"])
+            self.wake()
         else:
             self.queue.remove(label["id"])
             sent = self.instances[label["id"]].step(label["strand"], self.now)
@@ -756,7 +1043,7 @@ class World:
 
     def status(self, name):
         it = self.instances[name]
-        told = {"context": it.context, "id": name, "status": "running" if it.can_go(self.now) else "waiting"}
+        told = {"context": it.scene.context, "id": name, "status": "running" if it.can_go(self.now) else "waiting"}
         if isinstance(it.root, Done):
             told.update(status="completed", output=it.root.output)
         elif isinstance(it.root, Fault):
@@ -814,9 +1101,8 @@ def start(world, line):
     given = json_of(given)
     if name in world.places:
         return {"error": "duplicate", "place": world.places[name]}
-    if key[2] == "latest":
-        key[2] = world.latest.get(tuple(key[:2]))
-    if tuple(key) not in world.documents:
+    key = world.catalog.resolved(*key)
+    if key not in world.catalog.documents:
         return {"error": "unknown-document"}
     label = {"label": "start", "id": name, "document": "/".join(key), "input": given}
     return {"ok": "started", "place": world.add(label)}
@@ -841,21 +1127,35 @@ def event(world, line):
     return {"ok": "accepted", "place": place, "taken": world.takers}
 
 
-def reply(_, line):
-    """An answer to a call, of which none can be open. The answer is an object round its content."""
-    if not is_reply(json_of(words(line, 2)[1], 65)):
+def reply(world, line):
+    """An answer to a call. It is an object round its content, which may nest as deep as any other value."""
+    activity, given = words(line, 2)
+    given = json_of(given, 65)
+    if not is_reply(given):
         raise BadLine("reply")
-    return {"error": "stale"}
+    if (activity,) in world.places:
+        return {"error": "duplicate", "place": world.places[activity,]}
+    if all(activity != name for it in world.instances.values() for name, _ in it.open_calls()):
+        return {"error": "stale"}
+    return {"ok": "replied", "place": world.add({"label": "reply", "activity": activity, "reply": given})}
 
 
 def settle(world, line):
-    most = 1000 if line == "settle" else number(words(line, 1)[0], 1, 1000000)
-    for steps in range(most):
-        if not world.queue:
+    """Takes steps, and where no strand is enabled any more asks for all calls that are open then, as long as there are some."""
+    most = world.board.steps if line == "settle" else number(words(line, 1)[0], 1, 1000000)
+    steps = 0
+    while True:
+        while world.queue and steps < most:
+            name = world.queue[0]
+            world.add({"label": "step", "id": name, "strand": world.instances[name].next_strand(world.now)})
+            steps += 1
+        if world.queue:
+            return {"ok": "budget", "steps": most}
+        calls = [it for known in world.instances.values() for it in known.open_calls()]
+        if not world.board.answers or not calls:
             return {"ok": "quiet", "steps": steps}
-        name = world.queue[0]
-        world.add({"label": "step", "id": name, "strand": world.instances[name].next_strand(world.now)})
-    return {"ok": "budget", "steps": most} if world.queue else {"ok": "quiet", "steps": most}
+        for activity, request in calls:
+            world.add({"label": "reply", "activity": activity, "reply": world.board.perform(request)})
 
 
 def status(world, line):
@@ -874,7 +1174,8 @@ def pending(world, line):
     known = world.instances.items()
     timers = [{"instance": name, "strand": at, "until": until} for name, it in known for at, until in it.timers()]
     listens = [{"instance": name, "strand": at} for name, it in known for at in it.listens()]
-    return {"calls": [], "listens": listens, "timers": timers}
+    calls = [{"activity": activity, "request": request} for _, it in known for activity, request in it.open_calls()]
+    return {"calls": calls, "listens": listens, "timers": timers}
 
 
 def outbox(world, line):
@@ -905,17 +1206,26 @@ def replayed(labels):
 
 def part(world, lines):
     """What is printed from one opening of the store to the next. Where a reply cannot be said, the program ends with 4."""
+    if any(line.startswith(("! fail store ", "! fail next ")) for line in lines):
+        raise NotModelled("such a call that fails")
     failing = [int(line[len("! fail say "):]) for line in lines if line.startswith("! fail say ")]
-    said, is_open, failed = 0, True, False
-    for line in lines:
-        print(line if line.startswith(("#", "!")) else "> " + line)
-        if not is_open or line.startswith(("#", "!")):
-            continue
-        told, failed = answer(world, line), said in failing
-        is_open = line != "quit" and not failed
-        said += 1
-        if not failed:
-            print(text_of(told))
+    said, is_open, failed, shown = 0, True, False, []
+    world.board = Board(lines)
+    try:
+        for line in lines:
+            shown.append(line if line.startswith(("#", "!")) else "> " + line)
+            if not is_open or line.startswith(("#", "!")):
+                continue
+            told, failed = answer(world, line), said in failing
+            is_open = line != "quit" and not failed
+            said += 1
+            if not failed:
+                shown.append(text_of(told))
+    finally:
+        for line in shown:
+            print(line)
+            if line == "! asked":
+                print(world.board.asked())
     if failed:
         print("! status 4")
 
@@ -969,7 +1279,7 @@ def orders(row):
     name, tasks = row.split(" ", 1)
     document = {"document": {"dsl": "1.0.0", "namespace": "t", "name": "a", "version": "1.0.0"}, "do": json.loads(tasks)}
     outputs = []
-    count = explored(Instance("i", document, None, 0), 0, outputs)
+    count = explored(Instance("i", document, None, 0, Catalog()), 0, outputs)
     print(f"{name} => {count} orders: {' '.join(outputs)}")
 
 

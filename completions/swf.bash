@@ -10,7 +10,7 @@ _swf()
             [[ $word == "=" ]] || skip=
         elif [[ ! $ended && $word == "--" ]]; then
             ended=1
-        elif [[ ! $ended && $word =~ ^(--steps)$ ]]; then
+        elif [[ ! $ended && $word =~ ^(--steps|--calls)$ ]]; then
             skip=1
         elif [[ $ended || $word != -* ]]; then
             mode=$word
@@ -20,7 +20,7 @@ _swf()
         return
     fi
     if [[ ! $ended && $current == -* ]]; then
-        COMPREPLY=($(compgen -W "--steps" -- "$current"))
+        COMPREPLY=($(compgen -W "--steps --calls" -- "$current"))
     elif [[ ! $mode ]]; then
         COMPREPLY=($(compgen -W "check session show" -- "$current"))
     fi

@@ -7,14 +7,17 @@ use std::process::ExitCode;
 use std::rt::Env;
 use swf_check::WholeHost;
 use swf_cli::{Mode, read_words, swf_run};
+use swf_connect::{Connector, HttpConnector, Switchboard};
 use swf_host::ConsoleHost;
 use swf_store::{FileStore, StoreFault};
+use swf_tcp::TcpDial;
 
 /// The words of the command line have no meaning.
 const NO_MEANING: u8 = 2;
 
 /// What the words may be.
-const USAGE: &str = "usage: swf [--steps N] check|session|show, where N is from 1 to 1000000";
+const USAGE: &str =
+    "usage: swf [--steps N] [--calls manual|http] check|session|show, where N is from 1 to 1000000";
 
 /// The store could not be made.
 const STORE_FAULT: u8 = 3;
@@ -37,9 +40,17 @@ fn main(rt: HostRuntime) -> ExitCode {
     let Ok(reader) = BufReader::new(alloc, rt.reader()) else {
         return ExitCode::from(NO_MEMORY);
     };
+    let Ok(http) = Box::new(alloc, HttpConnector::new(alloc, TcpDial::new(rt))) else {
+        return ExitCode::from(NO_MEMORY);
+    };
+    let mut connectors: Vec<Box<dyn Connector + Send>> = Vec::new(alloc);
+    if connectors.push(http).is_err() {
+        return ExitCode::from(NO_MEMORY);
+    }
+    let mut board = Switchboard::new(connectors);
     if meaning.mode == Mode::Check {
         let mut host = WholeHost::new(alloc, reader, io::writer(&rt));
-        return ExitCode::from(swf_run(alloc, &words, &mut host));
+        return ExitCode::from(swf_run(alloc, &words, &mut host, &mut board));
     }
     let store = match FileStore::in_folder(rt, alloc, "") {
         Ok(store) => store,
@@ -47,7 +58,7 @@ fn main(rt: HostRuntime) -> ExitCode {
         Err(StoreFault::OutOfMemory) => return ExitCode::from(NO_MEMORY),
     };
     let mut host = ConsoleHost::new(alloc, store, reader, io::writer(&rt));
-    ExitCode::from(swf_run(alloc, &words, &mut host))
+    ExitCode::from(swf_run(alloc, &words, &mut host, &mut board))
 }
 
 // The status of a program that ends before it does anything. Where the words have no meaning, standard error is told what they may be.

@@ -1,3 +1,4 @@
 pub mod HeaderLemmas
 pub mod FieldLemmas
 pub mod ReplyLemmas
+pub mod ValueLemmas

@@ -21,16 +21,32 @@ abbrev pub headers_of : Value → Option (List Header)
 headers_of (object ms) = headers_in ms
 headers_of v = None
 
--- a field before a header, joined to it, or behind it
-abbrev pub placed : Ordering → Header → Header → List Header → List Header → List Header
-placed Less field h hs more = field ∷ h ∷ hs
-placed Equal field h hs more = (record { name = field.name; value = h.value ++ codes ", " ++ field.value }) ∷ hs
-placed Greater field h hs more = h ∷ more
+-- a field before a header, with it as `both` says, or behind it
+abbrev pub placed : (Header → Header → Header) → Ordering → Header → Header → List Header → List Header → List Header
+placed both Less field h hs more = field ∷ h ∷ hs
+placed both Equal field h hs more = both h field ∷ hs
+placed both Greater field h hs more = h ∷ more
 
--- ascending headers with one more field, whose value is joined to that of its name (RFC 9110, section 5.2)
+-- ascending headers with one more field; where its name is there already, `both` says what stands there
+abbrev pub set_field : (Header → Header → Header) → Header → List Header → List Header
+set_field both field [] = field ∷ []
+set_field both field (h ∷ hs) = placed both (slice_cmp nat_cmp field.name h.name) field h hs (set_field both field hs)
+
+-- the value of a field behind that of a header (RFC 9110, section 5.2)
+abbrev pub joined : Header → Header → Header
+joined h field = record { name = field.name; value = h.value ++ codes ", " ++ field.value }
+
+-- the field alone
+abbrev pub later_field : Header → Header → Header
+later_field h field = field
+
+-- one more field, whose value is joined to that of its name
 abbrev pub with_field : Header → List Header → List Header
-with_field field [] = field ∷ []
-with_field field (h ∷ hs) = placed (slice_cmp nat_cmp field.name h.name) field h hs (with_field field hs)
+with_field field hs = set_field joined field hs
+
+-- one more field, in the stead of that of its name
+abbrev pub put_field : Header → List Header → List Header
+put_field field hs = set_field later_field field hs
 
 -- one place further where a name stands behind a header
 abbrev pub stepped : Ordering → Result ℕ ℕ → Result ℕ ℕ

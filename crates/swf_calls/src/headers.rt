@@ -2,7 +2,7 @@
 ghost use Rattle.std.specs.Prelude.{◌≡◌, ◌++◌, [], codes, IfOk, OnOk, OnErr, option_map};
 ghost use Rattle.swf_value.specs.Value.{object, Ascending};
 ghost use Rattle.swf_value.specs.Node.{members_of};
-ghost use Rattle.swf_calls.specs.Headers.{header_members, headers_in, headers_of, place_in, with_field};
+ghost use Rattle.swf_calls.specs.Headers.{header_members, headers_in, headers_of, place_in, put_field, with_field};
 
 use std::alloc::{AllocError, Global};
 use std::cmp::Ordering;
@@ -75,6 +75,15 @@ impl Headers {
         add_field(alloc, &mut self.fields, field)
     }
 
+    /// Puts a field there, in the stead of that of its name where there is one.
+    #[tactic(auto, using(crate::proofs::FieldLemmas::put_ascends))]
+    pub fn put(&mut self, field: Header) -> Result<(), AllocError>
+        ensures ok { OnOk result (self.new ≡ put_field field self.old) }
+        ensures err { OnErr result (self.new ≡ self.old) }
+    {
+        put_field(&mut self.fields, field)
+    }
+
     /// The headers that an object's members are, if each of them is a text.
     #[tactic(auto, using(crate::proofs::HeaderLemmas::fields_ascend))]
     pub(crate) fn read(alloc: Global, value: &Json) -> Result<Option<Headers>, AllocError>
@@ -90,7 +99,7 @@ impl Headers {
     }
 
     /// The object that has them as its members.
-    pub(crate) fn json(&self, alloc: Global) -> Result<Json, AllocError>
+    pub fn json(&self, alloc: Global) -> Result<Json, AllocError>
         ensures { IfOk result (λ value. value ≡ object (header_members self.now)) }
     {
         let members = field_members(alloc, &self.fields)?;
@@ -136,6 +145,17 @@ fn add_field(alloc: Global, fields: &mut Vec<Header>, field: Header) -> Result<(
                 value,
             };
         }
+        Err(place) => fields.insert(place, field)?,
+    }
+    Ok(())
+}
+
+fn put_field(fields: &mut Vec<Header>, field: Header) -> Result<(), AllocError>
+    ensures ok { OnOk result (fields.new.items ≡ put_field field fields.old.items) }
+    ensures err { OnErr result (fields.new.items ≡ fields.old.items) }
+{
+    match place_of(fields, &field.name) {
+        Ok(place) => fields[place] = field,
         Err(place) => fields.insert(place, field)?,
     }
     Ok(())

@@ -11,7 +11,7 @@ use Rattle.swf_meaning.specs.Lists.{list_of, tasks_of_handler}
 use Rattle.swf_meaning.specs.Next.{task_at}
 use Rattle.swf_meaning.specs.Node.{Round, Seq, Each, Try, Catch, Fun, Sub}
 use Rattle.swf_meaning.specs.Parts.{workflow}
-use Rattle.swf_catalog.specs.Numbers.{Entry, all, begin, begin_of, begins, begins_of, behind, both, count, entries, handler_begin, inner_task, inside, inside_task, inside_kind, inside_handler, numbered, or_nothing, own, with_own}
+use Rattle.swf_catalog.specs.Numbers.{Entry, all, begin, begin_of, begins, begins_of, behind, both, count, entries, functions_begin, handler_begin, inner_task, inside, inside_task, inside_kind, inside_handler, listed_entries, numbered, or_nothing, own, with_own}
 use Rattle.swf_catalog.specs.Rows.{entries_of, entry_of}
 use Rattle.swf_catalog.specs.declared.row.Begins.{Begins}
 use Rattle.swf_catalog.specs.declared.row.Row.{Row}
@@ -170,15 +170,29 @@ all-get es [] k e a p = cc
 all-get es (x ∷ xs) zero e a p = subst (λ (o : Option Entry). IsPlaced es (entry_or x o)) p a.0
 all-get es (x ∷ xs) (suc k) e a p = all-get es xs k e a.1 p
 
+-- the tasks of lists stand behind the workflow, and the functions behind the others
+stand-listed : (d : Document) → Stand (entries d) 1 (listed_entries d)
+stand-listed d k _ = ap (slice_get (entries d)) {y = suc k} (omega arith)
+
+stand-functions : (d : Document) → Stand (entries d) (behind 1 d.tasks) (all (behind 1 d.tasks) d.functions)
+stand-functions d =
+    stand-right (entries d) 1 (behind 1 d.tasks) (all 1 d.tasks) (all (behind 1 d.tasks) d.functions) (omega (arith, length-all 1 d.tasks)) (stand-listed d)
+
+-- the function of a place
+pub function-at : (d : Document) (i : ℕ) → i < count d.functions → numbered d (functions_begin d + i) ≡ task_at d.functions i
+function-at d i lt = holds-list (entries d) (behind 1 d.tasks) d.functions (stand-functions d) i lt
+
 -- of every task of a document
 pub placed : (d : Document) (n : ℕ) (e : Entry) → slice_get (entries d) n ≡ Some e → IsPlaced (entries d) e
 placed d n e p =
     let es = entries d in
-    let stand : Stand es 1 (all 1 d.tasks) = λ k _. ap (slice_get es) {y = suc k} (omega arith) in
-    all-get es es n e (placed-task es 1 (workflow d) stand, placed-inside_kind es 1 (do_all d.tasks) stand) p
+    let m = behind 1 d.tasks in
+    let own = stand-left es 1 (all 1 d.tasks) (all m d.functions) (stand-listed d) in
+    all-get es es n e
+    (placed-task es 1 (workflow d) own, all-append es (all 1 d.tasks) (all m d.functions) (placed-inside_kind es 1 (do_all d.tasks) own) (placed-inside_kind es m (do_all d.functions) (stand-functions d))) p
 
 -- where an entry is found
-pub row-entry : (d : Document) (rs : List Row) (n : ℕ) (r : Row) → entries_of rs ≡ all 1 d.tasks → (n ≡ 0 → ⊥) → slice_get rs (n - 1) ≡ Some r → slice_get (entries d) n ≡ Some (entry_of r)
+pub row-entry : (d : Document) (rs : List Row) (n : ℕ) (r : Row) → entries_of rs ≡ listed_entries d → (n ≡ 0 → ⊥) → slice_get rs (n - 1) ≡ Some r → slice_get (entries d) n ≡ Some (entry_of r)
 row-entry d rs zero r p above q = absurd (above refl)
 row-entry d rs (suc k) r p above q =
     ap (λ es. slice_get es k) (sym p) ∙ slice_get-map entry_of rs k ∙ ap (option_map entry_of) (ap (slice_get rs) (omega arith) ∙ q)
@@ -206,9 +220,9 @@ some-within (x ∷ es) zero n e q = omega (arith, e)
 some-within (x ∷ es) (suc k) n e q = omega (arith, e, some-within es k (length es) refl q)
 
 -- a number is below that of all tasks
-pub numbered-within : (d : Document) (rs : List Row) (n : ℕ) → entries_of rs ≡ all 1 d.tasks → is_some (numbered d n) ≡ true → n ≤ length rs
+pub numbered-within : (d : Document) (rs : List Row) (n : ℕ) → entries_of rs ≡ listed_entries d → is_some (numbered d n) ≡ true → n ≤ length rs
 numbered-within d rs zero p q = omega arith
-numbered-within d rs (suc k) p q = some-within (all 1 d.tasks) k (length rs) (sym (length-entries rs) ∙ ap length p) q
+numbered-within d rs (suc k) p q = some-within (listed_entries d) k (length rs) (sym (length-entries rs) ∙ ap length p) q
 
 -- that task is there
 pub child-there : (d : Document) (n : ℕ) (t : Task) (b : Begins) (r : Round) (i : ℕ) → numbered d n ≡ Some t → option_map (λ e. e.begins) (slice_get (entries d) n) ≡ Some b → i < count (list_of t r)

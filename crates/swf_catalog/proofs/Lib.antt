@@ -4,4 +4,5 @@ pub mod ChildLemmas
 pub mod IterationLemmas
 pub mod VersionLemmas
 pub mod DocumentLemmas
+pub mod FunctionLemmas
 pub mod TaskSends

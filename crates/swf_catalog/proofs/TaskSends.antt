@@ -4,7 +4,7 @@ use denote.Param.Send.{IsSend, IsSync, sendable}
 use Rattle.std.proofs.Crossing.{crosses}
 use Rattle.swf_value.proofs.list.JsonList.TheLaws.TheKnot as json_knot
 use Rattle.swf_value.specs.contracts.list.JsonList as json_list
-use Rattle.swf_document.proofs.Sent.{text_send, text_sync, tasks_send, tasks_sync, document_send, document_sync, problem_inside_send, problem_inside_sync}
+use Rattle.swf_document.proofs.Sent.{json_send, json_sync, text_send, text_sync, tasks_send, tasks_sync, document_send, document_sync, problem_inside_send, problem_inside_sync}
 use Rattle.swf_catalog.specs.contracts.shared.Shared as shared
 use Rattle.swf_catalog.specs.contracts.row.Begins as begins
 use Rattle.swf_catalog.specs.contracts.row.Row as row
@@ -14,6 +14,7 @@ use Rattle.swf_catalog.specs.contracts.words.Words as words
 use Rattle.swf_catalog.specs.contracts.numbered.NumberedDocument as numbered
 use Rattle.swf_catalog.specs.contracts.task.TaskRef as task
 use Rattle.swf_catalog.specs.contracts.round.Iteration as iteration
+use Rattle.swf_catalog.specs.contracts.round.SubWorkflow as sub
 use Rattle.swf_catalog.specs.contracts.round.Round as round
 
 pub json_list_send : IsSend json_list.the_row
@@ -93,8 +94,14 @@ iteration_inside_send = search (sendable, json_list_send) depth 20
 pub iteration_inside_sync : IsSync (iteration.the_field).row
 iteration_inside_sync = search (sendable, json_list_sync) depth 20
 
+pub sub_inside_send : IsSend (sub.the_field).row
+sub_inside_send = search (sendable, shared_document_send, json_send) depth 20
+
+pub sub_inside_sync : IsSync (sub.the_field).row
+sub_inside_sync = search (sendable, shared_document_sync, json_sync) depth 20
+
 pub round_inside_send : IsSend (round.the_field).row
-round_inside_send = search (sendable, iteration_inside_send, problem_inside_send) depth 20
+round_inside_send = search (sendable, iteration_inside_send, problem_inside_send, sub_inside_send) depth 20
 
 pub round_inside_sync : IsSync (round.the_field).row
-round_inside_sync = search (sendable, iteration_inside_sync, problem_inside_sync) depth 20
+round_inside_sync = search (sendable, iteration_inside_sync, problem_inside_sync, sub_inside_sync) depth 20

@@ -1,4 +1,4 @@
--- The tasks of a document by number: 0 is the workflow, and the tasks of a list follow each other.
+-- The tasks of a document by number: 0 is the workflow, the tasks of a list follow each other, and the functions come last.
 use Rattle.std.specs.Prelude.{ℕ, zero, suc, ◌+◌, List, [], ◌∷◌, ◌++◌, Option, Some, None, option_map, slice_get}
 use Rattle.swf_document.specs.Task.{Task, task, Tasks, no_tasks, named, Kind, do_all, for, fork, try, Handler, no_handler, handler}
 use Rattle.swf_document.specs.declared.document.Document.{Document}
@@ -122,9 +122,17 @@ abbrev mutual
 abbrev pub all : ℕ → Tasks → List Entry
 all n ts = with_own n ts (inside n ts)
 
+-- where the functions of a document begin: behind its tasks
+abbrev pub functions_begin : Document → ℕ
+functions_begin d = begin (behind 1 d.tasks) d.functions
+
+-- the tasks of lists: those of the workflow, and then the functions
+abbrev pub listed_entries : Document → List Entry
+listed_entries d = all 1 d.tasks ++ all (behind 1 d.tasks) d.functions
+
 -- all tasks of a document in the order of their numbers
 abbrev pub entries : Document → List Entry
-entries d = (record { task = workflow d; begins = both (begin 1 d.tasks) }) ∷ all 1 d.tasks
+entries d = (record { task = workflow d; begins = both (begin 1 d.tasks) }) ∷ listed_entries d
 
 -- the task of a number, where there is one
 abbrev pub numbered : Document → ℕ → Option Task

@@ -23,25 +23,20 @@ loop_of s = record { each = s.each; items = s.items; at = s.at; guard = s.guard 
 abbrev pub catch_of : TrySpec → Catch
 catch_of s = record { errors = s.errors; name = s.name; cond = s.cond; except = s.except; retry = s.retry }
 
--- a kind of task that is not built
-abbrev pub IsOther : Kind → Type 0
-IsOther (call c) = Unit {0}
-IsOther (run s) = Unit {0}
-IsOther k = ⊥
-
 -- what a task of this kind does
 abbrev pub work_kind : Work → Kind → Type 0
+work_kind (works.Call c) k = k ≡ call c.now
 work_kind (works.Do ts) k = k ≡ do_all ts.now
 work_kind (works.Emit t) k = k ≡ emit t.now
 work_kind (works.For s) k = k ≡ for (loop_of s.now) s.now.tasks
 work_kind (works.Fork f) k = k ≡ fork f.now.compete f.now.branches
 work_kind (works.Listen l) k = k ≡ listen l.now
 work_kind (works.Raise r) k = k ≡ raise r.now
+work_kind (works.Run s) k = k ≡ run s.now
 work_kind (works.Set t) k = k ≡ set t.now
 work_kind (works.Switch cs) k = k ≡ switch cs.now
 work_kind (works.Try s) k = k ≡ try (catch_of s.now) s.now.tasks (handler_of s.now.handler)
 work_kind (works.Wait d) k = k ≡ wait d
-work_kind works.Other k = IsOther k
 
 abbrev pub listed : Option Tasks → Tasks
 listed None = no_tasks

@@ -1,7 +1,7 @@
 // The loaded documents.
 ghost use Rattle.std.specs.Prelude.{◌≡◌, ◌<◌, ◌++◌, ◌∷◌, [], length, None, IfOk, OnOk, option_map};
 ghost use Rattle.std.specs.Arc.{arc_value};
-ghost use Rattle.swf_meaning.specs.Documents.{document_at, last_version, same_name};
+ghost use Rattle.swf_meaning.specs.Documents.{document_at, last_version, resolved, same_name};
 ghost use Rattle.swf_catalog.specs.Loads.{loaded_of};
 
 use crate::shared::{SharedDocument, share_document};
@@ -10,7 +10,7 @@ use std::alloc::{AllocError, Global};
 use std::marker::Model;
 use std::sync::Arc;
 use swf_document::{DocKey, Document};
-use swf_text::{Text, same_texts};
+use swf_text::{Text, is_word, same_texts};
 use swf_value::Json;
 
 /// A document, and the value that it was read from.
@@ -85,8 +85,8 @@ impl Documents {
         Some(&loaded.document)
     }
 
-    /// The version of the last document that was loaded of a key's namespace and name, or the key's own.
-    pub fn last_version<'a>(&'a self, key: &'a DocKey) -> &'a Text
+    // The version of the last document that was loaded of a key's namespace and name, or the key's own.
+    fn last_version<'a>(&'a self, key: &'a DocKey) -> &'a Text
         ensures { result.now ≡ last_version key.now self.now.documents key.now.version }
     {
         let mut version = &key.version;
@@ -98,6 +98,17 @@ impl Documents {
             }
         }
         version
+    }
+
+    /// A key with the version that was loaded last of its namespace and name in place of `latest`; it stays as it is where there is none.
+    pub fn resolved(&self, key: DocKey) -> Result<DocKey, AllocError>
+        ensures { IfOk result (λ k. k ≡ resolved self.now.documents key) }
+    {
+        if !is_word(&key.version, "latest") {
+            return Ok(key);
+        }
+        let version = self.last_version(&key).copy()?;
+        Ok(DocKey { version, ..key })
     }
 
     /// Adds a document under its own key, of which there is none. It takes no memory.

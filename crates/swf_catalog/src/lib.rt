@@ -3,6 +3,8 @@
 
 mod crossing;
 mod documents;
+mod find;
+mod keeping;
 mod numbered;
 mod numbering;
 mod parts;
@@ -14,9 +16,10 @@ mod words;
 
 pub use crossing::task_crosses;
 pub use documents::{Documents, Loaded, same_name};
+pub use find::place_of;
 pub use numbered::NumberedDocument;
 pub use parts::Work;
-pub use round::{Iteration, Round};
+pub use round::{Iteration, Round, SubWorkflow};
 pub use shared::{Shared, SharedDocument, share_document};
 pub use task::TaskRef;
 pub use words::Words;

@@ -3,6 +3,7 @@ ghost use Rattle.std.specs.Prelude.{◌≡◌, ◌+◌, ◌<◌, ◌-◌, ◌^�
 ghost use Rattle.std.specs.Arc.{arc_value};
 ghost use Rattle.swf_document.specs.TaskNode.{task_of, tasks_of};
 ghost use Rattle.swf_meaning.specs.Fork.{branches_of};
+ghost use Rattle.swf_meaning.specs.Function.{function_in};
 ghost use Rattle.swf_meaning.specs.Lists.{list_of};
 ghost use Rattle.swf_meaning.specs.Next.{task_at};
 ghost use Rattle.swf_catalog.specs.Numbers.{begin_of, entries, numbered, or_nothing};
@@ -10,6 +11,7 @@ ghost use Rattle.swf_catalog.specs.Rows.{entry_of};
 ghost use Rattle.swf_catalog.specs.Rounds.{round_of};
 ghost use Rattle.swf_catalog.specs.TaskRef.{parts_task};
 
+use crate::find::place_of;
 use crate::numbering::{add_tasks, both};
 use crate::parts::Parts;
 use crate::round::Round;
@@ -19,14 +21,17 @@ use std::alloc::{AllocError, Global};
 use std::marker::Model;
 use std::sync::Arc;
 use swf_document::{Document, Named, Task};
+use swf_text::Text;
 
-/// A document, with its tasks by number, and the names that variables need. The number 0 is the workflow, and the tasks of a list follow
-/// each other. Contracts see it as the document.
+/// A document, with its tasks by number, and the names that variables need. The number 0 is the workflow, the tasks of a list follow
+/// each other, and the functions come last. Contracts see it as the document.
 #[derive(Drop)]
 pub struct NumberedDocument {
     document: Arc<Document>,
     /// Where the workflow's list begins.
     begins: Begins,
+    /// Where the functions begin.
+    functions: usize,
     /// The tasks from 1 on.
     rows: Vec<Row>,
     words: Words,
@@ -37,7 +42,7 @@ impl Model for NumberedDocument {
     ghost use Rattle.std.specs.Arc.{arc_value};
     ghost use Rattle.swf_document.specs.declared.document.Document.{Document};
     ghost use Rattle.swf_document.specs.DocumentCode.{document_code};
-    ghost use Rattle.swf_catalog.specs.Numbers.{all, begin, both};
+    ghost use Rattle.swf_catalog.specs.Numbers.{begin, both, functions_begin, listed_entries};
     ghost use Rattle.swf_catalog.specs.Rows.{entries_of};
 
     ghost Value = { Document };
@@ -46,7 +51,7 @@ impl Model for NumberedDocument {
 
     ghost view = { λ n. arc_value n.document };
 
-    ghost invariant = { λ n. (n.begins ≡ both (begin 1 (arc_value n.document).tasks)) × (entries_of n.rows.items ≡ all 1 (arc_value n.document).tasks) };
+    ghost invariant = { λ n. (n.begins ≡ both (begin 1 (arc_value n.document).tasks)) × (n.functions ≡ functions_begin (arc_value n.document)) × (entries_of n.rows.items ≡ listed_entries (arc_value n.document)) };
 }
 
 impl NumberedDocument {
@@ -57,9 +62,11 @@ impl NumberedDocument {
         let words = Words::new(alloc)?;
         let mut rows = Vec::new(alloc);
         let begin = add_tasks(alloc, &document.tasks, &mut rows)?;
+        let functions = add_tasks(alloc, &document.functions, &mut rows)?;
         Ok(NumberedDocument {
             document,
             begins: both(begin),
+            functions,
             rows,
             words,
         })
@@ -133,6 +140,15 @@ impl NumberedDocument {
         Some(self.number_at(begin_of(self.begins(number), round), place))
     }
 
+    /// The number of the function of a name.
+    pub fn function(&self, name: &Text) -> Option<usize>
+        ensures task { option_and_then (numbered self.now) result ≡ function_in name.now self.now.functions }
+        ensures there { IfSome result (λ n. is_some (numbered self.now n) ≡ true) }
+    {
+        let place = place_of(name, self.document.functions.as_slice())?;
+        Some(self.number_at(self.functions, place))
+    }
+
     /// The number of a branch of a task, where it is a `fork`.
     pub fn branch(&self, number: usize, branch: usize) -> Option<usize>
         requires { is_some (numbered self.now number) ≡ true }
@@ -153,7 +169,8 @@ fn begin_of(begins: Begins, round: &Round) -> usize
 {
     match round {
         Round::Catch(_) => begins.handler,
-        Round::Seq | Round::Each(_) | Round::Try { .. } => begins.tasks,
+        Round::Seq | Round::Each(_) | Round::Try { .. } | Round::Function | Round::SubWorkflow(_) =>
+            begins.tasks,
     }
 }
 

@@ -8,8 +8,8 @@ ghost use Rattle.swf_catalog.specs.TaskRef.{parts_task, work_kind, listed};
 
 use crate::round::Round;
 use swf_document::{
-    Case, Document, ErrorRef, ForSpec, ForkSpec, Kind, ListenSpec, Listing, Task, Tasks, Template,
-    TrySpec,
+    Callee, Case, Document, ErrorRef, ForSpec, ForkSpec, Kind, ListenSpec, Listing, RunSpec, Task,
+    Tasks, Template, TrySpec,
 };
 
 /// The parts of a task.
@@ -19,20 +19,21 @@ pub enum Parts<'a> {
     Listed(&'a Task),
 }
 
-/// What a task of a kind that is built does.
+/// What a task does.
 #[derive(Drop)]
 pub enum Work<'a> {
+    Call(&'a Callee),
     Do(&'a Tasks),
     Emit(&'a Template),
     For(&'a ForSpec),
     Fork(&'a ForkSpec),
     Listen(&'a ListenSpec),
     Raise(&'a ErrorRef),
+    Run(&'a RunSpec),
     Set(&'a Template),
     Switch(&'a Listing<Case>),
     Try(&'a TrySpec),
     Wait(u64),
-    Other,
 }
 
 impl<'a> Parts<'a> {
@@ -43,17 +44,18 @@ impl<'a> Parts<'a> {
         match self {
             Parts::Workflow(document) => Work::Do(&document.tasks),
             Parts::Listed(task) => match &task.kind {
+                Kind::Call(callee) => Work::Call(callee),
                 Kind::Do(tasks) => Work::Do(tasks),
                 Kind::Emit(template) => Work::Emit(template),
                 Kind::For(spec) => Work::For(spec),
                 Kind::Fork(spec) => Work::Fork(spec),
                 Kind::Listen(spec) => Work::Listen(spec),
                 Kind::Raise(reference) => Work::Raise(reference),
+                Kind::Run(spec) => Work::Run(spec),
                 Kind::Set(template) => Work::Set(template),
                 Kind::Switch(cases) => Work::Switch(cases),
                 Kind::Try(spec) => Work::Try(spec),
                 Kind::Wait(duration) => Work::Wait(*duration),
-                Kind::Call(_) | Kind::Run(_) => Work::Other,
             },
         }
     }
@@ -68,14 +70,15 @@ impl<'a> Parts<'a> {
             (Work::Try(spec), Round::Catch(_)) => spec.handler.as_ref(),
             (Work::Try(spec), _) => Some(&spec.tasks),
             (
-                Work::Emit(_)
+                Work::Call(_)
+                | Work::Emit(_)
                 | Work::Fork(_)
                 | Work::Listen(_)
                 | Work::Raise(_)
+                | Work::Run(_)
                 | Work::Set(_)
                 | Work::Switch(_)
-                | Work::Wait(_)
-                | Work::Other,
+                | Work::Wait(_),
                 _,
             ) => None,
         }

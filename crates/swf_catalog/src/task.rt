@@ -4,6 +4,7 @@ ghost use Rattle.swf_document.specs.TaskNode.{tasks_of};
 ghost use Rattle.swf_meaning.specs.Parts.{common_of, kind_of, place_of, workflow};
 ghost use Rattle.swf_meaning.specs.Line.{is_workflow};
 ghost use Rattle.swf_meaning.specs.Fork.{branches_of, competes};
+ghost use Rattle.swf_meaning.specs.Function.{function_in};
 ghost use Rattle.swf_meaning.specs.Next.{task_at};
 ghost use Rattle.swf_meaning.specs.Lists.{list_of, guard_of};
 ghost use Rattle.swf_meaning.specs.Shared.{is_shared_kind};
@@ -17,7 +18,7 @@ use std::alloc::{AllocError, Global};
 use std::marker::Model;
 use swf_document::{Flow, Kind, Named, Template, unboxed};
 use swf_expr::Expr;
-use swf_text::Place;
+use swf_text::{Place, Text};
 
 /// A task of a document, by its number. A copy shares the document. Contracts see it as a `Task` of specs.
 #[derive(Drop)]
@@ -50,6 +51,19 @@ impl TaskRef {
         TaskRef {
             document,
             number: 0,
+        }
+    }
+
+    /// The function of a name, where a document has one.
+    pub fn function(document: &SharedDocument, name: &Text) -> Result<Option<TaskRef>, AllocError>
+        ensures { IfOk result (λ o. o ≡ function_in name.now document.now.functions) }
+    {
+        match document.get().function(name) {
+            Some(number) => {
+                let document = document.copy()?;
+                Ok(Some(TaskRef { document, number }))
+            }
+            None => Ok(None),
         }
     }
 

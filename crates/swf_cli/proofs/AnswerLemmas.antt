@@ -6,6 +6,7 @@ use Rattle.swf_value.specs.Value.{Value}
 use Rattle.swf_store.specs.Disk.{NothingNew}
 use Rattle.swf_store.specs.Stops.{LeavesOnly}
 use Rattle.swf_store.proofs.Moments.{weaker_only}
+use Rattle.swf_store.specs.declared.call.Call.{Call}
 use Rattle.swf_store.specs.declared.image.Image.{Image}
 use Rattle.swf_store.specs.declared.said.Piece.{Piece}
 use Rattle.swf_store.specs.Said.{IsSaid}
@@ -16,7 +17,7 @@ use Rattle.swf_meaning.specs.declared.label.Query.{Query}
 use Rattle.swf_meaning.specs.declared.label.Query.TheVariants.{Status as OfStatus, Pending as OfPending, Outbox as OfOutbox, History as OfHistory}
 use Rattle.swf_meaning.specs.declared.label.Answer.{Answer}
 use Rattle.swf_meaning.specs.Answer.{status}
-use Rattle.swf_runs.specs.Runs.{run, world_at, is_quiet}
+use Rattle.swf_runs.specs.Runs.{run, world_at}
 use Rattle.swf_meaning.specs.World.{World}
 use Rattle.swf_runs.proofs.RunLemmas.{world_of_run}
 use Rattle.swf_record.specs.Encodes.{Nests}
@@ -27,7 +28,8 @@ use Rattle.swf_world.specs.Latest.{label_of}
 use Rattle.swf_world.specs.Refusals.{refusal}
 use Rattle.swf_world.specs.declared.refusal.Refusal.{Refusal}
 use Rattle.swf_world.specs.declared.refusal.Refusal.TheVariants.{Refused as NotRead, Duplicate, UnknownDocument, UnknownInstance, Stale, Past, Full as TooMany, NotEnabled}
-use Rattle.swf_engine.specs.declared.engine.Settled.{Settled as HasSettled}
+use Rattle.swf_engine.specs.Settling.{Called, AreTaken, IsGroup, is_settled, steps_in}
+use Rattle.swf_engine.specs.declared.settle.Settled.{Settled as HasSettled}
 use Rattle.swf_engine.specs.declared.engine.Submitted.{Submitted}
 use Rattle.swf_engine.specs.declared.engine.Submitted.TheVariants.{Accepted, Refused}
 use Rattle.swf_engine.specs.declared.fault.EngineFault.{EngineFault}
@@ -38,7 +40,7 @@ use Rattle.swf_engine.specs.Core.{Core, StandFor}
 use Rattle.swf_engine.specs.History.{Begins, IsGrown}
 use Rattle.swf_engine.specs.Retelling.{AnswersQuery}
 use Rattle.swf_engine.proofs.HistoryLemmas.{left_history, not_grown}
-use Rattle.swf_engine.specs.Moves.{Adds, Breaks, IsStep, AreSteps}
+use Rattle.swf_engine.specs.Moves.{Adds, Breaks}
 use Rattle.swf_engine.proofs.MoveLemmas.{some_of, stays_adds}
 use Rattle.swf_protocol.specs.Line.{is_quit}
 use Rattle.swf_protocol.specs.Reading.{Reads}
@@ -52,8 +54,8 @@ use Rattle.swf_protocol.specs.declared.reply.Reply.TheVariants.{Memory}
 use Rattle.swf_cli.specs.Faults.{MayAddFault}
 use Rattle.swf_cli.specs.Follows.{AddsNext, MayAdd}
 use Rattle.swf_cli.specs.Steps.{CommandDone, LineDone, Passes, Stand, IsFilled, IsBreak, or_memory, queried}
-use Rattle.swf_cli.specs.Settling.{steps_in}
-use Rattle.swf_cli.proofs.SettlingLemmas.{settling_of_steps, all_steps}
+use Rattle.swf_cli.specs.Settling.{AreSettling}
+use Rattle.swf_cli.proofs.SettlingLemmas.{settling_begin, settling_of_group, settling_of_all, settling_of_none}
 use Rattle.swf_cli.specs.Turns.{Outcomes, Settled, Lacks, CommandTurn, accepted, refused, fault_reply, settle_reply, query_reply}
 use Rattle.swf_cli.specs.Sorts.{sort_of, accepted_as}
 use Rattle.swf_cli.specs.declared.answer.Sort.{Sort}
@@ -118,17 +120,6 @@ begins_one (x ∷ y ∷ ys) l b = let e : l ∷ [] ≡ x ∷ y ∷ (ys ++ b.rest
 pub begins_none : (part : List Label) → Begins part [] → part ≡ []
 begins_none [] b = refl
 begins_none (x ∷ xs) b = let e : [] ≡ x ∷ (xs ++ b.rest) = b.joined in absurd (cc)
-
-all_first : (a b : List Label) → AllByRecursion IsStep (a ++ b) → AllByRecursion IsStep a
-all_first [] b h = tt
-all_first (x ∷ xs) b h = (h.0, all_first xs b h.1)
-
--- the first of some steps are steps
-pub steps_first : (a b : List Label) (limit : ℕ) → AreSteps (a ++ b) limit → AreSteps a limit
-steps_first a b limit s = record { each = all_first a b s.each; most = omega (arith, s.most, length-append a b) }
-
-pub steps_begin : (part steps : List Label) (limit : ℕ) → AreSteps steps limit → Begins part steps → AreSteps part limit
-steps_begin part steps limit s b = steps_first part b.rest limit (subst (λ (l : List Label). AreSteps l limit) b.joined s)
 
 -- the faults of the engine: what a caller knows of them is known of the answer
 usable_or_memory : (T : Type 0) (fault : EngineFault) (P : Type 0) → WhereUsable {T = T} (Err fault) P → WhereUsable (or_memory fault) P
@@ -201,9 +192,17 @@ pub settled_sayable : (quiet : Bool) (steps limit : ℕ) → limit ≤ 1000000 �
 settled_sayable true steps limit m h = let le : steps ≤ limit = h refl in omega (arith, le, m)
 settled_sayable false steps limit m h = omega (arith, m)
 
--- what a line adds that was not read
-steps_none : (limit : ℕ) → AreSteps [] limit
-steps_none limit = record { each = tt; most = omega arith }
+-- what a settling answers, where the worlds are those of the history without and with its labels
+settled_in : (http : Bool) (history labels : List Label) (limit : ℕ) (called : List Called) (v w : World) (settled : HasSettled) → world_at history ≡ v → world_at (history ++ labels) ≡ w → AreTaken v labels called
+    → length (steps_in labels) ≡ settled.steps → settled.steps ≤ limit → settled.quiet ≡ is_settled http w → (settled.quiet ≡ false → settled.steps ≡ limit)
+    → Settled http history limit called labels (settle_reply settled.quiet settled.steps limit)
+settled_in http history labels limit called v w settled d e are count most quiet enough =
+    let same : is_settled http (world_at (history ++ labels)) ≡ settled.quiet = ap (is_settled http) e ∙ sym quiet in
+    record {
+      settling = subst (λ (x : World). AreSettling x labels limit called) (sym d) (settling_of_all v labels limit called are (omega (arith, most, count)));
+      enough = λ is. count ∙ enough (sym same ∙ is);
+      told = ap (λ (b : Bool). settle_reply b settled.steps limit) (sym same) ∙ ap (λ (n : ℕ). settle_reply (is_settled http (world_at (history ++ labels))) n limit) (sym count);
+    }
 
 module _ {S : Type 0} (moment : S → ℕ) (left_since : S → ℕ → Image → List Piece → Type 0) (said : S → Option (List Piece)) (may_leave : S → Image → Type 0) (seen : S → Option Image)
     (only_now : (s : S) (image : Image) (pieces : List Piece) → left_since s (moment s) image pieces → may_leave s image × IsSaid (said s) pieces) where
@@ -242,11 +241,11 @@ module _ {S : Type 0} (moment : S → ℕ) (left_since : S → ℕ → Image →
   submit_breaks o old new before after (Full size) h = tt
   submit_breaks o old new before after OutOfMemory h = tt
 
-  pub settle_breaks : (limit : ℕ) (old new : S) (before after : Core) (fault : EngineFault) → Settles moment left_since said may_leave seen old new before after limit (Err fault) → IsBreak (or_memory fault)
-  settle_breaks limit old new before after Store h = tt
-  settle_breaks limit old new before after (Damaged at) h = absurd h
-  settle_breaks limit old new before after (Full size) h = tt
-  settle_breaks limit old new before after OutOfMemory h = tt
+  pub settle_breaks : (calls : S → Option (List Call)) (http : Bool) (called : List Called) (limit : ℕ) (old new : S) (before after : Core) (fault : EngineFault) → Settles moment left_since said may_leave seen calls http called old new before after limit (Err fault) → IsBreak (or_memory fault)
+  settle_breaks calls http called limit old new before after Store h = tt
+  settle_breaks calls http called limit old new before after (Damaged at) h = absurd h
+  settle_breaks calls http called limit old new before after (Full size) h = tt
+  settle_breaks calls http called limit old new before after OutOfMemory h = tt
 
   -- nor is it damage
   pub submit_faults : (o : Outcome) (old new : S) (before after : Core) (fault : EngineFault) → Submits moment left_since said may_leave seen old new before after (label_of before.world o) (Err fault) → MayAddFault (or_memory fault)
@@ -255,23 +254,11 @@ module _ {S : Type 0} (moment : S → ℕ) (left_since : S → ℕ → Image →
   submit_faults o old new before after (Full size) h = tt
   submit_faults o old new before after OutOfMemory h = tt
 
-  pub settle_faults : (limit : ℕ) (old new : S) (before after : Core) (fault : EngineFault) → Settles moment left_since said may_leave seen old new before after limit (Err fault) → MayAddFault (or_memory fault)
-  settle_faults limit old new before after Store h = tt
-  settle_faults limit old new before after (Damaged at) h = h
-  settle_faults limit old new before after (Full size) h = tt
-  settle_faults limit old new before after OutOfMemory h = tt
-
-  -- what a settling answers, where the world is that of the history with its steps
-  settled_in : (history steps : List Label) (limit : ℕ) (w : World) (settled : HasSettled) → world_at (history ++ steps) ≡ w → AreSteps steps limit → length steps ≡ settled.steps
-      → settled.quiet ≡ is_quiet w → (settled.quiet ≡ false → settled.steps ≡ limit) → Settled history limit [] steps (settle_reply settled.quiet settled.steps limit)
-  settled_in history steps limit w settled e are count quiet enough =
-      let same : is_quiet (world_at (history ++ steps)) ≡ settled.quiet = ap is_quiet e ∙ sym quiet in
-      let all : length (steps_in steps) ≡ settled.steps = ap length (all_steps steps are.each) ∙ count in
-      record {
-        settling = settling_of_steps steps limit are;
-        enough = λ is. all ∙ enough (sym same ∙ is);
-        told = ap (λ (b : Bool). settle_reply b settled.steps limit) (sym same) ∙ ap (λ (n : ℕ). settle_reply (is_quiet (world_at (history ++ steps))) n limit) (sym all);
-      }
+  pub settle_faults : (calls : S → Option (List Call)) (http : Bool) (called : List Called) (limit : ℕ) (old new : S) (before after : Core) (fault : EngineFault) → Settles moment left_since said may_leave seen calls http called old new before after limit (Err fault) → MayAddFault (or_memory fault)
+  settle_faults calls http called limit old new before after Store h = tt
+  settle_faults calls http called limit old new before after (Damaged at) h = absurd h
+  settle_faults calls http called limit old new before after (Full size) h = tt
+  settle_faults calls http called limit old new before after OutOfMemory h = tt
 
   -- a call that only reads leaves what there was
   read_passes : (old new : S) (before : Core) (image : Image) (history : List Label) → StandFor image (may_leave old) before history → LeavesOnly moment left_since said old new (may_leave old)
@@ -290,111 +277,119 @@ module _ {S : Type 0} (moment : S → ℕ) (left_since : S → ℕ → Image →
       } in
       (image, unseen ∙ is, subst (λ (c : Core). StandFor image (may_leave new) c (history ++ [])) (sym same) (subst (λ (l : List Label). StandFor image (may_leave new) before l) (sym (append-nil history)) stood))
 
--- by the words of the program
-module _ (words : Words) where
+-- by the words of the program, and what the board answered
+module _ (words : Words) (answers : List Called) where
   pub may_outcome : (history : List Label) (w : World) (o : Outcome) (part : List Label) → world_at history ≡ w → refusal w (label_of w o) ≡ None → Begins part (label_of w o ∷ [])
-      → MayAdd words None [] history (Ok (Do o)) part
+      → MayAdd words None answers history (Ok (Do o)) part
   may_outcome history w o part e is b =
       let P : World → Type 0 = λ v. (part ≡ []) ⊎ ((refusal v (label_of v o) ≡ None) × (part ≡ label_of v o ∷ [])) in
       subst P (sym e) (⊎_elim (λ none. inl none) (λ all. inr (is, all)) (begins_one part (label_of w o) b))
 
   -- what a query is answered behind a history
-  asked_turn : (history : List Label) (w : World) (q : Query) (r : Result Answer QueryFault) → world_at history ≡ w → (r ≡ Err NoMemory) ⊎ (r ≡ answer history w q) → CommandTurn words None [] history (Ok (Ask q)) [] (queried r)
+  asked_turn : (history : List Label) (w : World) (q : Query) (r : Result Answer QueryFault) → world_at history ≡ w → (r ≡ Err NoMemory) ⊎ (r ≡ answer history w q) → CommandTurn words None answers history (Ok (Ask q)) [] (queried r)
   asked_turn history w q r e (inl none) = inr (ap queried none, refl)
   asked_turn history w q r e (inr is) =
       inl (refl, ap queried is ∙ answer_reply history w q ∙ ap (λ (v : World). query_reply (answer history v q)) (sym e))
 
+  -- an engine's group behind a history
+  group_in : (history : List Label) (before : Core) (labels : List Label) (limit : ℕ) → run history ≡ Some before.world → IsGroup before.world labels limit answers → AreSettling (world_at history) labels limit answers
+  group_in history before labels limit is g =
+      subst (λ (w : World). AreSettling w labels limit answers) (sym (world_of_run history before.world is)) (settling_of_group before.world labels limit answers g)
+
   module _ {S : Type 0} (moment : S → ℕ) (left_since : S → ℕ → Image → List Piece → Type 0) (said : S → Option (List Piece)) (may_leave : S → Image → Type 0) (seen : S → Option Image)
       (only_now : (s : S) (image : Image) (pieces : List Piece) → left_since s (moment s) image pieces → may_leave s image × IsSaid (said s) pieces) where
     -- a line that adds nothing
-    pub line_stays : (command : Result Command CommandFault) (old : S) (engine : Core) (reply : Reply) → ((history : List Label) → run history ≡ Some engine.world → CommandTurn words None [] history command [] reply)
-        → LineDone words None [] moment left_since said may_leave seen command old old engine engine (Ok reply)
+    pub line_stays : (command : Result Command CommandFault) (old : S) (engine : Core) (reply : Reply) → ((history : List Label) → run history ≡ Some engine.world → CommandTurn words None answers history command [] reply)
+        → LineDone words None answers moment left_since said may_leave seen command old old engine engine (Ok reply)
     line_stays command old engine reply does = λ image is history stands.
-        done_by moment left_since said may_leave seen only_now (MayAdd words None [] history command) (AddsNext words None [] history command) (CommandTurn words None [] history command) old old engine engine image history [] reply (stays_adds moment left_since said may_leave seen only_now old engine) is stands (does history stands.run)
+        done_by moment left_since said may_leave seen only_now (MayAdd words None answers history command) (AddsNext words None answers history command) (CommandTurn words None answers history command) old old engine engine image history [] reply (stays_adds moment left_since said may_leave seen only_now old engine) is stands (does history stands.run)
 
     pub submit_done : (o : Outcome) (old new : S) (before after : Core) (result : Result Submitted EngineFault)
         → Submits moment left_since said may_leave seen old new before after (label_of before.world o) result
-        → LineDone words None [] moment left_since said may_leave seen (Ok (Do o)) old new before after (submit_reply o result)
+        → LineDone words None answers moment left_since said may_leave seen (Ok (Do o)) old new before after (submit_reply o result)
     submit_done o old new before after (Ok (Accepted i)) h = λ image is history stands.
         let l = label_of before.world o in
         let e : world_at history ≡ before.world = world_of_run history before.world stands.run in
-        done_by moment left_since said may_leave seen only_now (MayAdd words None [] history (Ok (Do o))) (AddsNext words None [] history (Ok (Do o))) (CommandTurn words None [] history (Ok (Do o))) old new before after image history (l ∷ []) (accepted o i.place i.taken) h.0 is stands
+        done_by moment left_since said may_leave seen only_now (MayAdd words None answers history (Ok (Do o))) (AddsNext words None answers history (Ok (Do o))) (CommandTurn words None answers history (Ok (Do o))) old new before after image history (l ∷ []) (accepted o i.place i.taken) h.0 is stands
         (inl (outcome_in (world_at history) before.world o None (l ∷ []) (accepted o i.place i.taken) e h.1 (refl, ap (λ (n : ℕ). accepted o n i.taken) h.3 ∙ ap (accepted o before.world.count) h.4)))
     submit_done o old new before after (Ok (Refused r)) h = λ image is history stands.
         let e : world_at history ≡ before.world = world_of_run history before.world stands.run in
-        done_by moment left_since said may_leave seen only_now (MayAdd words None [] history (Ok (Do o))) (AddsNext words None [] history (Ok (Do o))) (CommandTurn words None [] history (Ok (Do o))) old new before after image history [] (refused r) (adds_none moment left_since said may_leave seen only_now old new before after h.2) is stands
+        done_by moment left_since said may_leave seen only_now (MayAdd words None answers history (Ok (Do o))) (AddsNext words None answers history (Ok (Do o))) (CommandTurn words None answers history (Ok (Do o))) old new before after image history [] (refused r) (adds_none moment left_since said may_leave seen only_now old new before after h.2) is stands
         (inl (outcome_in (world_at history) before.world o (Some r) [] (refused r) e h.0 (refl, refl)))
     submit_done o old new before after (Err Store) h = λ image is history stands.
         let e : world_at history ≡ before.world = world_of_run history before.world stands.run in
-        broken_by moment left_since said may_leave seen only_now (MayAdd words None [] history (Ok (Do o))) (AddsNext words None [] history (Ok (Do o))) (CommandTurn words None [] history (Ok (Do o))) old new before after image history (label_of before.world o ∷ []) h.0 is stands
+        broken_by moment left_since said may_leave seen only_now (MayAdd words None answers history (Ok (Do o))) (AddsNext words None answers history (Ok (Do o))) (CommandTurn words None answers history (Ok (Do o))) old new before after image history (label_of before.world o ∷ []) h.0 is stands
         (λ part b. may_outcome history before.world o part e h.1 b)
     submit_done o old new before after (Err (Damaged at)) h = absurd h
     submit_done o old new before after (Err (Full size)) h = λ image is history stands.
-        full_by moment left_since said may_leave seen only_now (MayAdd words None [] history (Ok (Do o))) (AddsNext words None [] history (Ok (Do o))) (CommandTurn words None [] history (Ok (Do o))) old new before after image history [] size (adds_none moment left_since said may_leave seen only_now old new before after h.2) is stands
+        full_by moment left_since said may_leave seen only_now (MayAdd words None answers history (Ok (Do o))) (AddsNext words None answers history (Ok (Do o))) (CommandTurn words None answers history (Ok (Do o))) old new before after image history [] size (adds_none moment left_since said may_leave seen only_now old new before after h.2) is stands
         (λ part b. inl (begins_none part b))
-        (subst (λ (c : Core). IsFilled (AddsNext words None [] history (Ok (Do o)) []) c size) (sym h.2.1)
+        (subst (λ (c : Core). IsFilled (AddsNext words None answers history (Ok (Do o)) []) c size) (sym h.2.1)
         (record { label = label_of before.world o; next = inr (ap (λ (w : World). label_of w o ∷ []) (sym (world_of_run history before.world stands.run))); legal = h.1; full = h.0 }))
     submit_done o old new before after (Err OutOfMemory) h = λ image is history stands.
-        done_by moment left_since said may_leave seen only_now (MayAdd words None [] history (Ok (Do o))) (AddsNext words None [] history (Ok (Do o))) (CommandTurn words None [] history (Ok (Do o))) old new before after image history [] Memory (adds_none moment left_since said may_leave seen only_now old new before after h) is stands (inr (refl, refl))
+        done_by moment left_since said may_leave seen only_now (MayAdd words None answers history (Ok (Do o))) (AddsNext words None answers history (Ok (Do o))) (CommandTurn words None answers history (Ok (Do o))) old new before after image history [] Memory (adds_none moment left_since said may_leave seen only_now old new before after h) is stands (inr (refl, refl))
 
     pub submit_done_as : (o : Outcome) (old new : S) (before after : Core) (result : Result Submitted EngineFault) (r : Result Reply EngineFault)
         → Submits moment left_since said may_leave seen old new before after (label_of before.world o) result → submit_reply o result ≡ r
-        → LineDone words None [] moment left_since said may_leave seen (Ok (Do o)) old new before after r
+        → LineDone words None answers moment left_since said may_leave seen (Ok (Do o)) old new before after r
     submit_done_as o old new before after result r h e =
-        subst (λ (x : Result Reply EngineFault). LineDone words None [] moment left_since said may_leave seen (Ok (Do o)) old new before after x) e (submit_done o old new before after result h)
+        subst (λ (x : Result Reply EngineFault). LineDone words None answers moment left_since said may_leave seen (Ok (Do o)) old new before after x) e (submit_done o old new before after result h)
 
-    pub settle_done : (limit : ℕ) (old new : S) (before after : Core) (result : Result HasSettled EngineFault) → Settles moment left_since said may_leave seen old new before after limit result
-        → LineDone words None [] moment left_since said may_leave seen (Ok (Settle (Some limit))) old new before after (settled_reply limit result)
-    settle_done limit old new before after (Ok settled) h = λ image is history stands.
-        let there = some_of (seen new) (seen old) image h.2.honest is in
-        let stood = h.2.stands image is history stands there.0 there.1 in
-        done_by moment left_since said may_leave seen only_now (MayAdd words None [] history (Ok (Settle (Some limit)))) (AddsNext words None [] history (Ok (Settle (Some limit)))) (CommandTurn words None [] history (Ok (Settle (Some limit)))) old new before after image history h.0 (settle_reply settled.quiet settled.steps limit) h.2 is stands
-        (inl (settled_in moment left_since said may_leave seen only_now history h.0 limit after.world settled (world_of_run (history ++ h.0) after.world stood.run) h.1 h.3 h.4 h.5))
-    settle_done limit old new before after (Err Store) h = λ image is history stands.
-        broken_by moment left_since said may_leave seen only_now (MayAdd words None [] history (Ok (Settle (Some limit)))) (AddsNext words None [] history (Ok (Settle (Some limit)))) (CommandTurn words None [] history (Ok (Settle (Some limit)))) old new before after image history h.0 h.2 is stands
-        (λ part b. settling_of_steps part limit (steps_begin part h.0 limit h.1 b))
-    settle_done limit old new before after (Err (Damaged at)) h = absurd h
-    settle_done limit old new before after (Err (Full size)) h = λ image is history stands.
-        full_by moment left_since said may_leave seen only_now (MayAdd words None [] history (Ok (Settle (Some limit)))) (AddsNext words None [] history (Ok (Settle (Some limit)))) (CommandTurn words None [] history (Ok (Settle (Some limit)))) old new before after image history h.0 size h.5 is stands
-        (λ part b. settling_of_steps part limit (steps_begin part h.0 limit (steps_first h.0 (h.1 ∷ []) limit h.4) b))
-        (record { label = h.1; next = settling_of_steps (h.0 ++ h.1 ∷ []) limit h.4; legal = h.3; full = h.6 })
-    settle_done limit old new before after (Err OutOfMemory) h = λ image is history stands.
-        done_by moment left_since said may_leave seen only_now (MayAdd words None [] history (Ok (Settle (Some limit)))) (AddsNext words None [] history (Ok (Settle (Some limit)))) (CommandTurn words None [] history (Ok (Settle (Some limit)))) old new before after image history h.0 Memory h.2 is stands (inr (refl, settling_of_steps h.0 limit h.1))
+    pub settle_done : (calls : S → Option (List Call)) (limit : ℕ) (old new : S) (before after : Core) (result : Result HasSettled EngineFault)
+        → Settles moment left_since said may_leave seen calls words.http answers old new before after limit result
+        → LineDone words None answers moment left_since said may_leave seen (Ok (Settle (Some limit))) old new before after (settled_reply limit result)
+    settle_done calls limit old new before after (Ok settled) h = λ image is history stands.
+        let went = h.0 in
+        let there = some_of (seen new) (seen old) image went.adds.honest is in
+        let stood = went.adds.stands image is history stands there.0 there.1 in
+        done_by moment left_since said may_leave seen only_now (MayAdd words None answers history (Ok (Settle (Some limit)))) (AddsNext words None answers history (Ok (Settle (Some limit)))) (CommandTurn words None answers history (Ok (Settle (Some limit)))) old new before after image history went.labels (settle_reply settled.quiet settled.steps limit) went.adds is stands
+        (inl (settled_in words.http history went.labels limit answers before.world after.world settled (world_of_run history before.world stands.run) (world_of_run (history ++ went.labels) after.world stood.run) went.taken went.count h.1 h.2 h.3))
+    settle_done calls limit old new before after (Err Store) h = λ image is history stands.
+        broken_by moment left_since said may_leave seen only_now (MayAdd words None answers history (Ok (Settle (Some limit)))) (AddsNext words None answers history (Ok (Settle (Some limit)))) (CommandTurn words None answers history (Ok (Settle (Some limit)))) old new before after image history h.0 h.2 is stands
+        (λ part b. settling_begin (world_at history) part h.0 limit answers (group_in history before h.0 limit stands.run h.1) b)
+    settle_done calls limit old new before after (Err (Damaged at)) h = absurd h
+    settle_done calls limit old new before after (Err (Full size)) h = λ image is history stands.
+        let all = group_in history before (h.0 ++ h.1 ∷ []) limit stands.run h.3 in
+        full_by moment left_since said may_leave seen only_now (MayAdd words None answers history (Ok (Settle (Some limit)))) (AddsNext words None answers history (Ok (Settle (Some limit)))) (CommandTurn words None answers history (Ok (Settle (Some limit)))) old new before after image history h.0 size h.4 is stands
+        (λ part b. settling_begin (world_at history) part h.0 limit answers (settling_begin (world_at history) h.0 (h.0 ++ h.1 ∷ []) limit answers all (record { rest = h.1 ∷ []; joined = refl })) b)
+        (record { label = h.1; next = all; legal = h.2; full = h.6 })
+    settle_done calls limit old new before after (Err OutOfMemory) h = λ image is history stands.
+        done_by moment left_since said may_leave seen only_now (MayAdd words None answers history (Ok (Settle (Some limit)))) (AddsNext words None answers history (Ok (Settle (Some limit)))) (CommandTurn words None answers history (Ok (Settle (Some limit)))) old new before after image history h.0 Memory h.2 is stands (inr (refl, group_in history before h.0 limit stands.run h.1))
 
-    pub settle_done_as : (limit : ℕ) (old new : S) (before after : Core) (result : Result HasSettled EngineFault) (r : Result Reply EngineFault)
-        → Settles moment left_since said may_leave seen old new before after limit result → settled_reply limit result ≡ r
-        → LineDone words None [] moment left_since said may_leave seen (Ok (Settle (Some limit))) old new before after r
-    settle_done_as limit old new before after result r h e =
-        subst (λ (x : Result Reply EngineFault). LineDone words None [] moment left_since said may_leave seen (Ok (Settle (Some limit))) old new before after x) e (settle_done limit old new before after result h)
+    pub settle_done_as : (calls : S → Option (List Call)) (limit : ℕ) (old new : S) (before after : Core) (result : Result HasSettled EngineFault) (r : Result Reply EngineFault)
+        → Settles moment left_since said may_leave seen calls words.http answers old new before after limit result → settled_reply limit result ≡ r
+        → LineDone words None answers moment left_since said may_leave seen (Ok (Settle (Some limit))) old new before after r
+    settle_done_as calls limit old new before after result r h e =
+        subst (λ (x : Result Reply EngineFault). LineDone words None answers moment left_since said may_leave seen (Ok (Settle (Some limit))) old new before after x) e (settle_done calls limit old new before after result h)
 
     -- a line without a number settles with as many steps as the words say
-    limit_as : (l : Option ℕ) (old new : S) (before after : Core) (r : Result Reply EngineFault) → LineDone words None [] moment left_since said may_leave seen (Ok (Settle (Some (unwrap_or l words.steps)))) old new before after r
-        → LineDone words None [] moment left_since said may_leave seen (Ok (Settle l)) old new before after r
+    limit_as : (l : Option ℕ) (old new : S) (before after : Core) (r : Result Reply EngineFault) → LineDone words None answers moment left_since said may_leave seen (Ok (Settle (Some (unwrap_or l words.steps)))) old new before after r
+        → LineDone words None answers moment left_since said may_leave seen (Ok (Settle l)) old new before after r
     limit_as None old new before after r h = h
     limit_as (Some n) old new before after r h = h
 
-    pub settle_line_as : (l : Option ℕ) (limit : ℕ) (old new : S) (before after : Core) (result : Result HasSettled EngineFault) (r : Result Reply EngineFault) → limit ≡ unwrap_or l words.steps
-        → Settles moment left_since said may_leave seen old new before after limit result → settled_reply limit result ≡ r
-        → LineDone words None [] moment left_since said may_leave seen (Ok (Settle l)) old new before after r
-    settle_line_as l limit old new before after result r is h e =
+    pub settle_line_as : (calls : S → Option (List Call)) (l : Option ℕ) (limit : ℕ) (old new : S) (before after : Core) (result : Result HasSettled EngineFault) (r : Result Reply EngineFault) → limit ≡ unwrap_or l words.steps
+        → Settles moment left_since said may_leave seen calls words.http answers old new before after limit result → settled_reply limit result ≡ r
+        → LineDone words None answers moment left_since said may_leave seen (Ok (Settle l)) old new before after r
+    settle_line_as calls l limit old new before after result r is h e =
         limit_as l old new before after r
-        (subst (λ (n : ℕ). LineDone words None [] moment left_since said may_leave seen (Ok (Settle (Some n))) old new before after r) is (settle_done_as limit old new before after result r h e))
+        (subst (λ (n : ℕ). LineDone words None answers moment left_since said may_leave seen (Ok (Settle (Some n))) old new before after r) is (settle_done_as calls limit old new before after result r h e))
 
     -- a query was answered
     pub asked_done : (q : Query) (old new : S) (before after : Core) (result : Result (Result Answer QueryFault) EngineFault) → after ≡ before → seen new ≡ seen old → NothingNew (may_leave old) (may_leave new)
         → LeavesOnly moment left_since said old new (may_leave old)
         → ForSome (seen old) (λ image. (history : List Label) → StandFor image (may_leave old) before history → AnswersQuery history before.world q result)
-        → LineDone words None [] moment left_since said may_leave seen (Ok (Ask q)) old new before after (answer_of result)
-    asked_done q old new before after (Ok r) same unseen stop only answers = λ image is history stands. (
+        → LineDone words None answers moment left_since said may_leave seen (Ok (Ask q)) old new before after (answer_of result)
+    asked_done q old new before after (Ok r) same unseen stop only replies = λ image is history stands. (
       [],
-      asked_turn history before.world q r (world_of_run history before.world stands.run) (answers image is history stands),
+      asked_turn history before.world q r (world_of_run history before.world stands.run) (replies image is history stands),
       read_passes moment left_since said may_leave seen only_now old new before image history stands only,
       read_stand moment left_since said may_leave seen only_now old new before after image history stands is same unseen stop,
     )
-    asked_done q old new before after (Err Store) same unseen stop only answers = λ image is history stands. ([], (λ part b. begins_none part b), read_passes moment left_since said may_leave seen only_now old new before image history stands only)
-    asked_done q old new before after (Err (Damaged at)) same unseen stop only answers = λ image is history stands. answers image is history stands
-    asked_done q old new before after (Err (Full size)) same unseen stop only answers = λ image is history stands. absurd (answers image is history stands)
-    asked_done q old new before after (Err OutOfMemory) same unseen stop only answers = λ image is history stands. (
+    asked_done q old new before after (Err Store) same unseen stop only replies = λ image is history stands. ([], (λ part b. begins_none part b), read_passes moment left_since said may_leave seen only_now old new before image history stands only)
+    asked_done q old new before after (Err (Damaged at)) same unseen stop only replies = λ image is history stands. replies image is history stands
+    asked_done q old new before after (Err (Full size)) same unseen stop only replies = λ image is history stands. absurd (replies image is history stands)
+    asked_done q old new before after (Err OutOfMemory) same unseen stop only replies = λ image is history stands. (
       [],
       inr (refl, refl),
       read_passes moment left_since said may_leave seen only_now old new before image history stands only,
@@ -404,34 +399,34 @@ module _ (words : Words) where
     pub asked_done_as : (q : Query) (old new : S) (before after : Core) (result : Result (Result Answer QueryFault) EngineFault) (r : Result Reply EngineFault) → after ≡ before → seen new ≡ seen old
         → NothingNew (may_leave old) (may_leave new) → LeavesOnly moment left_since said old new (may_leave old)
         → ForSome (seen old) (λ image. (history : List Label) → StandFor image (may_leave old) before history → AnswersQuery history before.world q result) → answer_of result ≡ r
-        → LineDone words None [] moment left_since said may_leave seen (Ok (Ask q)) old new before after r
-    asked_done_as q old new before after result r same unseen stop only answers e =
-        subst (λ (x : Result Reply EngineFault). LineDone words None [] moment left_since said may_leave seen (Ok (Ask q)) old new before after x) e (asked_done q old new before after result same unseen stop only answers)
+        → LineDone words None answers moment left_since said may_leave seen (Ok (Ask q)) old new before after r
+    asked_done_as q old new before after result r same unseen stop only replies e =
+        subst (λ (x : Result Reply EngineFault). LineDone words None answers moment left_since said may_leave seen (Ok (Ask q)) old new before after x) e (asked_done q old new before after result same unseen stop only replies)
 
     -- the same of equal commands and answers
     pub line_as : (a b : Result Command CommandFault) (old new : S) (before after : Core) (r s : Result Reply EngineFault) → a ≡ b → r ≡ s
-        → LineDone words None [] moment left_since said may_leave seen b old new before after r → LineDone words None [] moment left_since said may_leave seen a old new before after s
+        → LineDone words None answers moment left_since said may_leave seen b old new before after r → LineDone words None answers moment left_since said may_leave seen a old new before after s
     line_as a b old new before after r s e f h =
-        subst (λ (c : Result Command CommandFault). LineDone words None [] moment left_since said may_leave seen c old new before after s) (sym e)
-        (subst (λ (x : Result Reply EngineFault). LineDone words None [] moment left_since said may_leave seen b old new before after x) f h)
+        subst (λ (c : Result Command CommandFault). LineDone words None answers moment left_since said may_leave seen c old new before after s) (sym e)
+        (subst (λ (x : Result Reply EngineFault). LineDone words None answers moment left_since said may_leave seen b old new before after x) f h)
 
   -- no settling takes more than a million steps
   pub limit_small : (l : Option ℕ) (limit : ℕ) → limit ≡ unwrap_or l words.steps → words.steps ≤ 1000000 → IsModest (Settle l) → limit ≤ 1000000
   limit_small None limit is small m = omega (arith, is, small)
   limit_small (Some n) limit is small m = omega (arith, is, m)
 
-  pub lacks_none : (history : List Label) (command : Result Command CommandFault) → is_quit command ≡ false → Lacks words None [] history command []
+  pub lacks_none : (history : List Label) (command : Result Command CommandFault) → is_quit command ≡ false → Lacks words None answers history command []
   lacks_none history (Err f) e = refl
   lacks_none history (Ok (Do o)) e = refl
   lacks_none history (Ok (Ask q)) e = refl
-  lacks_none history (Ok (Settle limit)) e = settling_of_steps [] (unwrap_or limit words.steps) (steps_none (unwrap_or limit words.steps))
+  lacks_none history (Ok (Settle limit)) e = settling_of_none (world_at history) (unwrap_or limit words.steps) answers
   lacks_none history (Ok Quit) e = absurd (cc)
 
   -- a line that spells no command adds nothing, and its fault is said; so is want of memory
   pub unread_turn : (history : List Label) (command read : Result Command CommandFault) (fault : CommandFault) → read ≡ Err fault → Reads read command → (read ≡ Err faults.OutOfMemory → is_quit command ≡ false)
-      → CommandTurn words None [] history command [] (fault_reply fault)
+      → CommandTurn words None answers history command [] (fault_reply fault)
   unread_turn history command read fault is (inl none) memory =
       let e : fault ≡ faults.OutOfMemory = cc in
       inr (ap fault_reply e, lacks_none history command (memory none))
   unread_turn history command read fault is (inr same) memory =
-      subst (λ (c : Result Command CommandFault). CommandTurn words None [] history c [] (fault_reply fault)) (sym is ∙ same) (inl (refl, refl))
+      subst (λ (c : Result Command CommandFault). CommandTurn words None answers history c [] (fault_reply fault)) (sym is ∙ same) (inl (refl, refl))

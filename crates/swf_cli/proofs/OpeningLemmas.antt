@@ -10,6 +10,7 @@ use Rattle.swf_meaning.specs.declared.label.Label.{Label}
 use Rattle.swf_host.specs.declared.host.Input.{Input}
 use Rattle.swf_engine.specs.declared.fault.EngineFault.{EngineFault}
 use Rattle.swf_engine.specs.declared.fault.EngineFault.TheVariants.{Store, Damaged, Full, OutOfMemory}
+use Rattle.swf_engine.specs.Settling.{Called}
 use Rattle.swf_engine.specs.Core.{Core, StandFor}
 use Rattle.swf_engine.specs.Damage.{IsDamaged}
 use Rattle.swf_engine.specs.History.{IsHistory}
@@ -32,7 +33,7 @@ use Rattle.swf_cli.proofs.SessionLemmas.{at_rest}
 pub at_start : {W : Type 0} (words : Words) (before : List Label) (first : List (Input W)) (told : List Piece) (image : Image) (pieces : List Piece) → IsHistory image before → pieces ≡ told → IsMoment session words before first told first [] image pieces
 at_start {W = W} words before first told image pieces stands same =
     subst (λ (l : List (Input W)). IsMoment session words before first told l [] image pieces) (append-nil first)
-    (at_rest words before first told [] tt tt refl image pieces (subst (λ (l : List Label). IsHistory image l) (sym (append-nil before)) stands) (same ∙ sym (append-nil told)))
+    (at_rest words before first told [] tt tt [] refl image pieces (subst (λ (l : List Label). IsHistory image l) (sym (append-nil before)) stands) (same ∙ sym (append-nil told)))
 
 module _ {W S : Type 0} (moment : S → ℕ) (left_since : S → ℕ → Image → List Piece → Type 0) (said : S → Option (List Piece)) (may_leave : S → Image → Type 0) (seen : S → Option Image) (taken : S → Option (List (Input W)))
     (only_now : (s : S) (image : Image) (pieces : List Piece) → left_since s (moment s) image pieces → may_leave s image × IsSaid (said s) pieces) where
@@ -173,13 +174,13 @@ module _ {W S : Type 0} (moment : S → ℕ) (left_since : S → ℕ → Image �
 
   -- a session
   module _ (words : Words) where
-    pub session_opened : (old opened new : S) (engine : Core) (status : ℕ) → taken opened ≡ taken old → said opened ≡ said old
+    pub session_opened : (answers : List Called) (old opened new : S) (engine : Core) (status : ℕ) → taken opened ≡ taken old → said opened ≡ said old
         → ((image : Image) → seen old ≡ Some image → IsOpened moment left_since said may_leave seen image opened engine)
         → ((image : Image) → seen old ≡ Some image → (history : List Label) → IsHistory image history → OpensHistory moment left_since said may_leave seen old opened history)
-        → RunsOn session words moment left_since said may_leave seen taken opened new engine [] status → (IsSound moment left_since said may_leave seen opened engine → status ≢ 5)
+        → RunsOn session words moment left_since said may_leave seen taken opened new engine answers status → (IsSound moment left_since said may_leave seen opened engine → status ≢ 5)
         → ((first : List (Input W)) → taken opened ≡ Some first → (pieces : List Piece) → said opened ≡ Some pieces → TurnsTell session said taken seen new first pieces status)
-        → SessionRun moment left_since said may_leave seen taken words old new status
-    session_opened old opened new engine status same silent opens any_moment ran sound heard = record {
+        → SessionRun moment left_since said may_leave seen taken words answers old new status
+    session_opened answers old opened new engine status same silent opens any_moment ran sound heard = record {
       moments = λ image is first took told said_is before stands.
           let s = start image is first took told said_is before stands in
           let r = run image is first took told said_is before stands in
@@ -199,7 +200,7 @@ module _ {W S : Type 0} (moment : S → ℕ) (left_since : S → ℕ → Image �
             (λ left may. left_history stood.0 (may_leave opened) engine before stood.2 left may) (any_moment image is before stands)
 
         run : (image : Image) → (is : seen old ≡ Some image) → (first : List (Input W)) → (took : taken old ≡ Some first) → (told : List Piece) → (said_is : said old ≡ Some told) → (before : List Label) → (stands : IsHistory image before)
-            → Ran session words moment left_since said may_leave seen taken (start image is first took told said_is before stands).0 new before first [] told status
+            → Ran session words moment left_since said may_leave seen taken (start image is first took told said_is before stands).0 new before first answers told status
         run image is first took told said_is before stands =
             let s = start image is first took told said_is before stands in
             ran s.0 before first told (same ∙ took) (silent ∙ said_is) (opened_stand opened image engine before stands (opens image is)) s.2
@@ -209,7 +210,7 @@ module _ {W S : Type 0} (moment : S → ℕ) (left_since : S → ℕ → Image �
         → ((image : Image) → seen old ≡ Some image → (history : List Label) → IsHistory image history → OpensHistory moment left_since said may_leave seen old opened history)
         → ((image : Image) → seen old ≡ Some image → 25 ≤ length image.journal → IsUntouched moment left_since said may_leave seen old opened)
         → Tells moment left_since said may_leave seen taken fault opened new status → ClosesWith fault status h h_now t t_now
-        → SessionRun moment left_since said may_leave seen taken words old new status
+        → SessionRun moment left_since said may_leave seen taken words [] old new status
     session_closed fault old opened new status h h_now t t_now same silent kept damaged any_moment untouched tells closes = record {
       moments = λ image is first took told said_is before stands. (
         first,

@@ -6,6 +6,7 @@ use Rattle.swf_store.specs.Disk.{NothingNew}
 use Rattle.swf_host.specs.declared.host.Input.{Input}
 use Rattle.swf_engine.specs.declared.fault.EngineFault.{EngineFault}
 use Rattle.swf_engine.specs.declared.fault.EngineFault.TheVariants.{Store, Damaged, Full, OutOfMemory}
+use Rattle.swf_engine.specs.Settling.{Called}
 use Rattle.swf_engine.specs.Core.{Core}
 use Rattle.swf_protocol.specs.declared.command.Command.{Command}
 use Rattle.swf_protocol.specs.declared.command.CommandFault.{CommandFault}
@@ -27,10 +28,10 @@ stops_same k n e = cc
 pub seven_is_none : Stops 7 ≡ Stops 5 → ⊥
 seven_is_none e = let n = stops_same 7 5 e in omega (arith, n)
 
-module _ (words : Words) {S : Type 0} (moment : S → ℕ) (left_since : S → ℕ → Image → List Piece → Type 0) (said : S → Option (List Piece)) (may_leave : S → Image → Type 0) (seen : S → Option Image) where
+module _ (words : Words) (answers : List Called) {S : Type 0} (moment : S → ℕ) (left_since : S → ℕ → Image → List Piece → Type 0) (said : S → Option (List Piece)) (may_leave : S → Image → Type 0) (seen : S → Option Image) where
   -- a call that leaves the store as it was
   pub sound_stays : (old new : S) (engine : Core) → seen new ≡ seen old → NothingNew (may_leave old) (may_leave new) → IsSound moment left_since said may_leave seen old engine → IsSound moment left_since said may_leave seen new engine
-  sound_stays old new engine same stop s = (s.0, (s.1.0, same ∙ s.1.1, still_stands words s.1.0 (may_leave old) (may_leave new) engine s.0 s.1.2 stop))
+  sound_stays old new engine same stop s = (s.0, (s.1.0, same ∙ s.1.1, still_stands words answers s.1.0 (may_leave old) (may_leave new) engine s.0 s.1.2 stop))
 
   -- an Ask that was answered, or that fills the journal
   abbrev pub AfterAsk : S → Core → Result Answered EngineFault → Type 0
@@ -41,7 +42,7 @@ module _ (words : Words) {S : Type 0} (moment : S → ℕ) (left_since : S → �
   AfterAsk two after (Err OutOfMemory) = Unit {0}
 
   pub sound_asked : (read : Option (Result Command CommandFault)) (one two : S) (engine after : Core) (result : Result Answered EngineFault) → IsSound moment left_since said may_leave seen one engine
-      → AskDone words None [] moment left_since said may_leave seen read one two engine after (reply_of result) → AfterAsk two after result
+      → AskDone words None answers moment left_since said may_leave seen read one two engine after (reply_of result) → AfterAsk two after result
   sound_asked read one two engine after (Ok answered) s ask = let d = ask s.1.0 s.1.1 s.0 s.1.2 in (s.0 ++ d.0, d.3)
   sound_asked read one two engine after (Err Store) s ask = tt
   sound_asked read one two engine after (Err (Damaged at)) s ask = ask s.1.0 s.1.1 s.0 s.1.2
@@ -49,7 +50,7 @@ module _ (words : Words) {S : Type 0} (moment : S → ℕ) (left_since : S → �
   sound_asked read one two engine after (Err OutOfMemory) s ask = tt
 
   pub sound_asked_as : (read : Option (Result Command CommandFault)) (one two : S) (engine after : Core) (result is : Result Answered EngineFault) → result ≡ is → IsSound moment left_since said may_leave seen one engine
-      → AskDone words None [] moment left_since said may_leave seen read one two engine after (reply_of result) → AfterAsk two after is
+      → AskDone words None answers moment left_since said may_leave seen read one two engine after (reply_of result) → AfterAsk two after is
   sound_asked_as read one two engine after result is e s ask = subst (λ (r : Result Answered EngineFault). AfterAsk two after r) e (sound_asked read one two engine after result s ask)
 
   -- what was said leaves the store as it was

@@ -17,6 +17,7 @@ use Rattle.swf_world.specs.declared.refusal.Refusal.{Refusal}
 use Rattle.swf_engine.specs.declared.fault.EngineFault.{EngineFault}
 use Rattle.swf_engine.specs.declared.fault.EngineFault.TheVariants.{Store, Full}
 use Rattle.swf_engine.specs.Core.{Core, StandFor}
+use Rattle.swf_engine.specs.Settling.{Called}
 use Rattle.swf_engine.specs.History.{IsHistory, Begins, IsGrown}
 use Rattle.swf_engine.proofs.MoveLemmas.{stays_adds}
 use Rattle.swf_engine.proofs.HistoryLemmas.{left_history, not_grown}
@@ -39,31 +40,31 @@ use Rattle.swf_cli.proofs.AnswerLemmas.{begins_none, may_outcome, done_by}
 use Rattle.swf_cli.proofs.SettlingLemmas.{settling_begin}
 use Rattle.swf_cli.specs.declared.words.Words.{Words}
 
-module _ (words : Words) where
+module _ (words : Words) (answers : List Called) where
   -- of nothing only nothing is a beginning
   begins_no : (part labels : List Label) → labels ≡ [] → Begins part labels → part ≡ []
   begins_no part labels e b = begins_none part (subst (λ (l : List Label). Begins part l) e b)
 
   may_do : (history : List Label) (o : Outcome) (r : Option Refusal) (labels : List Label) (reply : Reply) (part : List Label) → refusal (world_at history) (label_of (world_at history) o) ≡ r
-      → Outcomes (world_at history) o r labels reply → Begins part labels → MayAdd words None [] history (Ok (Do o)) part
-  may_do history o None labels reply part is h b = may_outcome words history (world_at history) o part refl is (subst (λ (l : List Label). Begins part l) h.0 b)
+      → Outcomes (world_at history) o r labels reply → Begins part labels → MayAdd words None answers history (Ok (Do o)) part
+  may_do history o None labels reply part is h b = may_outcome words answers history (world_at history) o part refl is (subst (λ (l : List Label). Begins part l) h.0 b)
   may_do history o (Some r) labels reply part is h b = inl (begins_no part labels h.0 b)
 
   -- a line adds what it may add
-  pub command_may : (history : List Label) (command : Result Command CommandFault) (labels : List Label) (reply : Reply) (part : List Label) → CommandTurn words None [] history command labels reply → Begins part labels → MayAdd words None [] history command part
+  pub command_may : (history : List Label) (command : Result Command CommandFault) (labels : List Label) (reply : Reply) (part : List Label) → CommandTurn words None answers history command labels reply → Begins part labels → MayAdd words None answers history command part
   command_may history (Err f) labels reply part (inl a) b = begins_no part labels a.0 b
   command_may history (Ok (Do o)) labels reply part (inl a) b = may_do history o (refusal (world_at history) (label_of (world_at history) o)) labels reply part refl a b
   command_may history (Ok (Ask q)) labels reply part (inl a) b = begins_no part labels a.0 b
-  command_may history (Ok (Settle limit)) labels reply part (inl a) b = settling_begin part labels (unwrap_or limit words.steps) [] a.settling b
+  command_may history (Ok (Settle limit)) labels reply part (inl a) b = settling_begin (world_at history) part labels (unwrap_or limit words.steps) answers a.settling b
   command_may history (Ok Quit) labels reply part (inl a) b = begins_no part labels a.0 b
   command_may history (Err f) labels reply part (inr l) b = begins_no part labels l.1 b
   command_may history (Ok (Do o)) labels reply part (inr l) b = inl (begins_no part labels l.1 b)
   command_may history (Ok (Ask q)) labels reply part (inr l) b = begins_no part labels l.1 b
-  command_may history (Ok (Settle limit)) labels reply part (inr l) b = settling_begin part labels (unwrap_or limit words.steps) [] l.1 b
+  command_may history (Ok (Settle limit)) labels reply part (inr l) b = settling_begin (world_at history) part labels (unwrap_or limit words.steps) answers l.1 b
   command_may history (Ok Quit) labels reply part (inr l) b = absurd l.1
 
-  pub ask_may : (history : List Label) (read : Option (Result Command CommandFault)) (labels : List Label) (reply : Reply) (part : List Label) → AskTurn words None [] history read labels reply → Begins part labels
-      → MayAsk words None [] history read part
+  pub ask_may : (history : List Label) (read : Option (Result Command CommandFault)) (labels : List Label) (reply : Reply) (part : List Label) → AskTurn words None answers history read labels reply → Begins part labels
+      → MayAsk words None answers history read part
   ask_may history None labels reply part a b = begins_no part labels a.0 b
   ask_may history (Some command) labels reply part a b = command_may history command labels reply part a b
 
@@ -97,9 +98,9 @@ module _ (words : Words) where
       (only_now : (s : S) (image : Image) (pieces : List Piece) → left_since s (moment s) image pieces → may_leave s image × IsSaid (said s) pieces) where
     -- an Ask that is not too long
     pub asked_short : (command : Result Command CommandFault) (read : Option (Result Command CommandFault)) (old new : S) (before after : Core) (result : Result Reply EngineFault) → read ≡ Some command
-        → LineDone words None [] moment left_since said may_leave seen command old new before after result → AskDone words None [] moment left_since said may_leave seen read old new before after result
+        → LineDone words None answers moment left_since said may_leave seen command old new before after result → AskDone words None answers moment left_since said may_leave seen read old new before after result
     asked_short command read old new before after result short h =
-        subst (λ (r : Option (Result Command CommandFault)). AskDone words None [] moment left_since said may_leave seen r old new before after result) (sym short) h
+        subst (λ (r : Option (Result Command CommandFault)). AskDone words None answers moment left_since said may_leave seen r old new before after result) (sym short) h
 
     -- no input, or one, was taken; nothing was said
     pub next_leaves : (old new : S) (image : Image) (engine : Core) (history : List Label) (pieces : List Piece) → StandFor image (may_leave old) engine history → said old ≡ Some pieces
@@ -130,11 +131,11 @@ module _ (words : Words) where
         (λ left now h. inr (one, refl, left_history stand.0 (may_leave two) after (history ++ group) stand.2 left h.0, h.1))
 
     -- an Ask that is too long
-    pub asked_long : (read : Option (Result Command CommandFault)) (old : S) (engine : Core) → read ≡ None → AskDone words None [] moment left_since said may_leave seen read old old engine engine (Ok TooLong)
+    pub asked_long : (read : Option (Result Command CommandFault)) (old : S) (engine : Core) → read ≡ None → AskDone words None answers moment left_since said may_leave seen read old old engine engine (Ok TooLong)
     asked_long read old engine long =
-        subst (λ (r : Option (Result Command CommandFault)). AskDone words None [] moment left_since said may_leave seen r old old engine engine (Ok TooLong)) (sym long)
+        subst (λ (r : Option (Result Command CommandFault)). AskDone words None answers moment left_since said may_leave seen r old old engine engine (Ok TooLong)) (sym long)
         (λ image is history stands.
-        done_by moment left_since said may_leave seen only_now (MayAsk words None [] history None) (AsksNext words None [] history None) (AskTurn words None [] history None) old old engine engine image history [] TooLong
+        done_by moment left_since said may_leave seen only_now (MayAsk words None answers history None) (AsksNext words None answers history None) (AskTurn words None answers history None) old old engine engine image history [] TooLong
         (stays_adds moment left_since said may_leave seen only_now old engine) is stands (refl, refl))
 
     -- an input that adds nothing
@@ -184,10 +185,10 @@ module _ (words : Words) where
 
       -- a turn that said something, or a part of it
       turned_said : (old two new : S) (after : Core) (history : List Label) (inputs : List (Input W)) (pieces : List Piece) (input : Input W) (group : List Label) (one : Heard) (done r : After)
-          → ((part : List Label) → Begins part group → MayBegin (session {W = W}) words None [] history input part) → taken two ≡ Some (inputs ++ input ∷ []) → said two ≡ Some pieces
+          → ((part : List Label) → Begins part group → MayBegin (session {W = W}) words None answers history input part) → taken two ≡ Some (inputs ++ input ∷ []) → said two ≡ Some pieces
           → Leaves moment left_since old two (TurnLeft history (length inputs + length (input ∷ [])) pieces group (one ∷ [])) → Stand moment left_since said may_leave seen two after (history ++ group)
           → Says moment left_since said may_leave seen taken two new one.conn one.bytes done r
-          → Turned (session {W = W}) words None [] moment left_since said may_leave seen taken old new history inputs pieces input [] group (one ∷ [])
+          → Turned (session {W = W}) words None answers moment left_since said may_leave seen taken old new history inputs pieces input [] group (one ∷ [])
       turned_said old two new after history inputs pieces input group one done r may took is first stand s = record {
         may = may;
         belong = tt;
@@ -197,14 +198,14 @@ module _ (words : Words) where
 
       -- a turn whose reply is said
       pub said_done : (old two new : S) (after : Core) (history : List Label) (inputs : List (Input W)) (pieces : List Piece) (input : Input W) (labels : List Label) (reply : Reply) (over : Bool) (r : After)
-          → ((part : List Label) → Begins part labels → MayBegin (session {W = W}) words None [] history input part) → taken two ≡ Some (inputs ++ input ∷ []) → said two ≡ Some pieces
+          → ((part : List Label) → Begins part labels → MayBegin (session {W = W}) words None answers history input part) → taken two ≡ Some (inputs ++ input ∷ []) → said two ≡ Some pieces
           → Leaves moment left_since old two (TurnLeft history (length inputs + length (input ∷ [])) pieces labels (heard (session {W = W}) (conn_of input) (Some reply))) → Stand moment left_since said may_leave seen two after (history ++ labels)
-          → IsAnswered (session {W = W}) words None [] history input labels (Some reply) → (session {W = W}).ends input ≡ over
+          → IsAnswered (session {W = W}) words None answers history input labels (Some reply) → (session {W = W}).ends input ≡ over
           → Says moment left_since said may_leave seen taken two new (conn_of input) (spoken reply) (follows_end over) r
-          → TurnDone (session {W = W}) words None [] moment left_since said may_leave seen taken old new after history inputs pieces r
+          → TurnDone (session {W = W}) words None answers moment left_since said may_leave seen taken old new after history inputs pieces r
       said_done old two new after history inputs pieces input labels reply over GoesOn may took is first stand a e s =
           let on : GoesOn ≡ follows_end over = ⊎_elim (λ d. d) (λ f. ⊎_elim (λ g. absurd (cc)) (λ g. absurd (cc)) f) s.which in record {
-            turn = record { first = input; more = []; answers = []; labels = labels; reply = Some reply };
+            turn = record { first = input; more = []; answers = answers; labels = labels; reply = Some reply };
             asked = refl;
             turned = turned_said old two new after history inputs pieces input labels (record { conn = conn_of input; bytes = spoken reply }) (follows_end over) GoesOn may took is first stand s;
             answered = a;
@@ -214,7 +215,7 @@ module _ (words : Words) where
           }
       said_done old two new after history inputs pieces input labels reply over Ends may took is first stand a e s =
           let on : Ends ≡ follows_end over = ⊎_elim (λ d. d) (λ f. ⊎_elim (λ g. absurd (cc)) (λ g. absurd (cc)) f) s.which in record {
-            turn = record { first = input; more = []; answers = []; labels = labels; reply = Some reply };
+            turn = record { first = input; more = []; answers = answers; labels = labels; reply = Some reply };
             asked = refl;
             turned = turned_said old two new after history inputs pieces input labels (record { conn = conn_of input; bytes = spoken reply }) (follows_end over) Ends may took is first stand s;
             answered = a;
@@ -225,7 +226,7 @@ module _ (words : Words) where
       said_done old two new after history inputs pieces input labels reply over (Stops k) may took is first stand a e s =
           let status : (k ≡ 6) ⊎ (k ≡ 4) = ⊎_elim (λ d. absurd (not_over over k (sym d))) (λ f. ⊎_elim (λ g. inl (cc)) (λ g. inr (cc)) f) s.which in (
             inr (inl (record {
-              turn = record { first = input; more = []; answers = []; labels = labels; reply = Some reply };
+              turn = record { first = input; more = []; answers = answers; labels = labels; reply = Some reply };
               asked = refl;
               turned = turned_said old two new after history inputs pieces input labels (record { conn = conn_of input; bytes = spoken reply }) (follows_end over) (Stops k) may took is first stand s;
               answered = a;
@@ -237,11 +238,11 @@ module _ (words : Words) where
 
       -- a turn that tells that the journal is full
       pub full_done : (old two new : S) (after : Core) (history : List Label) (inputs : List (Input W)) (pieces : List Piece) (conn : ℕ) (line : List ℕ) (labels : List Label) (size : ℕ) (r : After)
-          → ((part : List Label) → Begins part labels → MayBegin (session {W = W}) words None [] history (Asks conn line) part) → taken two ≡ Some (inputs ++ Asks conn line ∷ []) → said two ≡ Some pieces
+          → ((part : List Label) → Begins part labels → MayBegin (session {W = W}) words None answers history (Asks conn line) part) → taken two ≡ Some (inputs ++ Asks conn line ∷ []) → said two ≡ Some pieces
           → Leaves moment left_since old two (TurnLeft history (length inputs + length (alone (Asks conn line))) pieces labels ((record { conn = conn; bytes = full_bytes size }) ∷ [])) → Stand moment left_since said may_leave seen two after (history ++ labels)
-          → IsFilled (AsksNext words None [] history ((session {W = W}).reads line) labels) after size
+          → IsFilled (AsksNext words None answers history ((session {W = W}).reads line) labels) after size
           → Says moment left_since said may_leave seen taken two new conn (full_bytes size) (Stops 7) r
-          → TurnDone (session {W = W}) words None [] moment left_since said may_leave seen taken old new after history inputs pieces r
+          → TurnDone (session {W = W}) words None answers moment left_since said may_leave seen taken old new after history inputs pieces r
       full_done old two new after history inputs pieces conn line labels size GoesOn may took is first stand filled s = absurd (⊎_elim (λ d. cc) (λ f. ⊎_elim (λ g. cc) (λ g. cc) f) s.which)
       full_done old two new after history inputs pieces conn line labels size Ends may took is first stand filled s = absurd (⊎_elim (λ d. cc) (λ f. ⊎_elim (λ g. cc) (λ g. cc) f) s.which)
       full_done old two new after history inputs pieces conn line labels size (Stops k) may took is first stand filled s =
@@ -280,16 +281,16 @@ module _ (words : Words) where
 
         -- the answer to an Ask
         answered_as : (two : S) (after : Core) (conn : ℕ) (line : List ℕ) (result : Result Answered EngineFault) (is : Result Answered EngineFault) → Comes old one (Asks conn line)
-            → AskDone words None [] moment left_since said may_leave seen ((session {W = W}).reads line) one two engine after (reply_of result) → result ≡ is
-            → CommandDone moment left_since said may_leave seen (MayAsk words None [] history ((session {W = W}).reads line)) (AsksNext words None [] history ((session {W = W}).reads line)) (AskTurn words None [] history ((session {W = W}).reads line)) history one two after (reply_of is)
+            → AskDone words None answers moment left_since said may_leave seen ((session {W = W}).reads line) one two engine after (reply_of result) → result ≡ is
+            → CommandDone moment left_since said may_leave seen (MayAsk words None answers history ((session {W = W}).reads line)) (AsksNext words None answers history ((session {W = W}).reads line)) (AskTurn words None answers history ((session {W = W}).reads line)) history one two after (reply_of is)
         answered_as two after conn line result is came ask e =
-            subst (λ (x : Result Answered EngineFault). CommandDone moment left_since said may_leave seen (MayAsk words None [] history ((session {W = W}).reads line)) (AsksNext words None [] history ((session {W = W}).reads line)) (AskTurn words None [] history ((session {W = W}).reads line)) history one two after (reply_of x)) e
+            subst (λ (x : Result Answered EngineFault). CommandDone moment left_since said may_leave seen (MayAsk words None answers history ((session {W = W}).reads line)) (AsksNext words None answers history ((session {W = W}).reads line)) (AskTurn words None answers history ((session {W = W}).reads line)) history one two after (reply_of x)) e
             (ask image (came.same ∙ seen_is) history (still_stands image (may_leave old) (may_leave one) engine history stands came.stop))
 
         pub asked_reply : (two new : S) (after : Core) (conn : ℕ) (line : List ℕ) (result : Result Answered EngineFault) (answered : Answered) (r : After) → Comes old one (Asks conn line)
-            → AskDone words None [] moment left_since said may_leave seen ((session {W = W}).reads line) one two engine after (reply_of result) → result ≡ Ok answered → answered.ends ≡ (session {W = W}).ends (Asks conn line)
+            → AskDone words None answers moment left_since said may_leave seen ((session {W = W}).reads line) one two engine after (reply_of result) → result ≡ Ok answered → answered.ends ≡ (session {W = W}).ends (Asks conn line)
             → taken two ≡ taken one → said two ≡ said one → Says moment left_since said may_leave seen taken two new conn (spoken answered.reply) (follows_end answered.ends) r
-            → TurnDone (session {W = W}) words None [] moment left_since said may_leave seen taken old new after history inputs pieces r
+            → TurnDone (session {W = W}) words None answers moment left_since said may_leave seen taken old new after history inputs pieces r
         asked_reply two new after conn line result answered r came ask e over took silent says =
             let done = answered_as two after conn line result (Ok answered) came ask e in
             said_done old two new after history inputs pieces (Asks conn line) done.0 answered.reply answered.ends r
@@ -299,9 +300,9 @@ module _ (words : Words) where
             done.3 done.1 (sym over) says
 
         pub asked_full : (two new : S) (after : Core) (conn : ℕ) (line : List ℕ) (result : Result Answered EngineFault) (size : ℕ) (r : After) → Comes old one (Asks conn line)
-            → AskDone words None [] moment left_since said may_leave seen ((session {W = W}).reads line) one two engine after (reply_of result) → result ≡ Err (Full size)
+            → AskDone words None answers moment left_since said may_leave seen ((session {W = W}).reads line) one two engine after (reply_of result) → result ≡ Err (Full size)
             → taken two ≡ taken one → said two ≡ said one → Says moment left_since said may_leave seen taken two new conn (full_bytes size) (Stops 7) r
-            → TurnDone (session {W = W}) words None [] moment left_since said may_leave seen taken old new after history inputs pieces r
+            → TurnDone (session {W = W}) words None answers moment left_since said may_leave seen taken old new after history inputs pieces r
         asked_full two new after conn line result size r came ask e took silent says =
             let done = answered_as two after conn line result (Err (Full size)) came ask e in
             full_done old two new after history inputs pieces conn line done.0 size r
@@ -311,8 +312,8 @@ module _ (words : Words) where
             done.3 done.4 says
 
         pub asked_broken : (two : S) (after : Core) (conn : ℕ) (line : List ℕ) (result : Result Answered EngineFault) → Comes old one (Asks conn line)
-            → AskDone words None [] moment left_since said may_leave seen ((session {W = W}).reads line) one two engine after (reply_of result) → result ≡ Err Store → taken two ≡ taken one → said two ≡ said one
-            → TurnDone (session {W = W}) words None [] moment left_since said may_leave seen taken old two after history inputs pieces (Stops 3)
+            → AskDone words None answers moment left_since said may_leave seen ((session {W = W}).reads line) one two engine after (reply_of result) → result ≡ Err Store → taken two ≡ taken one → said two ≡ said one
+            → TurnDone (session {W = W}) words None answers moment left_since said may_leave seen taken old two after history inputs pieces (Stops 3)
         asked_broken two after conn line result came ask e took silent =
             let done = answered_as two after conn line result (Err Store) came ask e in (
               inr (inr (record {
@@ -334,7 +335,7 @@ module _ (words : Words) where
             )
 
         pub too_long_done : (new : S) (conn : ℕ) (r : After) → Comes old one (TooLongInput conn) → Says moment left_since said may_leave seen taken one new conn (spoken TooLong) (follows_end false) r
-            → TurnDone (session {W = W}) words None [] moment left_since said may_leave seen taken old new engine history inputs pieces r
+            → TurnDone (session {W = W}) words None answers moment left_since said may_leave seen taken old new engine history inputs pieces r
         too_long_done new conn r came says =
             said_done old one new engine history inputs pieces (TooLongInput conn) [] TooLong false r
             (λ part b. begins_none part b)
@@ -342,9 +343,9 @@ module _ (words : Words) where
             (begun_none old one history (length inputs + length (alone (TooLongInput conn))) pieces (heard (session {W = W}) conn (Some TooLong)) (come_leaves (TooLongInput conn) came))
             (come_stand (TooLongInput conn) came) (refl, refl) refl says
 
-        pub closed_done : Comes old one Closed → TurnDone (session {W = W}) words None [] moment left_since said may_leave seen taken old one engine history inputs pieces Ends
+        pub closed_done : Comes old one Closed → TurnDone (session {W = W}) words None answers moment left_since said may_leave seen taken old one engine history inputs pieces Ends
         closed_done came = record {
-          turn = record { first = Closed; more = []; answers = []; labels = []; reply = None };
+          turn = record { first = Closed; more = []; answers = answers; labels = []; reply = None };
           asked = refl;
           turned = record {
             may = λ part b. begins_none part b;
@@ -360,7 +361,7 @@ module _ (words : Words) where
 
         -- nothing was taken
         pub none_done : NothingNew (may_leave old) (may_leave one) → ElapsesSilent (moment old) (moment one) (left_since old) (left_since one) (may_leave one) (said old) → taken one ≡ taken old
-            → TurnDone (session {W = W}) words None [] moment left_since said may_leave seen taken old one engine history inputs pieces (Stops 4)
+            → TurnDone (session {W = W}) words None answers moment left_since said may_leave seen taken old one engine history inputs pieces (Stops 4)
         none_done stop time took = (
           inl (record { took = took ∙ taken_is; leaves = next_leaves old one image engine history pieces stands said_is stop time }),
           (λ zero. absurd (omega arith)),

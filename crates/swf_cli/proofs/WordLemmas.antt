@@ -13,7 +13,7 @@ use Rattle.swf_cli.specs.declared.arguments.Setting.{Setting}
 use Rattle.swf_cli.specs.declared.arguments.Setting.TheVariants.{Steps, Calls, Workers}
 use Rattle.swf_cli.specs.declared.words.Mode.{Mode}
 use Rattle.swf_cli.specs.declared.words.Words.{Words}
-use Rattle.swf_cli.specs.Words.{Apart, Settings, texts, told_apart, option_named, with_value, with_other, with_word, with_setting, value_in, is_dashed, first_steps, set_all, set_steps, unset, mode_named, mode_of, both, meaning_of, words_of}
+use Rattle.swf_cli.specs.Words.{Apart, Settings, texts, told_apart, option_named, with_value, with_other, with_word, with_setting, value_in, calls_of, is_dashed, once, set_all, unset, mode_named, mode_of, both, meaning_of, words_of}
 use Rattle.swf_cli.specs.Arguments.{told_behind, mode_with, meaning_with, settings_of, meant, Takes, TakesValue, TakesOther}
 
 mode_first : (w : List ℕ) (ws : List (List ℕ)) (m : Mode) → mode_named w ≡ Some m → mode_of (w ∷ ws) ≡ mode_with (Some m) ws
@@ -46,18 +46,15 @@ none_set mode (Some a) = refl
 pub value_refused : (s : Settings) (mode : Option Mode) (v : Setting × List ℕ) (a : Option Apart) → with_setting s v ≡ None → meaning_with (Some s) mode (with_value v a) ≡ None
 value_refused s mode v a e = value_set s mode v None a e ∙ none_set mode a
 
--- what a value of `--steps` sets
-pub steps_twice : (steps : Option ℕ) (v : List ℕ) → is_some steps ≡ true → with_setting (set_steps steps) (Steps, v) ≡ None
-steps_twice None v e = absurd (cc)
-steps_twice (Some n) v e = refl
+-- what stands twice
+pub once_twice : {A : Type 0} (o v : Option A) → is_some o ≡ true → once o v ≡ None
+once_twice None v e = absurd (cc)
+once_twice (Some x) v e = refl
 
-pub steps_taken : (steps : Option ℕ) (v : List ℕ) (n : ℕ) → is_some steps ≡ false → budget_of v ≡ Some n → with_setting (set_steps steps) (Steps, v) ≡ Some (set_steps (Some n))
-steps_taken None v n e b = ap (option_map (λ (m : ℕ). set_steps (Some m))) b
-steps_taken (Some m) v n e b = absurd (cc)
-
-pub steps_refused : (steps : Option ℕ) (v : List ℕ) → is_some steps ≡ false → budget_of v ≡ None → with_setting (set_steps steps) (Steps, v) ≡ None
-steps_refused None v e b = ap (option_map (λ (m : ℕ). set_steps (Some m))) b
-steps_refused (Some m) v e b = absurd (cc)
+-- and what stands once
+pub once_first : {A : Type 0} (o v : Option A) → is_some o ≡ false → once o v ≡ v
+once_first None v e = refl
+once_first (Some x) v e = absurd (cc)
 
 -- the mode
 pub other_taken : (s : Option Settings) (w : List ℕ) (m : Mode) (a : Option Apart) → mode_named w ≡ Some m → meaning_with s None (with_other w a) ≡ meaning_with s (Some m) a
@@ -158,10 +155,13 @@ takes_other false old new w any named ends value dashed t = λ ws.
     meant_plain old w ws None false false None any named ends value dashed ∙ t (told_apart None ws)
 
 -- nothing was read yet
-pub meant_first : (p : Progress) (ws : List (List ℕ)) → p.steps ≡ None → p.mode ≡ None → p.expects ≡ Any → words_of ws ≡ meant p ws
-meant_first p ws steps mode any =
+pub meant_first : (p : Progress) (ws : List (List ℕ)) → p.steps ≡ None → p.http ≡ None → p.mode ≡ None → p.expects ≡ Any → words_of ws ≡ meant p ws
+meant_first p ws steps http mode any =
     first_is (told_apart None ws)
-    ∙ sym (meant_as p ws Any any ∙ ap (λ (o : Option ℕ). meaning_with (Some (set_steps o)) p.mode (told_apart None ws)) steps ∙ ap (λ (o : Option Mode). meaning_with (Some unset) o (told_apart None ws)) mode)
+    ∙ sym (meant_as p ws Any any
+    ∙ ap (λ (o : Option ℕ). meaning_with (Some (record { steps = o; http = p.http })) p.mode (told_apart None ws)) steps
+    ∙ ap (λ (o : Option Bool). meaning_with (Some (record { steps = None; http = o })) p.mode (told_apart None ws)) http
+    ∙ ap (λ (o : Option Mode). meaning_with (Some unset) o (told_apart None ws)) mode)
   where
     first_is : (a : Option Apart) → meaning_of a ≡ meaning_with (Some unset) None a
     first_is None = refl
@@ -179,7 +179,7 @@ pub meant_all : (p : Progress) (ws : List (String Global)) (i : ℕ) → length 
 meant_all p ws i le = ap (meant p) (drop_all i (texts ws) (omega (arith, le, length-map ws string_bytes)))
 
 -- no word comes any more
-pub meant_end : (p : Progress) (m : Mode) (e : Expects) → p.expects ≡ e → told_behind e [] ≡ Some (record { values = []; others = [] }) → p.mode ≡ Some m → meant p [] ≡ Some (record { steps = unwrap_or p.steps 1000; mode = m })
+pub meant_end : (p : Progress) (m : Mode) (e : Expects) → p.expects ≡ e → told_behind e [] ≡ Some (record { values = []; others = [] }) → p.mode ≡ Some m → meant p [] ≡ Some (record { steps = unwrap_or p.steps 1000; http = unwrap_or p.http false; mode = m })
 meant_end p m e is none mode =
     meant_as p [] e is
     ∙ ap (λ (a : Option Apart). meaning_with (settings_of p) p.mode a) none
@@ -215,29 +215,34 @@ abbrev AreSmall : Option Settings → Type 0
 AreSmall None = Unit {0}
 AreSmall (Some s) = unwrap_or s.steps 1000 ≤ 1000000
 
-steps_small : (o : Option ℕ) → ((n : ℕ) → o ≡ Some n → n ≤ 1000000) → AreSmall (option_map (λ (n : ℕ). set_steps (Some n)) o)
-steps_small None small = tt
-steps_small (Some n) small = small n refl
+steps_small : (s : Settings) (o : Option ℕ) → ((n : ℕ) → o ≡ Some n → n ≤ 1000000) → AreSmall (option_map (λ (n : ℕ). record s { steps = Some n }) o)
+steps_small s None small = tt
+steps_small s (Some n) small = small n refl
 
-setting_small : (s : Settings) (v : Setting × List ℕ) → AreSmall (with_setting s v)
-setting_small s (Steps, v) = first_small s.steps
+-- who answers calls changes no number
+calls_small : (s : Settings) (o : Option Bool) → AreSmall (Some s) → AreSmall (option_map (λ (b : Bool). record s { http = Some b }) o)
+calls_small s None small = tt
+calls_small s (Some b) small = small
+
+setting_small : (s : Settings) (v : Setting × List ℕ) → AreSmall (Some s) → AreSmall (with_setting s v)
+setting_small s (Steps, v) small = first_small s.steps
   where
-    first_small : (steps : Option ℕ) → AreSmall (first_steps steps v)
+    first_small : (steps : Option ℕ) → AreSmall (option_map (λ (n : ℕ). record s { steps = Some n }) (once steps (budget_of v)))
     first_small (Some n) = tt
-    first_small None = steps_small (budget_of v) (λ n e. budget_small (number_of v) n e)
-setting_small s (Calls, v) = tt
-setting_small s (Workers, v) = tt
+    first_small None = steps_small s (budget_of v) (λ n e. budget_small (number_of v) n e)
+setting_small s (Calls, v) small = calls_small s (once s.http (calls_of v)) small
+setting_small s (Workers, v) small = tt
 
 all_small : (o : Option Settings) (vs : List (Setting × List ℕ)) → AreSmall o → AreSmall (set_all o vs)
 all_small None vs small = tt
 all_small (Some s) [] small = small
-all_small (Some s) (v ∷ vs) small = all_small (with_setting s v) vs (setting_small s v)
+all_small (Some s) (v ∷ vs) small = all_small (with_setting s v) vs (setting_small s v small)
 
 both_small : (s : Option Settings) (m : Option Mode) (w : Words) → both s m ≡ Some w → AreSmall s → w.steps ≤ 1000000
 both_small None m w e small = absurd (cc)
 both_small (Some s) None w e small = absurd (cc)
 both_small (Some s) (Some m) w e small =
-    let same : (record { steps = unwrap_or s.steps 1000; mode = m }) ≡ w = cc in
+    let same : (record { steps = unwrap_or s.steps 1000; http = unwrap_or s.http false; mode = m }) ≡ w = cc in
     omega (arith, small, ap (λ (v : Words). v.steps) same)
 
 meaning_small : (a : Option Apart) (w : Words) → meaning_of a ≡ Some w → w.steps ≤ 1000000

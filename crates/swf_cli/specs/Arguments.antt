@@ -6,7 +6,7 @@ use Rattle.swf_cli.specs.declared.arguments.Progress.{Progress}
 use Rattle.swf_cli.specs.declared.arguments.Setting.{Setting}
 use Rattle.swf_cli.specs.declared.words.Mode.{Mode}
 use Rattle.swf_cli.specs.declared.words.Words.{Words}
-use Rattle.swf_cli.specs.Words.{Apart, Settings, told_apart, with_value, with_other, set_steps, set_all, mode_of, both}
+use Rattle.swf_cli.specs.Words.{Apart, Settings, told_apart, with_value, with_other, set_all, mode_of, both}
 
 -- the words to come, told apart
 abbrev pub told_behind : Expects → List (List ℕ) → Option Apart
@@ -26,7 +26,7 @@ meaning_with s mode (Some a) = both (set_all s a.values) (mode_with mode a.other
 
 -- what options have set so far
 abbrev pub settings_of : Progress → Option Settings
-settings_of p = Some (set_steps p.steps)
+settings_of p = Some (record { steps = p.steps; http = p.http })
 
 -- what is meant behind what was read, by the words to come
 abbrev pub meant : Progress → List (List ℕ) → Option Words

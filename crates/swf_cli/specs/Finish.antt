@@ -6,6 +6,7 @@ use Rattle.swf_meaning.specs.declared.label.Label.{Label}
 use Rattle.swf_host.specs.declared.host.Input.{Input}
 use Rattle.swf_engine.specs.Core.{Core}
 use Rattle.swf_engine.specs.History.{IsHistory}
+use Rattle.swf_engine.specs.Settling.{Called}
 use Rattle.swf_engine.specs.declared.fault.EngineFault.{EngineFault}
 use Rattle.swf_engine.specs.declared.fault.EngineFault.TheVariants.{Store, Damaged, Full, OutOfMemory}
 use Rattle.swf_store.specs.Said.{and_piece}
@@ -33,7 +34,7 @@ most_turns = 2 ^ 64 - 1
 
 -- Read to its end: the inputs that were taken are turns, each with its labels in the history that every image stands for, and
 -- each with its reply said whole.
-pub record Finished {W : Type 0} (mode : Dialect W) (words : Words) (before : List Label) (first : List (Input W)) (answers : List Label) (said : List Piece) (taken_now : Option (List (Input W))) (said_now : Option (List Piece)) (may_leave : Image → Type 0) : Type 0 where
+pub record Finished {W : Type 0} (mode : Dialect W) (words : Words) (before : List Label) (first : List (Input W)) (answers : List Called) (said : List Piece) (taken_now : Option (List (Input W))) (said_now : Option (List Piece)) (may_leave : Image → Type 0) : Type 0 where
   pub turns : List (Turn W)
   pub allowed : AreTurns mode words None before turns
   pub over : IsOver mode turns ⊎ (length turns ≡ most_turns)
@@ -47,14 +48,14 @@ pub record Finished {W : Type 0} (mode : Dialect W) (words : Words) (before : Li
 
 -- Where the store failed or memory was missing, whole replies were said and no part of another, and at most the inputs of one turn more
 -- were taken.
-pub record IsShort {W : Type 0} (mode : Dialect W) (words : Words) (before : List Label) (first : List (Input W)) (answers : List Label) (said : List Piece) (taken_now : Option (List (Input W))) (said_now : Option (List Piece)) : Type 0 where
+pub record IsShort {W : Type 0} (mode : Dialect W) (words : Words) (before : List Label) (first : List (Input W)) (answers : List Called) (said : List Piece) (taken_now : Option (List (Input W))) (said_now : Option (List Piece)) : Type 0 where
   pub turns : List (Turn W)
   pub allowed : AreTurns mode words None before turns
   pub more : List (Input W)
   pub most : IsOneTurn mode more
   pub taken : taken_now ≡ Some ((first ++ inputs_of turns) ++ more)
   -- what the board answered behind the turns
-  pub heard : List Label
+  pub heard : List Called
   pub asked : answers ≡ answers_of turns ++ heard
   pub whole : List Piece
   pub told : said_now ≡ Some (said ++ whole)
@@ -84,12 +85,12 @@ module _ {W S : Type 0} (moment : S → ℕ) (left_since : S → ℕ → Image �
 module _ {W : Type 0} (mode : Dialect W) (words : Words) {S : Type 0} (moment : S → ℕ) (left_since : S → ℕ → Image → List Piece → Type 0) (said : S → Option (List Piece)) (may_leave : S → Image → Type 0) (seen : S → Option Image) (taken : S → Option (List (Input W))) where
   -- Where the journal is full: turns were taken and answered, and one command more was asked, whose next label is legal and has no
   -- room. That was said whole, last, to who asked.
-  pub record TellsFull (new : S) (before : List Label) (first : List (Input W)) (answers : List Label) (pieces : List Piece) : Type 0 where
+  pub record TellsFull (new : S) (before : List Label) (first : List (Input W)) (answers : List Called) (pieces : List Piece) : Type 0 where
     pub engine : Core
     pub turns : List (Turn W)
     pub allowed : AreTurns mode words None before turns
     -- what the board answered behind the turns
-    pub heard : List Label
+    pub heard : List Called
     pub asked : answers ≡ answers_of turns ++ heard
     pub whole : List Piece
     pub said_are : AreSaid mode (length first) turns whole
@@ -97,7 +98,7 @@ module _ {W : Type 0} (mode : Dialect W) (words : Words) {S : Type 0} (moment : 
     pub told : IsTold mode words (last_told mode None (inputs_of turns)) heard moment left_since said may_leave seen taken new engine (before ++ labels_of turns) (first ++ inputs_of turns) (pieces ++ whole)
 
   -- What turns make of a store that stands for a history since some state. `all` are the inputs in the end.
-  pub record Ran (start new : S) (before : List Label) (first : List (Input W)) (answers : List Label) (pieces : List Piece) (status : ℕ) : Type 0 where
+  pub record Ran (start new : S) (before : List Label) (first : List (Input W)) (answers : List Called) (pieces : List Piece) (status : ℕ) : Type 0 where
     pub all : List (Input W)
     pub took : taken new ≡ Some all
     pub leaves : Leaves moment left_since start new (IsMoment mode words before first pieces all answers)
@@ -106,7 +107,7 @@ module _ {W : Type 0} (mode : Dialect W) (words : Words) {S : Type 0} (moment : 
     pub short : (status ≡ 3) ⊎ (status ≡ 6) → IsShort mode words before first answers pieces (taken new) (said new)
 
   -- the same for whatever the store stands for
-  abbrev pub RunsOn : S → S → Core → List Label → ℕ → Type 0
+  abbrev pub RunsOn : S → S → Core → List Called → ℕ → Type 0
   RunsOn old new engine answers status = (start : S) (before : List Label) (first : List (Input W)) (pieces : List Piece) → taken old ≡ Some first → said old ≡ Some pieces
       → Stand moment left_since said may_leave seen old engine before → Leaves moment left_since start old (IsMoment mode words before first pieces first [])
       → Ran start new before first answers pieces status

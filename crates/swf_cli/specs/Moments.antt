@@ -7,6 +7,7 @@ use Rattle.swf_meaning.specs.declared.label.Label.{Label}
 use Rattle.swf_runs.specs.Keys.{Once}
 use Rattle.swf_host.specs.declared.host.Input.{Input}
 use Rattle.swf_engine.specs.History.{IsHistory}
+use Rattle.swf_engine.specs.Settling.{Called}
 use Rattle.swf_cli.specs.Dialect.{Dialect}
 use Rattle.swf_cli.specs.Turns.{Turn}
 use Rattle.swf_cli.specs.Owed.{Heard, AreSaid, ArePrompt, conn_of, replies_of}
@@ -39,15 +40,15 @@ IsLastUnsaid (t ∷ u ∷ ts) is = ⊥
 -- The image stands for a history that begins with the one before, and the inputs that were taken so far, what the board answered so
 -- far and the whole replies among the pieces follow it. `all` are the inputs that were taken in the end, and `answers` all that the board
 -- answered.
-pub record IsMoment {W : Type 0} (mode : Dialect W) (words : Words) (before : List Label) (first : List (Input W)) (said : List Piece) (all : List (Input W)) (answers : List Label) (image : Image) (pieces : List Piece) : Type 0 where
+pub record IsMoment {W : Type 0} (mode : Dialect W) (words : Words) (before : List Label) (first : List (Input W)) (said : List Piece) (all : List (Input W)) (answers : List Called) (image : Image) (pieces : List Piece) : Type 0 where
   pub history : List Label
   pub stands : IsHistory image history
   pub once : Once history
   pub taken : List (Input W)
   pub later : List (Input W)
   pub taken_are : all ≡ first ++ (taken ++ later)
-  pub asked : List Label
-  pub unasked : List Label
+  pub asked : List Called
+  pub unasked : List Called
   pub asked_are : answers ≡ asked ++ unasked
   pub whole : List Piece
   pub follows : Follows mode words before taken asked (map heard_of whole) history

@@ -8,8 +8,10 @@ use Rattle.swf_store.specs.Said.{SaidPart}
 use Rattle.swf_store.specs.Stops.{Leaves}
 use Rattle.swf_meaning.specs.declared.label.Label.{Label}
 use Rattle.swf_host.specs.declared.host.Input.{Input}
+use Rattle.swf_connect.specs.Parties.{Party}
 use Rattle.swf_engine.specs.Damage.{IsDamaged}
 use Rattle.swf_engine.specs.History.{IsHistory}
+use Rattle.swf_engine.specs.Settling.{Called}
 use Rattle.swf_protocol.specs.Spoken.{damaged_bytes}
 use Rattle.swf_check.specs.Checking.{CheckRun}
 use Rattle.swf_cli.specs.declared.words.Mode.{Mode}
@@ -19,6 +21,7 @@ use Rattle.swf_cli.specs.Dialect.{session}
 use Rattle.swf_cli.specs.Finish.{Finished, IsShort, TellsFull, TellsDamage}
 use Rattle.swf_cli.specs.Heard.{TurnsTell}
 use Rattle.swf_cli.specs.Moments.{IsMoment, Runs}
+use Rattle.swf_cli.specs.Settling.{Answering}
 use Rattle.swf_cli.specs.Shown.{IsShowing, IsShown, IsPartShown}
 
 module _ {W S : Type 0} (moment : S → ℕ) (left_since : S → ℕ → Image → List Piece → Type 0) (said : S → Option (List Piece)) (may_leave : S → Image → Type 0) (seen : S → Option Image) (taken : S → Option (List (Input W))) where
@@ -42,16 +45,16 @@ module _ {W S : Type 0} (moment : S → ℕ) (left_since : S → ℕ → Image �
     pub kept : ForSome (seen old) (λ image. (at : ℕ) → IsDamaged image at → KeepsDamaged image old new status)
     pub whole : ForSome (seen old) (λ image. (before : List Label) → IsHistory image before → status ≢ 5)
 
-  pub record SessionRun (words : Words) (old new : S) (status : ℕ) : Type 0 where
+  pub record SessionRun (words : Words) (answers : List Called) (old new : S) (status : ℕ) : Type 0 where
     -- A stop at any moment leaves a journal whose history begins with that of the journal at entry and has a place for every
     -- reply that was said.
-    pub moments : Told old (λ image inputs pieces before. (all : List (Input W)) × (taken new ≡ Some all) × Runs moment left_since said may_leave (IsMoment session words before inputs pieces all []) old new)
+    pub moments : Told old (λ image inputs pieces before. (all : List (Input W)) × (taken new ≡ Some all) × Runs moment left_since said may_leave (IsMoment session words before inputs pieces all answers) old new)
     -- At 0 the input was read to its end, each reply was said whole, and every image stands for the one history.
-    pub finish : Told old (λ image inputs pieces before. status ≡ 0 → Finished session words before inputs [] pieces (taken new) (said new) (may_leave new))
+    pub finish : Told old (λ image inputs pieces before. status ≡ 0 → Finished session words before inputs answers pieces (taken new) (said new) (may_leave new))
     -- At 7 the journal is full, which was said whole, and the store stands for a history that has no room for its next label.
-    pub full : Told old (λ image inputs pieces before. status ≡ 7 → TellsFull session words moment left_since said may_leave seen taken new before inputs [] pieces)
+    pub full : Told old (λ image inputs pieces before. status ≡ 7 → TellsFull session words moment left_since said may_leave seen taken new before inputs answers pieces)
     -- At 3 and 6 whole replies were said, and no part of another.
-    pub short : Told old (λ image inputs pieces before. (status ≡ 3) ⊎ (status ≡ 6) → IsShort session words before inputs [] pieces (taken new) (said new))
+    pub short : Told old (λ image inputs pieces before. (status ≡ 3) ⊎ (status ≡ 6) → IsShort session words before inputs answers pieces (taken new) (said new))
     pub damage : TellsOfDamage old new status
     -- Whatever the store tells, at 0 each input was replied to, and at 7 who asked last was told that labels have no room. At 5 damage was
     -- told: to who asked last, which was for a history, or to connection 0 where no engine was opened, which comes at 5 alone.
@@ -69,7 +72,8 @@ module _ {W S : Type 0} (moment : S → ℕ) (left_since : S → ℕ → Image �
     -- Whatever the store tells, at 5 damage was told, to connection 0, and no input was taken.
     pub heard : ForSome (taken old) (λ first. ForSome (said old) (λ pieces. status ≡ 5 → (at : ℕ) × TellsDamage at first pieces (taken new) (said new)))
 
-  abbrev pub RunsIn : Mode → Words → S → S → ℕ → Type 0
-  RunsIn Check words old new status = CheckRun moment left_since said may_leave taken old new status
-  RunsIn Session words old new status = SessionRun words old new status
-  RunsIn Show words old new status = ShowRun old new status
+  -- a session asks its board, and no other mode does
+  abbrev pub RunsIn : Mode → Words → (board board_now : List Party) → S → S → ℕ → Type 0
+  RunsIn Check words board board_now old new status = CheckRun moment left_since said may_leave taken old new status
+  RunsIn Session words board board_now old new status = Answering words.http board board_now (λ answers. SessionRun words answers old new status)
+  RunsIn Show words board board_now old new status = ShowRun old new status

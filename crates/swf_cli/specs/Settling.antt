@@ -1,24 +1,19 @@
 -- The group of a settling: steps, and among them replies that a board answered.
-use Rattle.std.specs.Prelude.{ℕ, ◌≤◌, List, ◌++◌, length, Bool, true, false, not, filter, IsPermutation}
+use Rattle.std.specs.Prelude.{ℕ, ◌≤◌, List, ◌++◌, length, Bool, IsPermutation}
+use Rattle.swf_connect.specs.Parties.{Party}
+use Rattle.swf_meaning.specs.World.{World}
 use Rattle.swf_meaning.specs.declared.label.Label.{Label}
-use Rattle.swf_meaning.specs.declared.label.Label.TheVariants.{Load, Start, Event, Reply, Moment, Step}
+use Rattle.swf_engine.specs.Settling.{Called, AreTaken, AsksBoard, steps_in}
 
-abbrev pub is_step : Label → Bool
-is_step (Load v) = false
-is_step (Start id key input) = false
-is_step (Event e) = false
-is_step (Reply a r) = false
-is_step (Moment moment) = false
-is_step (Step id strand) = true
-
-abbrev pub steps_in : List Label → List Label
-steps_in labels = filter is_step labels
-
-abbrev pub others_in : List Label → List Label
-others_in labels = filter (λ l. not (is_step l)) labels
-
--- At most so many of these labels are steps. The others are among what the board answered, in any order and each at most once.
-pub record AreSettling (labels : List Label) (limit : ℕ) (answers : List Label) : Type 0 where
-  pub unused : List Label
-  pub taken : IsPermutation answers (others_in labels ++ unused)
+-- Behind that world at most so many of these labels are steps. The others are among what the board answered, in any order and each at
+-- most once.
+pub record AreSettling (w : World) (labels : List Label) (limit : ℕ) (answers : List Called) : Type 0 where
+  pub used : List Called
+  pub unused : List Called
+  pub among : IsPermutation answers (used ++ unused)
+  pub taken : AreTaken w labels used
   pub most : length (steps_in labels) ≤ limit
+
+-- a board was asked in a call, and this holds of what it answered
+abbrev pub Answering : Bool → List Party → List Party → (List Called → Type 0) → Type 0
+Answering http old new P = (answers : List Called) × AsksBoard http answers old new × P answers

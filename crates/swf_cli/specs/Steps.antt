@@ -14,6 +14,7 @@ use Rattle.swf_engine.specs.declared.fault.EngineFault.TheVariants.{Store, Damag
 use Rattle.swf_engine.specs.Core.{Core, StandFor}
 use Rattle.swf_engine.specs.History.{IsHistory, Begins, IsGrown}
 use Rattle.swf_engine.specs.Moves.{IsFull}
+use Rattle.swf_engine.specs.Settling.{Called}
 use Rattle.swf_meaning.specs.declared.label.Answer.{Answer}
 use Rattle.swf_meaning.specs.declared.label.Answer.TheVariants.{Status, Pending as Waits, Outbox as Sent, History}
 use Rattle.swf_world.specs.Refusals.{refusal}
@@ -138,7 +139,7 @@ module _ {S : Type 0} (moment : S → ℕ) (left_since : S → ℕ → Image →
       pub leaves : Leaves moment left_since old new (λ image now. IsHistory image history × (now ≡ pieces))
 
 -- by the words of the program, the last moment that was told, and what the board answered in the turn
-module _ (words : Words) (last : Option ℕ) (answers : List Label) {S : Type 0} (moment : S → ℕ) (left_since : S → ℕ → Image → List Piece → Type 0) (said : S → Option (List Piece)) (may_leave : S → Image → Type 0) (seen : S → Option Image) where
+module _ (words : Words) (last : Option ℕ) (answers : List Called) {S : Type 0} (moment : S → ℕ) (left_since : S → ℕ → Image → List Piece → Type 0) (said : S → Option (List Piece)) (may_leave : S → Image → Type 0) (seen : S → Option Image) where
   -- where engine and store stood for a history before it, a command was answered so
   abbrev pub LineDone : Result Command CommandFault → S → S → Core → Core → Result Reply EngineFault → Type 0
   LineDone command old new before after result = ForSome (seen old) (λ image. (history : List Label) → StandFor image (may_leave old) before history
@@ -150,7 +151,7 @@ module _ (words : Words) (last : Option ℕ) (answers : List Label) {S : Type 0}
       → CommandDone moment left_since said may_leave seen (MayAsk words last answers history read) (AsksNext words last answers history read) (AskTurn words last answers history read) history old new after result)
 
 -- the same in a mode
-module _ {W : Type 0} (mode : Dialect W) (words : Words) (last : Option ℕ) (answers : List Label) {S : Type 0} (moment : S → ℕ) (left_since : S → ℕ → Image → List Piece → Type 0) (said : S → Option (List Piece)) (may_leave : S → Image → Type 0) (seen : S → Option Image) (taken : S → Option (List (Input W))) where
+module _ {W : Type 0} (mode : Dialect W) (words : Words) (last : Option ℕ) (answers : List Called) {S : Type 0} (moment : S → ℕ) (left_since : S → ℕ → Image → List Piece → Type 0) (said : S → Option (List Piece)) (may_leave : S → Image → Type 0) (seen : S → Option Image) (taken : S → Option (List (Input W))) where
   -- A turn has taken this input and those that belong to it. While it added the group nothing was said, and then a part of these
   -- bytes, if there are some.
   pub record Turned (old new : S) (history : List Label) (inputs : List (Input W)) (pieces : List Piece) (input : Input W) (more : List (Input W)) (group : List Label) (line : List Heard) : Type 0 where

@@ -10,10 +10,11 @@ use Rattle.swf_host.specs.declared.host.Input.{Input}
 use Rattle.swf_host.specs.declared.host.Input.TheVariants.{Ask as Asks, TooLong, Work, Idle, Closed}
 use Rattle.swf_world.specs.Latest.{label_of}
 use Rattle.swf_world.specs.declared.query.QueryFault.{QueryFault}
-use Rattle.swf_engine.specs.Answers.{SettleCalls}
+use Rattle.swf_engine.specs.Answers.{Settles}
 use Rattle.swf_engine.specs.Core.{Core}
 use Rattle.swf_engine.specs.EngineCalls.{OpenCalls, QueryCalls, SubmitCalls}
-use Rattle.swf_engine.specs.declared.engine.Settled.{Settled}
+use Rattle.swf_engine.specs.Settling.{Called}
+use Rattle.swf_engine.specs.declared.settle.Settled.{Settled}
 use Rattle.swf_engine.specs.declared.engine.Submitted.{Submitted}
 use Rattle.swf_engine.specs.declared.fault.EngineFault.{EngineFault}
 use Rattle.swf_protocol.specs.declared.command.Command.{Command}
@@ -27,7 +28,8 @@ module _ (words : Words) {S : Type 0} (moment : S → ℕ) (left_since : S → �
   abbrev pub AskedCalls : Result Command CommandFault → S → S → Core → Core → Type 0
   AskedCalls (Ok (Do o)) old new before after = (r : Result Submitted EngineFault) × SubmitCalls (calls old) (calls new) before.gate after.gate (label_of before.world o) r
   AskedCalls (Ok (Ask q)) old new before after = (r : Result (Result Answer QueryFault) EngineFault) × QueryCalls q (calls old) (calls new) r
-  AskedCalls (Ok (Settle limit)) old new before after = (r : Result Settled EngineFault) × SettleCalls moment left_since said may_leave seen calls old new before after (unwrap_or limit words.steps) r
+  AskedCalls (Ok (Settle limit)) old new before after =
+      (r : Result Settled EngineFault) × (called : List Called) × Settles moment left_since said may_leave seen calls words.http called old new before after (unwrap_or limit words.steps) r
   AskedCalls (Ok Quit) old new before after = ⊥
   AskedCalls (Err f) old new before after = ⊥
 

@@ -5,7 +5,7 @@ use Rattle.swf_meaning.specs.declared.label.Label.{Label}
 use Rattle.swf_meaning.specs.declared.label.Outcome.{Outcome}
 use Rattle.swf_meaning.specs.declared.label.Outcome.TheVariants.{Load, Start, Event, Reply as Replies, Moment}
 use Rattle.swf_runs.specs.After.{taken_by}
-use Rattle.swf_runs.specs.Runs.{world_at, is_quiet}
+use Rattle.swf_runs.specs.Runs.{world_at}
 use Rattle.swf_meaning.specs.World.{World}
 use Rattle.swf_host.specs.declared.host.Input.{Input}
 use Rattle.swf_host.specs.declared.host.Input.TheVariants.{Ask as Asks, TooLong as TooLongInput, Work, Idle, Closed}
@@ -26,13 +26,14 @@ use Rattle.swf_protocol.specs.declared.reply.Reply.TheVariants.{Loaded, Started,
 use Rattle.swf_cli.specs.declared.words.Words.{Words}
 use Rattle.swf_cli.specs.Behind.{Behind, MayBehind}
 use Rattle.swf_cli.specs.Dialect.{Dialect}
-use Rattle.swf_cli.specs.Settling.{AreSettling, steps_in}
+use Rattle.swf_engine.specs.Settling.{Called, is_settled, steps_in}
+use Rattle.swf_cli.specs.Settling.{AreSettling}
 
 -- a first input and those that belong to it, what a board answered in the turn, the labels that it adds, and the reply that it owes
 pub record Turn (W : Type 0) : Type 0 where
   pub first : Input W
   pub more : List (Input W)
-  pub answers : List Label
+  pub answers : List Called
   pub labels : List Label
   pub reply : Option Reply
 
@@ -77,11 +78,11 @@ fault_reply faults.OutOfMemory = Memory
 abbrev pub settle_reply : Bool → ℕ → ℕ → Reply
 settle_reply quiet steps limit = if quiet then Quiet steps else Budget limit
 
--- a settling takes steps, at most so many, until no strand is enabled
-pub record Settled (before : List Label) (limit : ℕ) (answers labels : List Label) (reply : Reply) : Type 0 where
-  pub settling : AreSettling labels limit answers
-  pub enough : is_quiet (world_at (before ++ labels)) ≡ false → length (steps_in labels) ≡ limit
-  pub told : reply ≡ settle_reply (is_quiet (world_at (before ++ labels))) (length (steps_in labels)) limit
+-- A settling takes steps, at most so many, until no strand is enabled. Where a board answers calls, it goes on until none is open.
+pub record Settled (http : Bool) (before : List Label) (limit : ℕ) (answers : List Called) (labels : List Label) (reply : Reply) : Type 0 where
+  pub settling : AreSettling (world_at before) labels limit answers
+  pub enough : is_settled http (world_at (before ++ labels)) ≡ false → length (steps_in labels) ≡ limit
+  pub told : reply ≡ settle_reply (is_settled http (world_at (before ++ labels))) (length (steps_in labels)) limit
 
 abbrev pub LongTurn : List Label → Reply → Type 0
 LongTurn labels reply = (labels ≡ []) × (reply ≡ TooLong)
@@ -102,23 +103,23 @@ abbrev pub inputs_of : {W : Type 0} → List (Turn W) → List (Input W)
 inputs_of ts = flat_map inputs_in ts
 
 -- what the board answered in them
-abbrev pub answers_of : {W : Type 0} → List (Turn W) → List Label
+abbrev pub answers_of : {W : Type 0} → List (Turn W) → List Called
 answers_of ts = flat_map (λ t. t.answers) ts
 
 -- by the words of the program, the last moment that was told, and what the board answered in the turn
-module _ (words : Words) (last : Option ℕ) (answers : List Label) where
+module _ (words : Words) (last : Option ℕ) (answers : List Called) where
   -- with memory, a command adds these labels behind those before it, and owes the reply
   abbrev pub Answers : List Label → Result Command CommandFault → List Label → Reply → Type 0
   Answers before (Err f) labels reply = (labels ≡ []) × (reply ≡ fault_reply f)
   Answers before (Ok (Do o)) labels reply = Behind (λ b ls. Outcomes (world_at b) o (refusal (world_at b) (label_of (world_at b) o)) ls reply) last before labels
   Answers before (Ok (Ask q)) labels reply = (labels ≡ []) × (reply ≡ query_reply (answer before (world_at before) q))
-  Answers before (Ok (Settle limit)) labels reply = Settled before (unwrap_or limit words.steps) answers labels reply
+  Answers before (Ok (Settle limit)) labels reply = Settled words.http before (unwrap_or limit words.steps) answers labels reply
   Answers before (Ok Quit) labels reply = (labels ≡ []) × (reply ≡ Bye)
 
   -- what a command adds that finds no memory: a settling keeps the labels that it added, and `quit` needs none
   abbrev pub Lacks : List Label → Result Command CommandFault → List Label → Type 0
   Lacks before (Ok (Do o)) labels = MayBehind (λ b ls. ls ≡ []) last before labels
-  Lacks before (Ok (Settle limit)) labels = AreSettling labels (unwrap_or limit words.steps) answers
+  Lacks before (Ok (Settle limit)) labels = AreSettling (world_at before) labels (unwrap_or limit words.steps) answers
   Lacks before (Ok Quit) labels = ⊥
   Lacks before c labels = labels ≡ []
 
@@ -148,7 +149,7 @@ module _ {W : Type 0} (mode : Dialect W) where
   module _ (words : Words) where
     -- where those labels came before, the last moment told is this and the board answers so, an input may add these labels and be
     -- replied to so. Neither work nor its absence begins a turn.
-    abbrev pub IsAnswered : Option ℕ → List Label → List Label → Input W → List Label → Option Reply → Type 0
+    abbrev pub IsAnswered : Option ℕ → List Called → List Label → Input W → List Label → Option Reply → Type 0
     IsAnswered last answers before (Asks conn bytes) labels (Some reply) = AskTurn words last answers before (mode.reads bytes) labels reply
     IsAnswered last answers before (Asks conn bytes) labels None = ⊥
     IsAnswered last answers before (TooLongInput conn) labels (Some reply) = LongTurn labels reply

@@ -76,24 +76,26 @@ told_apart None (w ∷ ws) =
 -- what options have set
 pub record Settings : Type 0 where
   pub steps : Option ℕ
+  pub http : Option Bool
 
 -- no option was read
 abbrev pub unset : Settings
-unset = record { steps = None }
+unset = record { steps = None; http = None }
 
-abbrev pub set_steps : Option ℕ → Settings
-set_steps n = record { steps = n }
+-- by whom calls are answered
+abbrev pub calls_of : List ℕ → Option Bool
+calls_of v = if same v (codes "http") then Some true else (if same v (codes "manual") then Some false else None)
 
--- an option that stands once, with a value of its form
-abbrev pub first_steps : Option ℕ → List ℕ → Option Settings
-first_steps (Some n) v = None
-first_steps None v = option_map (λ n. set_steps (Some n)) (budget_of v)
+-- an option that stands once
+abbrev pub once : {A : Type 0} → Option A → Option A → Option A
+once (Some x) v = None
+once None v = v
 
--- What a value of an option sets, each by its form: `--steps` a number from 1 to 1,000,000. The others are known, and no value of
--- them is taken yet.
+-- What a value of an option sets, each by its form: `--steps` a number from 1 to 1,000,000, and `--calls` who answers calls. `--workers`
+-- is known, and no value of it is taken yet.
 abbrev pub with_setting : Settings → Setting × List ℕ → Option Settings
-with_setting s (Steps, v) = first_steps s.steps v
-with_setting s (Calls, v) = None
+with_setting s (Steps, v) = option_map (λ n. record s { steps = Some n }) (once s.steps (budget_of v))
+with_setting s (Calls, v) = option_map (λ b. record s { http = Some b }) (once s.http (calls_of v))
 with_setting s (Workers, v) = None
 
 -- one value after another
@@ -115,11 +117,11 @@ mode_of [] = None
 mode_of (w ∷ []) = mode_named w
 mode_of (v ∷ w ∷ ws) = None
 
--- without `--steps` a settling takes at most a thousand steps
+-- without `--steps` a settling takes at most a thousand steps, and without `--calls` they are answered by hand
 abbrev pub both : Option Settings → Option Mode → Option Words
 both None m = None
 both (Some s) None = None
-both (Some s) (Some m) = Some (record { steps = unwrap_or s.steps 1000; mode = m })
+both (Some s) (Some m) = Some (record { steps = unwrap_or s.steps 1000; http = unwrap_or s.http false; mode = m })
 
 abbrev pub meaning_of : Option Apart → Option Words
 meaning_of None = None

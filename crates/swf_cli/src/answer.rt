@@ -1,10 +1,11 @@
 // What a line is answered, and what it adds to the journal.
-ghost use Rattle.std.specs.Prelude.{◌≡◌, ◌≤◌, [], None, Ok, IfOk, is_some};
+ghost use Rattle.std.specs.Prelude.{◌≡◌, ◌≤◌, false, [], None, Ok, IfOk, is_some};
 ghost use Rattle.swf_engine.specs.Causes.{EngineCause, WhereUsable};
 ghost use Rattle.swf_engine.specs.Core.{IsEngineOf};
 ghost use Rattle.swf_protocol.specs.Line.{command_of, is_quit};
 ghost use Rattle.swf_protocol.specs.Sayable.{IsSayable, IsModest};
 ghost use Rattle.swf_cli.specs.Faults.{CommandFaults, MayAddFault};
+ghost use Rattle.swf_cli.specs.Settling.{Answering};
 ghost use Rattle.swf_cli.specs.Steps.{LineDone, reply_of, or_memory, queried, IsBreak};
 ghost use Rattle.swf_cli.specs.Sorts.{sort_of, accepted_as};
 ghost use Rattle.swf_cli.specs.Turns.{refused, settle_reply, fault_reply};
@@ -13,6 +14,7 @@ ghost use Rattle.swf_cli.specs.declared.words.Words.{Words as Meaning};
 
 use crate::words::Words;
 use std::alloc::Global;
+use swf_connect::{Parties, Switchboard};
 use swf_engine::{Engine, EngineFault, Settled, Submitted};
 use swf_meaning::{Answer, Outcome, Query};
 use swf_protocol::{Command, CommandFault, Reply, read_command};
@@ -132,12 +134,15 @@ fn settle<S: Store>(
     store: &mut S,
     engine: &mut Engine,
     limit: Option<u64>,
+    board: &mut Switchboard,
 ) -> Result<Reply, EngineFault>
     requires place { IsEngineOf (S.seen store.old) engine.old }
     requires modest { IsModest (Command.Settle limit) }
     requires words { words.now.steps ≤ 1000000 }
     ensures place { WhereUsable result (IsEngineOf (S.seen store.new) engine.new) }
-    ensures done { LineDone words.now None [] S.moment S.left_since S.said S.may_leave S.seen (Ok (Command.Settle limit)) store.old store.new engine.old engine.new result }
+    ensures done { Answering words.now.http (⟦<Switchboard as Parties>⟧.parties board.old) (⟦<Switchboard as Parties>⟧.parties board.new)
+        (λ answers. LineDone words.now None answers S.moment S.left_since S.said S.may_leave S.seen (Ok (Command.Settle limit)) store.old store.new engine.old engine.new result) }
+    ensures by_hand { words.now.http ≡ false → board.new ≡ board.old }
     ensures calls { CommandCalls words.now S.moment S.left_since S.said S.may_leave S.seen S.calls (Ok (Command.Settle limit)) store.old store.new engine.old engine.new }
     ensures which { IsBreak result }
     ensures faults { MayAddFault result }
@@ -148,7 +153,7 @@ fn settle<S: Store>(
     ensures cause { EngineCause (S.store_faults store.old) (S.store_faults store.new) result }
 {
     let most = limit.unwrap_or(u64::from(words.steps));
-    match engine.settle(store, most) {
+    match engine.settle(store, most, board, words.http) {
         Ok(settled) => Ok(settled_reply(settled, most)),
         Err(fault) => or_memory(fault),
     }
@@ -194,12 +199,15 @@ fn obey<S: Store>(
     store: &mut S,
     engine: &mut Engine,
     command: Command,
+    board: &mut Switchboard,
 ) -> Result<Reply, EngineFault>
     requires place { IsEngineOf (S.seen store.old) engine.old }
     requires modest { IsModest command }
     requires words { words.now.steps ≤ 1000000 }
     ensures place { WhereUsable result (IsEngineOf (S.seen store.new) engine.new) }
-    ensures done { LineDone words.now None [] S.moment S.left_since S.said S.may_leave S.seen (Ok command) store.old store.new engine.old engine.new result }
+    ensures done { Answering words.now.http (⟦<Switchboard as Parties>⟧.parties board.old) (⟦<Switchboard as Parties>⟧.parties board.new)
+        (λ answers. LineDone words.now None answers S.moment S.left_since S.said S.may_leave S.seen (Ok command) store.old store.new engine.old engine.new result) }
+    ensures by_hand { words.now.http ≡ false → board.new ≡ board.old }
     ensures calls { CommandCalls words.now S.moment S.left_since S.said S.may_leave S.seen S.calls (Ok command) store.old store.new engine.old engine.new }
     ensures which { IsBreak result }
     // A history alone finds damage, where the store can not tell it.
@@ -213,7 +221,7 @@ fn obey<S: Store>(
     match command {
         Command::Do(outcome) => submit(store, engine, outcome),
         Command::Ask(query) => ask(store, engine, &query),
-        Command::Settle(limit) => settle(words, store, engine, limit),
+        Command::Settle(limit) => settle(words, store, engine, limit, board),
         Command::Quit => Ok(Reply::Quit),
     }
 }
@@ -243,11 +251,14 @@ pub fn answer_line<S: Store>(
     store: &mut S,
     engine: &mut Engine,
     line: &[u8],
+    board: &mut Switchboard,
 ) -> Result<Answered, EngineFault>
     requires place { IsEngineOf (S.seen store.old) engine.old }
     requires words { words.now.steps ≤ 1000000 }
     ensures place { WhereUsable result (IsEngineOf (S.seen store.new) engine.new) }
-    ensures done { LineDone words.now None [] S.moment S.left_since S.said S.may_leave S.seen (command_of line.now) store.old store.new engine.old engine.new (reply_of result) }
+    ensures done { Answering words.now.http (⟦<Switchboard as Parties>⟧.parties board.old) (⟦<Switchboard as Parties>⟧.parties board.new)
+        (λ answers. LineDone words.now None answers S.moment S.left_since S.said S.may_leave S.seen (command_of line.now) store.old store.new engine.old engine.new (reply_of result)) }
+    ensures by_hand { words.now.http ≡ false → board.new ≡ board.old }
     ensures calls { CommandCalls words.now S.moment S.left_since S.said S.may_leave S.seen S.calls (command_of line.now) store.old store.new engine.old engine.new }
     ensures ends { IfOk result (λ answered. answered.ends ≡ is_quit (command_of line.now)) }
     ensures which { IsBreak result }
@@ -261,7 +272,7 @@ pub fn answer_line<S: Store>(
     match read_command(alloc, line) {
         Ok(command) => {
             let ends = is_quit(&command);
-            match obey(words, store, engine, command) {
+            match obey(words, store, engine, command, board) {
                 Ok(reply) => Ok(Answered { reply, ends }),
                 Err(fault) => Err(fault),
             }

@@ -1,7 +1,7 @@
 // Reading the words of the command line.
 ghost use Rattle.std.specs.Prelude.{◌≡◌, [], Ok, option_map};
 ghost use Rattle.swf_text.specs.Same.{same};
-ghost use Rattle.swf_cli.specs.Words.{texts, parts, option_named, value_in, is_dashed, mode_named, words_of};
+ghost use Rattle.swf_cli.specs.Words.{texts, parts, option_named, value_in, calls_of, is_dashed, mode_named, words_of};
 ghost use Rattle.swf_cli.specs.Arguments.{meant, Takes, TakesValue, TakesOther};
 
 use crate::words::{Mode, Words};
@@ -34,6 +34,7 @@ enum Expects {
 #[derive(Drop)]
 struct Progress {
     steps: Option<u32>,
+    http: Option<bool>,
     mode: Option<Mode>,
     expects: Expects,
 }
@@ -96,14 +97,14 @@ fn mode_named(word: &str) -> Option<Mode>
     }
 }
 
-// Takes a value of an option, which stands at most once. The value has the option's form. `--calls` and `--workers` are known,
-// and no value of them is taken yet.
+// Takes a value of an option, which stands at most once. The value has the option's form. `--workers` is known, and no value of it
+// is taken yet.
 fn take_value(progress: &mut Progress, setting: Setting, word: &str) -> bool
     ensures { TakesValue result progress.old (setting, word.now) progress.new }
 {
     match setting {
         Setting::Steps => take_steps(progress, word),
-        Setting::Calls => false,
+        Setting::Calls => take_calls(progress, word),
         Setting::Workers => false,
     }
 }
@@ -118,6 +119,35 @@ fn take_steps(progress: &mut Progress, word: &str) -> bool
     match budget_of(word.as_bytes()) {
         Some(steps) => {
             progress.steps = Some(steps as u32);
+            true
+        }
+        None => false,
+    }
+}
+
+// By whom calls are answered: `http` or `manual`.
+fn calls_of(word: &str) -> Option<bool>
+    ensures { result ≡ calls_of word.now }
+{
+    if is(word, "http") {
+        Some(true)
+    } else if is(word, "manual") {
+        Some(false)
+    } else {
+        None
+    }
+}
+
+// Takes a value of `--calls`.
+fn take_calls(progress: &mut Progress, word: &str) -> bool
+    ensures { TakesValue result progress.old (Setting.Calls, word.now) progress.new }
+{
+    if progress.http.is_some() {
+        return false;
+    }
+    match calls_of(word) {
+        Some(http) => {
+            progress.http = Some(http);
             true
         }
         None => false,
@@ -189,6 +219,7 @@ fn meaning(progress: &Progress) -> Option<Words>
         Expects::Value(_) => None,
         Expects::Any | Expects::Other => Some(Words {
             steps: progress.steps.unwrap_or(STEPS),
+            http: progress.http.unwrap_or(false),
             mode,
         }),
     }
@@ -200,6 +231,7 @@ pub fn read_words(_alloc: Global, words: &[String]) -> Result<Option<Words>, All
 {
     let mut progress = Progress {
         steps: None,
+        http: None,
         mode: None,
         expects: Expects::Any,
     };

@@ -1,5 +1,5 @@
 // The top call: the words are read, and then the program does what they mean.
-ghost use Rattle.std.specs.Prelude.{◌≡◌, ◌↔◌, Some, None};
+ghost use Rattle.std.specs.Prelude.{◌≡◌, ◌≢◌, ◌⊎◌, ◌↔◌, false, Some, None};
 ghost use Rattle.swf_check.specs.Checking.{CheckRun};
 ghost use Rattle.swf_cli.specs.Running.{RunsIn};
 ghost use Rattle.swf_cli.specs.Statuses.{IsStatus, IsBlamed};
@@ -14,6 +14,7 @@ use crate::turn::NO_MEMORY;
 use crate::words::Mode;
 use std::alloc::Global;
 use swf_check::run_check;
+use swf_connect::{Parties, Switchboard};
 use swf_host::{Host, NoWork};
 
 /// The words mean nothing.
@@ -30,14 +31,21 @@ fn check<H: Host<NoWork, NoWork>>(alloc: Global, host: &mut H) -> u8
     run_check(alloc, host)
 }
 
-/// Runs the program: its words and the host with its store are handed in, and its status is answered.
-pub fn swf_run<H: Host<NoWork, NoWork>>(alloc: Global, words: &[String], host: &mut H) -> u8
+/// Runs the program: its words, the host with its store, and the board that answers calls are handed in, and its status is answered.
+pub fn swf_run<H: Host<NoWork, NoWork>>(
+    alloc: Global,
+    words: &[String],
+    host: &mut H,
+    board: &mut Switchboard,
+) -> u8
     // 2 comes exactly by the words, and then nothing was done.
     ensures words { (result ≡ 2) ↔ (words_of (texts words.now) ≡ None) }
-    ensures untouched { words_of (texts words.now) ≡ None → host.new ≡ host.old }
+    ensures untouched { words_of (texts words.now) ≡ None → (host.new ≡ host.old) × (board.new ≡ board.old) }
     // Else the program does what the words mean.
     ensures runs { (meaning : Meaning) → words_of (texts words.now) ≡ Some meaning
-        → RunsIn H.moment H.left_since H.said H.may_leave H.seen H.taken meaning.mode meaning host.old host.new result }
+        → RunsIn H.moment H.left_since H.said H.may_leave H.seen H.taken meaning.mode meaning (⟦<Switchboard as Parties>⟧.parties board.old) (⟦<Switchboard as Parties>⟧.parties board.new) host.old host.new result }
+    // The board is asked in a session alone, and there only where the words say that it answers calls.
+    ensures by_hand { (meaning : Meaning) → words_of (texts words.now) ≡ Some meaning → (meaning.http ≡ false) ⊎ (meaning.mode ≢ Mode.Session) → board.new ≡ board.old }
     ensures statuses { (meaning : Meaning) → words_of (texts words.now) ≡ Some meaning → IsStatus meaning.mode result }
     // To check a document no call of the store is made.
     ensures no_call { (meaning : Meaning) → words_of (texts words.now) ≡ Some meaning → meaning.mode ≡ Mode.Check → (H.calls host.new ≡ H.calls host.old) × (H.seen host.new ≡ H.seen host.old) }
@@ -53,7 +61,7 @@ pub fn swf_run<H: Host<NoWork, NoWork>>(alloc: Global, words: &[String], host: &
     };
     match words.mode {
         Mode::Check => check(alloc, host),
-        Mode::Session => run_session(alloc, &words, host),
+        Mode::Session => run_session(alloc, &words, host, board),
         Mode::Show => run_show(alloc, host),
     }
 }

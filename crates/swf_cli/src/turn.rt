@@ -9,6 +9,7 @@ ghost use Rattle.swf_protocol.specs.Sayable.{IsSayable};
 ghost use Rattle.swf_protocol.specs.Spoken.{spoken, damaged_bytes, full_bytes};
 ghost use Rattle.swf_cli.specs.Faults.{ReadFaults};
 ghost use Rattle.swf_cli.specs.Heard.{TurnTells};
+ghost use Rattle.swf_cli.specs.Settling.{Answering};
 ghost use Rattle.swf_cli.specs.Statuses.{IsBlamed};
 ghost use Rattle.swf_cli.specs.Steps.{AskDone, IsBreak, IsSound, IsStop, Says, StaysSound, TurnDone, reply_of, follows_end, status_of};
 ghost use Rattle.swf_cli.specs.StoreCalls.{ReadCalls, TurnCalls};
@@ -17,6 +18,7 @@ ghost use Rattle.swf_cli.specs.Dialect.{is_long, line_read, session};
 use crate::answer::{Answered, answer_line};
 use crate::words::Words;
 use std::alloc::{AllocError, Global};
+use swf_connect::{Parties, Switchboard};
 use swf_engine::{Engine, EngineFault};
 use swf_host::{Host, Input, MOST_LINE, NoWork};
 use swf_protocol::{Reply, damaged_line, full_line, reply_bytes};
@@ -53,11 +55,14 @@ fn answer_ask<H: Host<NoWork, NoWork>>(
     host: &mut H,
     engine: &mut Engine,
     line: &[u8],
+    board: &mut Switchboard,
 ) -> Result<Answered, EngineFault>
     requires place { IsEngineOf (H.seen host.old) engine.old }
     requires words { words.now.steps ≤ 1000000 }
     ensures place { WhereUsable result (IsEngineOf (H.seen host.new) engine.new) }
-    ensures done { AskDone words.now None [] H.moment H.left_since H.said H.may_leave H.seen (line_read line.now) host.old host.new engine.old engine.new (reply_of result) }
+    ensures done { Answering words.now.http (⟦<Switchboard as Parties>⟧.parties board.old) (⟦<Switchboard as Parties>⟧.parties board.new)
+        (λ answers. AskDone words.now None answers H.moment H.left_since H.said H.may_leave H.seen (line_read line.now) host.old host.new engine.old engine.new (reply_of result)) }
+    ensures by_hand { words.now.http ≡ false → board.new ≡ board.old }
     ensures calls { ReadCalls words.now H.moment H.left_since H.said H.may_leave H.seen H.calls (line_read line.now) host.old host.new engine.old engine.new }
     ensures ends { IfOk result (λ answered. answered.ends ≡ (if is_long line.now then false else is_quit (command_of line.now))) }
     ensures which { IsBreak result }
@@ -75,7 +80,7 @@ fn answer_ask<H: Host<NoWork, NoWork>>(
             ends: false,
         });
     }
-    answer_line(alloc, words, host, engine, line)
+    answer_line(alloc, words, host, engine, line, board)
 }
 
 // The line of a reply.
@@ -181,13 +186,16 @@ pub fn take_turn<H: Host<NoWork, NoWork>>(
     words: &Words,
     host: &mut H,
     engine: &mut Engine,
+    board: &mut Switchboard,
 ) -> After
     requires place { IsEngineOf (H.seen host.old) engine.old }
     requires words { words.now.steps ≤ 1000000 }
     ensures place { result ≡ After.GoesOn → IsEngineOf (H.seen host.new) engine.new }
-    ensures turn { ForSome (H.seen host.old) (λ image. ForSome (H.taken host.old) (λ inputs. ForSome (H.said host.old) (λ pieces.
+    ensures turn { Answering words.now.http (⟦<Switchboard as Parties>⟧.parties board.old) (⟦<Switchboard as Parties>⟧.parties board.new)
+        (λ answers. ForSome (H.seen host.old) (λ image. ForSome (H.taken host.old) (λ inputs. ForSome (H.said host.old) (λ pieces.
         (history : List Label) → StandFor image (H.may_leave host.old) engine.old history
-        → TurnDone session words.now None [] H.moment H.left_since H.said H.may_leave H.seen H.taken host.old host.new engine.new history inputs pieces result))) }
+        → TurnDone session words.now None answers H.moment H.left_since H.said H.may_leave H.seen H.taken host.old host.new engine.new history inputs pieces result)))) }
+    ensures by_hand { words.now.http ≡ false → board.new ≡ board.old }
     // Whatever the store tells, each turn says its reply. Damage is told to who asked for a history and ends with 5, and a full journal to
     // who asked for labels, with 7.
     ensures tells { ForSome (H.taken host.old) (λ inputs. ForSome (H.said host.old) (λ pieces. TurnTells session H.said H.taken H.seen host.new inputs pieces result)) }
@@ -200,7 +208,7 @@ pub fn take_turn<H: Host<NoWork, NoWork>>(
 {
     match host.next(false) {
         Ok(Input::Ask(conn, line)) => {
-            match answer_ask(alloc, words, host, engine, line.as_slice()) {
+            match answer_ask(alloc, words, host, engine, line.as_slice(), board) {
                 Ok(answered) => say(alloc, host, conn, answered),
                 Err(EngineFault::Full { size }) => say_full(alloc, host, conn, size),
                 Err(EngineFault::Damaged { at }) => {

@@ -16,5 +16,7 @@ pub enum Mode {
 pub struct Words {
     /// How many steps a settling without a number takes at most.
     pub steps: u32,
+    /// A board answers calls; else they are answered by hand.
+    pub http: bool,
     pub mode: Mode,
 }

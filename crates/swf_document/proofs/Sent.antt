@@ -30,7 +30,7 @@ use Rattle.swf_document.specs.contracts.common.Common as common
 use Rattle.swf_document.specs.contracts.boxed.Boxed as boxed
 use Rattle.swf_document.specs.contracts.listing.Listing as listing
 use Rattle.swf_document.specs.contracts.call.Endpoint as endpoint
-use Rattle.swf_document.specs.contracts.call.Method as method
+use Rattle.swf_calls.specs.contracts.method.Method as method
 use Rattle.swf_document.specs.contracts.call.HttpSpec as http
 use Rattle.swf_document.specs.contracts.call.Callee as callee
 use Rattle.swf_document.specs.contracts.event.Correlation as correlation

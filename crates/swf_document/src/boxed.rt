@@ -3,6 +3,7 @@ ghost use Rattle.std.specs.Prelude.{◌≡◌, IfOk, option_map};
 
 use std::alloc::{AllocError, Global};
 use std::marker::Model;
+use std::mem;
 
 /// A value behind a box, for parts that few tasks have, so that the others stay small. Contracts see it as the value.
 #[derive(Drop)]
@@ -33,6 +34,14 @@ impl<T> Boxed<T> {
         ensures { result.now ≡ self.now }
     {
         &self.inner
+    }
+
+    /// Puts another value into the box, and answers the one that was there. It takes no memory.
+    pub fn replace(&mut self, value: T) -> T
+        ensures new { self.new ≡ value }
+        ensures former { result ≡ self.old }
+    {
+        mem::replace(&mut *self.inner, value)
     }
 
     /// The value. It takes no memory.

@@ -2,6 +2,7 @@
 use crate::boxed::Boxed;
 use crate::listing::Listing;
 use crate::template::{Field, Template};
+use swf_calls::Method;
 use swf_expr::Expr;
 use swf_text::Text;
 
@@ -24,18 +25,6 @@ pub struct HttpSpec {
     /// Whether the output is the whole response, and not its content alone.
     pub response: bool,
     pub redirect: bool,
-}
-
-/// A method of HTTP (RFC 9110, section 9; RFC 5789).
-#[derive(Clone, Copy, Debug, PartialEq, Eq)]
-pub enum Method {
-    Get,
-    Head,
-    Post,
-    Put,
-    Delete,
-    Patch,
-    Options,
 }
 
 /// Where a request goes.

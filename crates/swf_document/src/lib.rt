@@ -17,7 +17,7 @@ mod tasks;
 mod template;
 
 pub use boxed::{Boxed, unboxed};
-pub use call::{Callee, Endpoint, HttpSpec, Method};
+pub use call::{Callee, Endpoint, HttpSpec};
 pub use common::{Case, Common, Flow};
 pub use crossing::{document_crosses, problem_crosses};
 pub use document::{DocKey, Document, NamedError, NamedRetry};

@@ -1,5 +1,5 @@
 -- The calls of appends one after the other, and of frames that are read one after the other.
-use Rattle.std.proofs.Common.{◌≡◌, ◌∙◌, ap, sym, refl, subst, inl, inr, ⊎_elim, ℕ, ◌+◌, nat_lt, true, false, List, [], ◌∷◌, ◌++◌, length, map, Option, Some, None, Vec, Global, Result, Ok, Err}
+use Rattle.std.proofs.Common.{◌≡◌, ◌∙◌, ap, sym, refl, subst, inl, inr, ⊎_elim, ℕ, ◌+◌, nat_lt, true, false, List, [], ◌∷◌, ◌++◌, append_assoc, length, map, Option, Some, None, Vec, Global, Result, Ok, Err}
 use Rattle.std.specs.Option.{MatchOption}
 use Rattle.std.specs.Prelude.{IfOk, OnOk, OnErr}
 use Rattle.std.proofs.lemmas.List.{map-append}
@@ -32,23 +32,30 @@ pub gate_push : (gate : ℕ) (lens : List ℕ) (len : ℕ) → gate_behind gate 
 gate_push gate [] len = refl
 gate_push gate (l ∷ lens) len = gate_push (gate + 9 + l) lens len
 
--- one append more
-appends_push : (gate : ℕ) (labels : List Label) (label : Label) → appends_calls gate (labels ++ label ∷ []) ≡ appends_calls gate labels ++ label_calls (gate_behind gate (map label_length labels)) label
-appends_push gate [] label = refl
-appends_push gate (l ∷ labels) label = ap (λ (cs : List Call). label_calls gate l ++ cs) (appends_push (gate + 9 + label_length l) labels label)
+-- and of some more
+gate_join : (gate : ℕ) (lens more : List ℕ) → gate_behind gate (lens ++ more) ≡ gate_behind (gate_behind gate lens) more
+gate_join gate [] more = refl
+gate_join gate (l ∷ lens) more = gate_join (gate + 9 + l) lens more
+
+-- some appends more
+appends_more : (gate : ℕ) (labels more : List Label) → appends_calls gate (labels ++ more) ≡ appends_calls gate labels ++ appends_calls (gate_behind gate (map label_length labels)) more
+appends_more gate [] more = refl
+appends_more gate (l ∷ labels) more =
+    ap (λ (cs : List Call). label_calls gate l ++ cs) (appends_more (gate + 9 + label_length l) labels more)
+    ∙ sym (append_assoc (label_calls gate l) (appends_calls (gate + 9 + label_length l) labels) (appends_calls (gate_behind (gate + 9 + label_length l) (map label_length labels)) more))
 
 pub none_appended : (calls : Option (List Call)) (gate : ℕ) → Appends calls calls gate gate []
 none_appended calls gate = record { made = and_none calls; here = refl }
 
--- one label more was appended
-pub appended_more : (old mid new : Option (List Call)) (gate here next : ℕ) (labels : List Label) (label : Label) → Appends old mid gate here labels → Appends mid new here next (label ∷ []) → Appends old new gate next (labels ++ label ∷ [])
-appended_more old mid new gate here next labels label a b =
-    let one : new ≡ and_calls (label_calls (gate_behind gate (map label_length labels)) label) mid = subst (λ n. new ≡ and_calls (label_calls n label) mid) a.here b.made in
-    let lens : map label_length (labels ++ label ∷ []) ≡ map label_length labels ++ label_length label ∷ [] = map-append label_length labels (label ∷ []) in
+-- some labels more were appended
+pub appends_join : (old mid new : Option (List Call)) (gate here next : ℕ) (labels more : List Label) → Appends old mid gate here labels → Appends mid new here next more → Appends old new gate next (labels ++ more)
+appends_join old mid new gate here next labels more a b =
+    let rest : new ≡ and_calls (appends_calls (gate_behind gate (map label_length labels)) more) mid = subst (λ n. new ≡ and_calls (appends_calls n more) mid) a.here b.made in
     record {
-      made = done_after (appends_calls gate labels) (label_calls (gate_behind gate (map label_length labels)) label) old mid new a.made one
-          ∙ ap (λ (cs : List Call). and_calls cs old) (sym (appends_push gate labels label));
-      here = b.here ∙ ap (λ n. n + 9 + label_length label) a.here ∙ sym (ap (gate_behind gate) lens ∙ gate_push gate (map label_length labels) (label_length label));
+      made = done_after (appends_calls gate labels) (appends_calls (gate_behind gate (map label_length labels)) more) old mid new a.made rest
+          ∙ ap (λ (cs : List Call). and_calls cs old) (sym (appends_more gate labels more));
+      here = b.here ∙ ap (λ n. gate_behind n (map label_length more)) a.here
+          ∙ sym (ap (gate_behind gate) (map-append label_length labels more) ∙ gate_join gate (map label_length labels) (map label_length more));
     }
 
 -- the append of one label more was begun
@@ -59,6 +66,14 @@ appends_last old mid new gate here labels label a b = record {
   joined = refl;
   begun = subst (λ (cs : Option (List Call)). Begins (label_calls (gate_behind gate (map label_length labels)) label) cs new) a.made (subst (λ n. Begins (label_calls n label) mid new) a.here b);
 }
+
+-- some labels more were appended, the last of them not to its end
+pub appends_last_join : (old mid new : Option (List Call)) (gate here : ℕ) (labels more : List Label) → Appends old mid gate here labels → AppendsLast mid new here more → AppendsLast old new gate (labels ++ more)
+appends_last_join old mid new gate here labels more a b =
+    let then : Appends mid (and_calls (appends_calls here b.first) mid) here (gate_behind here (map label_length b.first)) b.first = record { made = refl; here = refl } in
+    let all = appends_join old mid (and_calls (appends_calls here b.first) mid) gate here (gate_behind here (map label_length b.first)) labels b.first a then in
+    subst (λ ls. AppendsLast old new gate ls) (append_assoc labels b.first (b.last ∷ []) ∙ ap (λ ls. labels ++ ls) (sym b.joined))
+    (appends_last old (and_calls (appends_calls here b.first) mid) new gate (gate_behind here (map label_length b.first)) (labels ++ b.first) b.last all b.begun)
 
 -- nothing was called since
 pub appends_same : (old mid new : Option (List Call)) (gate here next : ℕ) (labels : List Label) → new ≡ mid → next ≡ here → Appends old mid gate here labels → Appends old new gate next labels

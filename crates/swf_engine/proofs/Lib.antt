@@ -7,4 +7,7 @@ pub mod LawLemmas
 pub mod EngineCallLemmas
 pub mod FrontLemmas
 pub mod StepLemmas
+pub mod OpenCallLemmas
+pub mod AskLemmas
+pub mod SettleLemmas
 pub mod ReplayLemmas

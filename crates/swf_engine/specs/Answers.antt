@@ -12,7 +12,7 @@ use Rattle.swf_world.specs.declared.refusal.PrepareFault.{PrepareFault}
 use Rattle.swf_world.specs.declared.refusal.PrepareFault.TheVariants as unready
 use Rattle.swf_world.specs.declared.refusal.Refusal.{Refusal}
 use Rattle.swf_world.specs.declared.refusal.Refusal.TheVariants.{Refused as NotRead, Duplicate, UnknownDocument, UnknownInstance, Stale, Full as TooMany, Past, NotEnabled}
-use Rattle.swf_engine.specs.declared.engine.Settled.{Settled}
+use Rattle.swf_engine.specs.declared.settle.Settled.{Settled}
 use Rattle.swf_engine.specs.declared.engine.Submitted.{Submitted}
 use Rattle.swf_engine.specs.declared.engine.Submitted.TheVariants.{Accepted, Refused}
 use Rattle.swf_engine.specs.declared.fault.EngineFault.{EngineFault}
@@ -20,7 +20,8 @@ use Rattle.swf_engine.specs.declared.fault.EngineFault.TheVariants.{Store, Damag
 use Rattle.swf_store.specs.Calls.{Begins}
 use Rattle.swf_engine.specs.Core.{Core, most_bytes}
 use Rattle.swf_engine.specs.EngineCalls.{Appends, AppendsLast, label_calls}
-use Rattle.swf_engine.specs.Moves.{Adds, Breaks, IsStep, AreSteps, IsFull}
+use Rattle.swf_engine.specs.Moves.{Adds, Breaks, IsStep, IsFull}
+use Rattle.swf_engine.specs.Settling.{Called, AreTaken, IsGroup, is_settled, steps_in}
 
 -- nothing was changed
 abbrev pub Stays : {S : Type 0} → S → S → Core → Core → Type 0
@@ -57,17 +58,6 @@ module _ {S : Type 0} (moment : S → ℕ) (left_since : S → ℕ → Image →
   Submits old new before later label (Err (Full size)) = IsFull before (label ∷ []) size × (refusal before.world label ≡ None) × Stays old new before later
   Submits old new before later label (Err OutOfMemory) = Stays old new before later
 
-  -- A settling takes steps until no strand is enabled, and at most so many. Those that it took stand also where it was not done.
-  abbrev pub Settles : S → S → Core → Core → ℕ → Result Settled EngineFault → Type 0
-  Settles old new before later limit (Ok settled) =
-      (steps : List Label) × AreSteps steps limit × Adds moment left_since said may_leave seen old new before later steps × (length steps ≡ settled.steps)
-      × (settled.quiet ≡ is_quiet later.world) × (settled.quiet ≡ false → settled.steps ≡ limit)
-  Settles old new before later limit (Err Store) = (steps : List Label) × AreSteps steps limit × Breaks moment left_since said may_leave seen old new before steps
-  Settles old new before later limit (Err (Damaged at)) = ⊥
-  Settles old new before later limit (Err (Full size)) =
-      (steps : List Label) × (step : Label) × IsStep step × (refusal later.world step ≡ None) × AreSteps (steps ++ step ∷ []) limit × Adds moment left_since said may_leave seen old new before later steps × IsFull later (step ∷ []) size
-  Settles old new before later limit (Err OutOfMemory) = (steps : List Label) × AreSteps steps limit × Adds moment left_since said may_leave seen old new before later steps
-
   module _ (calls : S → Option (List Call)) where
     -- one step: some strand took it and it was appended, or none is enabled
     abbrev pub Steps : S → S → Core → Core → Result Bool EngineFault → Type 0
@@ -80,17 +70,36 @@ module _ {S : Type 0} (moment : S → ℕ) (left_since : S → ℕ → Image →
     Steps old new before later (Err (Full size)) = (step : Label) × IsStep step × (refusal before.world step ≡ None) × IsFull before (step ∷ []) size × Stays old new before later
     Steps old new before later (Err OutOfMemory) = Stays old new before later
 
-    -- the steps of a settling were appended one after the other, where the store failed all but the last
-    abbrev pub StepsCalls : (old new : S) (before later : Core) (limit : ℕ) (result : Result Settled EngineFault) → Settles old new before later limit result → Type 0
-    StepsCalls old new before later limit (Ok settled) s = Appends (calls old) (calls new) before.gate later.gate s.0
-    StepsCalls old new before later limit (Err Store) s = AppendsLast (calls old) (calls new) before.gate s.0
-    StepsCalls old new before later limit (Err (Damaged at)) s = ⊥
-    StepsCalls old new before later limit (Err (Full size)) s = Appends (calls old) (calls new) before.gate later.gate s.0
-    StepsCalls old new before later limit (Err OutOfMemory) s = Appends (calls old) (calls new) before.gate later.gate s.0
+    -- Labels were added: so many steps, and the replies that a board gave to these. One frame was appended after the other.
+    pub record Went (steps : ℕ) (called : List Called) (old new : S) (before later : Core) : Type 0 where
+      pub labels : List Label
+      pub taken : AreTaken before.world labels called
+      pub count : length (steps_in labels) ≡ steps
+      pub adds : Adds moment left_since said may_leave seen old new before later labels
+      pub appended : Appends (calls old) (calls new) before.gate later.gate labels
 
-    -- a settling makes the calls that append its steps, and no other
-    abbrev pub SettleCalls : S → S → Core → Core → ℕ → Result Settled EngineFault → Type 0
-    SettleCalls old new before later limit result = (settles : Settles old new before later limit result) × StepsCalls old new before later limit result settles
+    -- What was added where a settling was not done. The store failed at the last of these labels, or the next one has no room.
+    abbrev pub Fails : ℕ → List Called → S → S → Core → Core → EngineFault → Type 0
+    Fails limit called old new before later Store =
+        (labels : List Label) × IsGroup before.world labels limit called × Breaks moment left_since said may_leave seen old new before labels × AppendsLast (calls old) (calls new) before.gate labels
+    Fails limit called old new before later (Damaged at) = ⊥
+    Fails limit called old new before later (Full size) =
+        (labels : List Label) × (label : Label) × (refusal later.world label ≡ None) × IsGroup before.world (labels ++ label ∷ []) limit called
+        × Adds moment left_since said may_leave seen old new before later labels × Appends (calls old) (calls new) before.gate later.gate labels × IsFull later (label ∷ []) size
+    Fails limit called old new before later OutOfMemory =
+        (labels : List Label) × IsGroup before.world labels limit called × Adds moment left_since said may_leave seen old new before later labels × Appends (calls old) (calls new) before.gate later.gate labels
+
+    -- asking a board adds the replies that it gives, and no step
+    abbrev pub Asks : {T : Type 0} → List Called → S → S → Core → Core → Result T EngineFault → Type 0
+    Asks called old new before later (Ok x) = Went 0 called old new before later
+    Asks called old new before later (Err fault) = Fails 0 called old new before later fault
+
+    -- A settling takes steps until no strand is enabled, and at most so many. Where a board answers calls, it is asked for each that is
+    -- open then, and it goes on until none is.
+    abbrev pub Settles : Bool → List Called → S → S → Core → Core → ℕ → Result Settled EngineFault → Type 0
+    Settles asks called old new before later limit (Ok settled) =
+        Went settled.steps called old new before later × (settled.steps ≤ limit) × (settled.quiet ≡ is_settled asks later.world) × (settled.quiet ≡ false → settled.steps ≡ limit)
+    Settles asks called old new before later limit (Err fault) = Fails limit called old new before later fault
 
 -- what a label is answered whose change was not prepared
 abbrev pub unprepared : PrepareFault → Result Submitted EngineFault

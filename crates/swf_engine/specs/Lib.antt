@@ -8,3 +8,4 @@ pub mod Damage
 pub mod Reading
 pub mod Opening
 pub mod Retelling
+pub mod Settling

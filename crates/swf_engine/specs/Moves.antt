@@ -39,11 +39,6 @@ IsStep (Reply a r) = ⊥
 IsStep (Moment moment) = ⊥
 IsStep (Step id strand) = Unit {0}
 
--- these labels are steps, at most so many
-pub record AreSteps (steps : List Label) (limit : ℕ) : Type 0 where
-  pub each : AllByRecursion IsStep steps
-  pub most : length steps ≤ limit
-
 -- a frame with these labels, and the gate behind it, would end past the most bytes of a journal
 pub record IsFull (engine : Core) (labels : List Label) (size : ℕ) : Type 0 where
   pub past : most_bytes < engine.gate + 10 + length (labels_bytes labels)

@@ -9,14 +9,14 @@ ghost use Rattle.swf_record.specs.Encodes.{Nests};
 ghost use Rattle.swf_world.specs.Answers.{IsOfWorld};
 ghost use Rattle.swf_world.specs.Latest.{label_of};
 ghost use Rattle.swf_world.specs.Waits.{is_due};
-ghost use Rattle.swf_engine.specs.Answers.{Submits, Steps, Settles, SettleCalls, IsSmall};
+ghost use Rattle.swf_engine.specs.Answers.{Submits, IsSmall};
 ghost use Rattle.swf_engine.specs.Causes.{EngineCause, WhereUsable};
 ghost use Rattle.swf_engine.specs.Core.{IsEngineOf, StandFor, most_bytes};
 ghost use Rattle.swf_engine.specs.EngineCalls.{SubmitCalls, QueryCalls};
 ghost use Rattle.swf_engine.specs.Retelling.{Queries, AnswersQuery};
 
 use crate::EngineFault;
-use crate::add::{add_label, add_prepared};
+use crate::add::add_label;
 use crate::retelling::retell;
 use std::alloc::Global;
 use std::marker::Model;
@@ -36,20 +36,11 @@ pub enum Submitted {
     Refused(Refusal),
 }
 
-/// How a settling ended.
-#[derive(Clone, Copy)]
-pub struct Settled {
-    /// How many steps were taken.
-    pub steps: u64,
-    /// No strand is enabled any more.
-    pub quiet: bool,
-}
-
 /// An engine over a store that each call names. Contracts see its world and the place of the journal's next gate.
 pub struct Engine {
-    alloc: Global,
-    world: World,
-    journal: Journal,
+    pub(crate) alloc: Global,
+    pub(crate) world: World,
+    pub(crate) journal: Journal,
 }
 
 impl Drop for Engine {
@@ -109,58 +100,6 @@ impl Engine {
     {
         let label = self.world.label_of(outcome)?;
         add_label(self.alloc, &mut self.world, &mut self.journal, store, label)
-    }
-
-    // Takes one step, where one can be taken, and says whether it was.
-    fn step<S: Store>(&mut self, store: &mut S) -> Result<bool, EngineFault>
-        requires place { IsEngineOf (S.seen store.old) self.old }
-        ensures place { WhereUsable result (IsEngineOf (S.seen store.new) self.new) }
-        ensures steps { Steps S.moment S.left_since S.said S.may_leave S.seen S.calls store.old store.new self.old self.new result }
-        ensures said { S.said store.new ≡ S.said store.old }
-        ensures beside { S.beside store.new ≡ S.beside store.old }
-        ensures honest { is_some (S.seen store.new) ≡ is_some (S.seen store.old) }
-        ensures cause { EngineCause (S.store_faults store.old) (S.store_faults store.new) result }
-    {
-        let Some(prepared) = self.world.prepare_next()? else {
-            return Ok(false);
-        };
-        let (label, change) = prepared;
-        match add_prepared(
-            self.alloc,
-            &mut self.world,
-            &mut self.journal,
-            store,
-            label,
-            change,
-        ) {
-            Ok(_) => Ok(true),
-            Err(fault) => Err(fault),
-        }
-    }
-
-    /// Takes steps until no strand is enabled, and at most so many, each in a frame of its own. The steps that were taken before
-    /// memory ran out stand. The calls of the store are those of one append after the other.
-    pub fn settle<S: Store>(&mut self, store: &mut S, limit: u64) -> Result<Settled, EngineFault>
-        requires place { IsEngineOf (S.seen store.old) self.old }
-        ensures place { WhereUsable result (IsEngineOf (S.seen store.new) self.new) }
-        ensures settles { Settles S.moment S.left_since S.said S.may_leave S.seen store.old store.new self.old self.new limit result }
-        ensures calls { SettleCalls S.moment S.left_since S.said S.may_leave S.seen S.calls store.old store.new self.old self.new limit result }
-        ensures said { S.said store.new ≡ S.said store.old }
-        ensures beside { S.beside store.new ≡ S.beside store.old }
-        ensures honest { is_some (S.seen store.new) ≡ is_some (S.seen store.old) }
-        ensures cause { EngineCause (S.store_faults store.old) (S.store_faults store.new) result }
-    {
-        for steps in 0..limit {
-            match self.step(store) {
-                Ok(true) => {}
-                Ok(false) => return Ok(Settled { steps, quiet: true }),
-                Err(fault) => return Err(fault),
-            }
-        }
-        Ok(Settled {
-            steps: limit,
-            quiet: self.world.is_quiet(),
-        })
     }
 
     /// Answers a query. A history is told from the journal, whose frames are read again; no other query makes a call of the store.

@@ -9,7 +9,9 @@ mod open;
 mod printed;
 mod replay;
 mod retelling;
+mod settle;
 
-pub use engine::{Engine, Settled, Submitted};
+pub use engine::{Engine, Submitted};
 pub use fault::EngineFault;
 pub use law::{front_laws, history_laws};
+pub use settle::Settled;

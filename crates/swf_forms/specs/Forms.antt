@@ -6,8 +6,8 @@ use Rattle.std.specs.Str.{encode_utf8_all}
 use Rattle.swf_text.specs.Ascii.{is_digit, is_lower}
 use Rattle.swf_text.specs.Same.{same}
 use Rattle.swf_expr.specs.Name.{is_name, starts_name, goes_on_name}
-use Rattle.swf_document.specs.declared.call.Method.{Method}
-use Rattle.swf_document.specs.declared.call.Method.TheVariants as method
+use Rattle.swf_calls.specs.declared.method.Method.{Method}
+use Rattle.swf_calls.specs.declared.method.Method.TheVariants as method
 use Rattle.swf_document.specs.declared.fault.FaultKind.{FaultKind}
 use Rattle.swf_document.specs.declared.fault.FaultKind.TheVariants as kind
 use Rattle.swf_forms.specs.declared.form.Brace.{Brace}

@@ -12,7 +12,8 @@ ghost use Rattle.swf_forms.specs.Forms.{is_dsl, is_label_end, is_label_char, is_
 
 use crate::expression::{is_version, parses};
 use std::alloc::{AllocError, Global};
-use swf_document::{FaultKind, Method};
+use swf_calls::Method;
+use swf_document::FaultKind;
 use swf_text::{Text, all_digits, is_digit, is_lower, is_word};
 
 /// The form of a text.

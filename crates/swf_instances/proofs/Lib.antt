@@ -5,3 +5,5 @@ pub mod ListenLemmas
 pub mod NoteLemmas
 pub mod TakeLemmas
 pub mod OfferLemmas
+pub mod CallerLemmas
+pub mod ReplyLemmas

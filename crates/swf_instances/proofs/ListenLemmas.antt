@@ -16,8 +16,8 @@ use Rattle.swf_document.specs.declared.event.Filter.{Filter}
 use Rattle.swf_document.specs.declared.event.ListenSpec.{ListenSpec}
 use Rattle.swf_document.specs.declared.template.Field.{Field}
 use Rattle.swf_transform.specs.Filter.{attribute_matches, correlated, bind_all}
-use Rattle.swf_meaning.specs.Listen.{hears as hears_it, is_heard_by, is_met, is_satisfied, or_else, taken_from, takes}
-use Rattle.swf_meaning.specs.Node.{Node, Fresh, Live, Done, Fault, Inside, At, Later, Sleep, Hear, Forked, Nodes, no_nodes, branch, Running}
+use Rattle.swf_meaning.specs.Listen.{hears as hears_it, is_heard_by, is_met, is_satisfied, or_else, taken_from}
+use Rattle.swf_meaning.specs.Node.{Node, Fresh, Live, Done, Fault, Inside, At, Later, Sleep, Hear, Await, Forked, Nodes, no_nodes, branch, Running}
 use Rattle.swf_meaning.specs.Offer.{offered, offered_inside, offered_among, takes_by, or_same}
 use Rattle.swf_meaning.specs.Parts.{kind_of, listen_in}
 use Rattle.swf_meaning.specs.declared.heard.Heard.{Heard}
@@ -112,6 +112,7 @@ mutual
   unheard_inside e r (Sleep m) other = refl
   unheard_inside e r (Hear bound hs) other =
       ap (λ o. (or_same bound hs o).1) (no_taker (listen_in (kind_of r.task)) bound hs e (sym (ap (list_any (hears e.kind)) (types-hear r bound hs)) ∙ other))
+  unheard_inside e r (Await a q o) other = refl
   unheard_inside e r (Forked ns) other = unheard_among e ns other
 
   unheard_among : (e : Event) (ns : Nodes) → list_any (hears e.kind) (event_types_among ns) ≡ false → (offered_among e ns).1 ≡ 0

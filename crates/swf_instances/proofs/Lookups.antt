@@ -85,7 +85,7 @@ instance_unnumbered id is e = instance_at_first id is ∙ past_end is (first_of 
     by false h = refl
 
 -- an id that differs from all these is none of theirs
-differs : (id : List ℕ) (es : List (List ℕ × Instance)) (n : ℕ) (i : Instance) → AllByRecursion IsPlaced es → AllByRecursion (λ k. same id k ≡ false) (keys_of es) → slice_get (instances_in es) n ≡ Some i → same id i.id ≡ false
+pub differs : (id : List ℕ) (es : List (List ℕ × Instance)) (n : ℕ) (i : Instance) → AllByRecursion IsPlaced es → AllByRecursion (λ k. same id k ≡ false) (keys_of es) → slice_get (instances_in es) n ≡ Some i → same id i.id ≡ false
 differs id [] n i placed apart at = cc
 differs id (e ∷ es) zero i placed apart at = sym (ap (same id) (placed.0 ∙ ap (λ j. j.id) (same_Some e.1 i at))) ∙ apart.0
 differs id (e ∷ es) (suc n) i placed apart at = differs id es n i placed.1 apart.1 at

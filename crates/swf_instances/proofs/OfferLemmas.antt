@@ -5,7 +5,7 @@ use Rattle.std.proofs.lemmas.Bool.{cases_eq, ltb-false}
 use Rattle.std.proofs.lemmas.List.{take_all}
 use Rattle.std.specs.List.{AllByRecursion, fold}
 use Rattle.swf_cloudevents.specs.declared.event.Event.{Event}
-use Rattle.swf_meaning.specs.Offer.{offered, offered_one, takers_in, offered_all, takers}
+use Rattle.swf_meaning.specs.Offer.{offered_one, takers_in, offered_all, takers}
 use Rattle.swf_meaning.specs.World.{Instance}
 use Rattle.swf_runs.proofs.OfferLemmas.{one_untaken}
 use Rattle.swf_instances.specs.declared.offer.Hearing.{Hearing}

@@ -1,5 +1,5 @@
 -- Until when instances wait, at one moment and at a later one.
-use Rattle.std.proofs.Common.{◌≡◌, ◌∙◌, refl, ap, sym, ℕ, zero, suc, ◌||◌, ◌⊎◌, inl, inr, List, [], ◌∷◌, ◌++◌, nat_le, true, Option, Some, None}
+use Rattle.std.proofs.Common.{◌≡◌, ◌∙◌, refl, ap, sym, ℕ, zero, suc, ◌||◌, ◌⊎◌, inl, inr, List, [], ◌∷◌, ◌++◌, nat_le, true, is_some, Option, Some, None}
 use Rattle.std.specs.Prelude.{min, slice_set}
 use Rattle.std.proofs.Math.Bool.{or_assoc, or-false}
 use Rattle.std.proofs.lemmas.Bool.{or_cases, or_left, or_right}
@@ -8,7 +8,7 @@ use Rattle.std.specs.List.{cons_option, filter_map, fold, list_any, reduce}
 use Rattle.swf_meaning.specs.Listen.{is_heard}
 use Rattle.swf_meaning.specs.Node.{Node}
 use Rattle.swf_meaning.specs.Strands.{tops, can_top}
-use Rattle.swf_meaning.specs.Top.{Top, Begins, Moves, Fails, Retries, Sleeps, Hears, Splits, Ends, Breaks}
+use Rattle.swf_meaning.specs.Top.{Top, Begins, Moves, Fails, Retries, Sleeps, Hears, Awaits, Splits, Ends, Breaks}
 use Rattle.swf_meaning.specs.Wake.{waits, until_top, is_due as is_due_in}
 use Rattle.swf_meaning.specs.World.{Instance}
 use Rattle.swf_strands.specs.Alarm.{alarm_of}
@@ -61,6 +61,7 @@ one_woke now moment bs (Fails r round i p) ss e = inl refl
 one_woke now moment bs (Retries r n m) ss e = inr (or_left (nat_le m moment) (list_any (λ k. nat_le k moment) (filter_map (λ s. until_top s.1) ss)) e)
 one_woke now moment bs (Sleeps r m) ss e = inr (or_left (nat_le m moment) (list_any (λ k. nat_le k moment) (filter_map (λ s. until_top s.1) ss)) e)
 one_woke now moment bs (Hears r bound hs) ss e = inl (or_left (is_heard r.task hs) (list_any (λ s. can_top now s.1) ss) e)
+one_woke now moment bs (Awaits r a q o) ss e = inl (or_left (is_some o) (list_any (λ s. can_top now s.1) ss) e)
 one_woke now moment bs (Splits r ns) ss e = cc
 one_woke now moment bs (Ends w f) ss e = cc
 one_woke now moment bs (Breaks p) ss e = cc

@@ -4,3 +4,4 @@ pub mod Waits
 pub mod Kept
 pub mod Takes
 pub mod Offers
+pub mod Replies

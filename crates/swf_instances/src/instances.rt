@@ -19,14 +19,14 @@ use swf_text::Text;
 /// The instances at a moment. Contracts see them in start order, the moment, and how many more fit without memory.
 #[derive(Drop)]
 pub struct Instances {
-    alloc: Global,
+    pub(crate) alloc: Global,
     pub(crate) machines: IndexMap<Text, Machine>,
     pub(crate) queue: Queue,
     /// Of each instance, the least moment that a strand of it waits for.
     pub(crate) alarms: Alarms,
     /// Of each instance, what it listens for.
     pub(crate) listeners: Listeners,
-    /// Those of which that is not noted yet: they came or took a step since room was made last.
+    /// Those of which that is not noted yet: they came, took a step or were answered since room was made last.
     pub(crate) stale: Queue,
     /// The one that was reached last.
     pub(crate) moment: Moment,
@@ -65,7 +65,7 @@ impl Instances {
         }
     }
 
-    /// Makes room for one instance more, and notes what those listen for that came or took a step since it was made last.
+    /// Makes room for one instance more, and notes what those listen for that came, took a step or were answered since it was made last.
     pub fn reserve(&mut self) -> Result<(), AllocError>
         ensures instances { self.new.instances ≡ self.old.instances }
         ensures moment { self.new.moment ≡ self.old.moment }

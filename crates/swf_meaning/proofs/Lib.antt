@@ -1,1 +1,2 @@
 pub mod TopsLemmas
+pub mod ReplyLemmas

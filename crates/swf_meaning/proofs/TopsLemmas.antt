@@ -7,9 +7,9 @@ use Rattle.std.proofs.lemmas.Option.{same_Some}
 use Rattle.std.specs.List.{list_any, cons_option}
 use Rattle.std.specs.Prelude.{Contains, filter_map}
 use Rattle.swf_meaning.specs.Local.{is_enabled}
-use Rattle.swf_meaning.specs.Node.{Node, Fresh, Live, Done, Fault, Inside, At, Later, Sleep, Hear, Forked, Nodes, no_nodes, branch, Round, Running}
+use Rattle.swf_meaning.specs.Node.{Node, Fresh, Live, Done, Fault, Inside, At, Later, Sleep, Hear, Await, Forked, Nodes, no_nodes, branch, Round, Running}
 use Rattle.swf_meaning.specs.Strands.{in_branch, tops, tops_inside, tops_from, strands, branches_in, can_top}
-use Rattle.swf_meaning.specs.Top.{Top, Begins, Moves, Fails, Retries, Sleeps, Hears, Splits, Ends, Breaks, here, top_at, top_inside, top_branch}
+use Rattle.swf_meaning.specs.Top.{Top, Begins, Moves, Fails, Retries, Sleeps, Hears, Awaits, Splits, Ends, Breaks, here, top_at, top_inside, top_branch}
 use Rattle.swf_meaning.specs.Wake.{waits, until_top}
 
 -- ---- a strand is listed with the top that its name finds
@@ -83,6 +83,7 @@ mutual
   found_inside r (Later n until) bs t h = found_here (Retries r n until) bs t h
   found_inside r (Sleep until) bs t h = found_here (Sleeps r until) bs t h
   found_inside r (Hear bound hs) bs t h = found_here (Hears r bound hs) bs t h
+  found_inside r (Await a q o) bs t h = found_here (Awaits r a q o) bs t h
   found_inside r (Forked ns) bs t h = ⊎_elim
       (λ is. ap (λ (s : List ℕ × Top). top_inside s.0 r (Forked ns)) (sym is) ∙ ap (λ (s : List ℕ × Top). Some s.1) is)
       (λ more. found_split r ns bs t (found_from zero ns bs t more))
@@ -108,6 +109,7 @@ mutual
   listed_inside r (Later n until) bs t e = listed_here (Retries r n until) bs t e
   listed_inside r (Sleep until) bs t e = listed_here (Sleeps r until) bs t e
   listed_inside r (Hear bound hs) bs t e = listed_here (Hears r bound hs) bs t e
+  listed_inside r (Await a q o) bs t e = listed_here (Awaits r a q o) bs t e
   listed_inside r (Forked ns) [] t e = (zero, omega arith, ap (λ (x : Top). ([], x)) (same_Some (Splits r ns) t e))
   listed_inside r (Forked ns) (b ∷ bs) t e =
       let same : zero + b ≡ b = omega arith in
@@ -211,6 +213,7 @@ mutual
   has_first_inside r (Later n until) = omega arith
   has_first_inside r (Sleep until) = omega arith
   has_first_inside r (Hear bound hs) = omega arith
+  has_first_inside r (Await a q o) = omega arith
   has_first_inside r (Forked ns) = omega arith
 
 pub strands_among-branch : (n : Node) (ns : Nodes) → strands_among (branch n ns) ≡ branches_in n + 1 + strands_among ns

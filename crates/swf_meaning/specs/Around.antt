@@ -1,5 +1,5 @@
 -- What the tasks inside a task see besides what it sees itself (DSL reference, "For" and "Catch").
-use Rattle.std.specs.Prelude.{ℕ, pos, List, [], ◌∷◌, ◌++◌, slice_get, Option, Some, None}
+use Rattle.std.specs.Prelude.{◌+◌, ℕ, pos, List, [], ◌∷◌, ◌++◌, slice_get, Option, Some, None}
 use Rattle.swf_value.specs.Value.{Value, int}
 use Rattle.swf_jq_eval.specs.declared.vars.Variable.{Variable}
 use Rattle.swf_document.specs.Errors.{problem_value}
@@ -38,5 +38,5 @@ seen l t Seq = record l { around = l.around ++ round_variables (kind_of t) Seq }
 seen l t (Each items j) = record l { around = l.around ++ round_variables (kind_of t) (Each items j) }
 seen l t (Try n) = record l { around = l.around ++ round_variables (kind_of t) (Try n) }
 seen l t (Catch p) = record l { around = l.around ++ round_variables (kind_of t) (Catch p) }
-seen l t Fun = record l { around = [] }
-seen l t (Sub d v c) = record l { document = d; input = v; context = c; around = [] }
+seen l t Fun = record l { around = []; depth = l.depth + 1 }
+seen l t (Sub d v c) = record l { document = d; input = v; context = c; around = []; depth = l.depth + 1 }

@@ -1,9 +1,11 @@
 -- Codes for labels, nodes and worlds, by which a ghost name tells them apart.
 use Rattle.std.specs.Prelude.{◌≡◌, refl, ℕ}
-use Rattle.std.specs.Coded.{Coded, codes, coded_list}
+use Rattle.std.specs.Coded.{Coded, codes, coded_list, coded_option, coded_ℕ}
 use base.Stored.{Gv, gnil, gnum, gcons}
 use mathlib.Core.Path.{ap}
 use Rattle.swf_value.specs.ValueCode.{value_code, members_code}
+use Rattle.swf_calls.specs.Codes.{reply_code}
+use Rattle.swf_calls.specs.Request.{request_code}
 use Rattle.swf_cloudevents.specs.Codes.{event_code}
 use Rattle.swf_document.specs.Code.{head, tail}
 use Rattle.swf_document.specs.DocumentCode.{document_code}
@@ -12,7 +14,7 @@ use Rattle.swf_document.specs.declared.common.Flow.{Flow}
 use Rattle.swf_document.specs.declared.error.Problem.{Problem}
 use Rattle.swf_meaning.specs.declared.heard.Heard.{Heard}
 use Rattle.swf_meaning.specs.declared.label.Label.{Label}
-use Rattle.swf_meaning.specs.Node.{Node, Fresh, Live, Done, Fault, Inside, At, Later, Sleep, Hear, Forked, Nodes, no_nodes, branch, Round, Seq, Each, Try, Catch, Fun, Sub, Running}
+use Rattle.swf_meaning.specs.Node.{Node, Fresh, Live, Done, Fault, Inside, At, Later, Sleep, Hear, Await, Forked, Nodes, no_nodes, branch, Round, Seq, Each, Try, Catch, Fun, Sub, Running}
 use Rattle.swf_meaning.specs.World.{Instance, World}
 
 pub label_code : Coded Label
@@ -65,6 +67,7 @@ abbrev mutual
   code_inside (Later n m) = gcons (gnum 1) (gcons (gnum n) (gnum m))
   code_inside (Sleep m) = gcons (gnum 2) (gnum m)
   code_inside (Hear bound hs) = gcons (gnum 3) (gcons (members_code.code bound) ((coded_list heard_code).code hs))
+  code_inside (Await a q o) = gcons (gnum 5) (gcons ((coded_list coded_ℕ).code a) (gcons (request_code.code q) ((coded_option reply_code).code o)))
   code_inside (Forked ns) = gcons (gnum 4) (code_nodes ns)
 
   code_nodes : Nodes → Gv
@@ -85,6 +88,8 @@ mutual
   code_inside_inj (Later n m) (Later k l) p = λ h. Later (ap (λ g. number_in (head (tail g))) p h) (ap (λ g. number_in (tail (tail g))) p h)
   code_inside_inj (Sleep m) (Sleep l) p = ap (λ g. Sleep (number_in (tail g))) p
   code_inside_inj (Hear a hs) (Hear b ks) p = λ h. Hear (members_code.inj a b (ap (λ g. head (tail g)) p) h) ((coded_list heard_code).inj hs ks (ap (λ g. tail (tail g)) p) h)
+  code_inside_inj (Await a q o) (Await b r w) p =
+      λ h. Await ((coded_list coded_ℕ).inj a b (ap (λ g. head (tail g)) p) h) (request_code.inj q r (ap (λ g. head (tail (tail g))) p) h) ((coded_option reply_code).inj o w (ap (λ g. tail (tail (tail g))) p) h)
   code_inside_inj (Forked ns) (Forked ms) p = λ h. Forked (code_nodes_inj ns ms (ap tail p) h)
   code_inside_inj x y p = cc
 

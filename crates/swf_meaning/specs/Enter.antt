@@ -4,13 +4,17 @@ use Rattle.swf_expr.specs.Expr.{Tree}
 use Rattle.swf_value.specs.Value.{Value}
 use Rattle.swf_document.specs.Task.{Task, Kind, call, do_all, emit, for, fork, listen, raise, run, set, switch, try, wait}
 use Rattle.swf_document.specs.Template.{Template}
+use Rattle.swf_document.specs.declared.call.Callee.{Callee}
+use Rattle.swf_document.specs.declared.call.Callee.TheVariants as callees
 use Rattle.swf_document.specs.declared.common.Flow.TheVariants as flows
 use Rattle.swf_document.specs.declared.error.Problem.{Problem}
 use Rattle.swf_transform.specs.Fill.{fill}
+use Rattle.swf_meaning.specs.Call.{calling_http}
 use Rattle.swf_meaning.specs.Complete.{Stepped, becomes, asked, input_of, complete}
 use Rattle.swf_meaning.specs.Emit.{emitting}
 use Rattle.swf_meaning.specs.For.{looping}
 use Rattle.swf_meaning.specs.Fork.{forking}
+use Rattle.swf_meaning.specs.Function.{calling, running}
 use Rattle.swf_meaning.specs.Line.{Line, Site, within}
 use Rattle.swf_meaning.specs.Listen.{listening}
 use Rattle.swf_meaning.specs.Lists.{comes_to}
@@ -26,16 +30,20 @@ setting l r e = do
   v ← value_of r.task (fill e (within l r) r.input)
   complete l r v
 
--- a task on its transformed input. No kind is left out: `call` and `run` are not built, and give it
+abbrev pub called : Site → Line → Running → Callee → Result Stepped Problem
+called s l r (callees.Http h) = calling_http s l r h
+called s l r (callees.Function n e) = calling l r n e
+
+-- a task on its transformed input
 abbrev pub begun : Site → Line → Running → Kind → Result Stepped Problem
-begun s l r (call c) = complete l r r.input
+begun s l r (call c) = called s l r c
 begun s l r (do_all ts) = comes_to l r Seq zero r.input
 begun s l r (emit e) = emitting s l r e
 begun s l r (for spec ts) = looping l r spec
 begun s l r (fork c ts) = forking s l r ts
 begun s l r (listen spec) = listening l r spec
 begun s l r (raise e) = raising l r e
-begun s l r (run spec) = complete l r r.input
+begun s l r (run spec) = running s l r spec
 begun s l r (set e) = setting l r e
 begun s l r (switch cs) = switched l r cs
 begun s l r (try c ts h) = comes_to l r (Try zero) zero r.input

@@ -23,8 +23,10 @@ pub mod Local
 pub mod World
 pub mod Offer
 pub mod Shared
-pub mod Built
 pub mod Answer
 pub mod Pending
 pub mod Codes
 pub mod Printed
+pub mod Call
+pub mod Function
+pub mod Reply

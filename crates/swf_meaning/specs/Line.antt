@@ -11,7 +11,7 @@ use Rattle.swf_meaning.specs.Parts.{place_of}
 
 -- what every step of a strand goes by besides its tree: the document, whose errors and retries have names; the id of the instance,
 -- when it started, the raw input of its workflow, and the context; and the variables of the loops and of the errors caught around
--- the task that takes the step, those of the innermost last
+-- the task that takes the step, those of the innermost last; and how many functions and sub-workflows are around it
 pub record Line : Type 0 where
   pub document : Document
   pub id : List ℕ
@@ -19,6 +19,7 @@ pub record Line : Type 0 where
   pub input : Value
   pub context : Value
   pub around : List Variable
+  pub depth : ℕ
 
 -- what a step goes by that needs more of the world than its strand: the number of the instance's next event, how many branches the
 -- instance has, the moment, and the loaded documents

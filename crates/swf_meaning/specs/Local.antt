@@ -4,6 +4,7 @@ use Rattle.std.specs.List.{list_any}
 use Rattle.swf_value.specs.Value.{Value}
 use Rattle.swf_document.specs.declared.common.Flow.{Flow}
 use Rattle.swf_document.specs.declared.error.Problem.{Problem}
+use Rattle.swf_meaning.specs.Call.{replied}
 use Rattle.swf_meaning.specs.Complete.{Stepped, step_of}
 use Rattle.swf_meaning.specs.Enter.{enter}
 use Rattle.swf_meaning.specs.Line.{Line, Site}
@@ -14,7 +15,7 @@ use Rattle.swf_meaning.specs.Node.{Node, Round, Seq, Each, Try, Catch, Fun, Sub,
 use Rattle.swf_meaning.specs.Parts.{Catching, kind_of, try_in}
 use Rattle.swf_meaning.specs.Put.{put_at}
 use Rattle.swf_meaning.specs.Strands.{tops, can_top}
-use Rattle.swf_meaning.specs.Top.{Top, Begins, Moves, Fails, Retries, Sleeps, Hears, Splits, Ends, Breaks, top_at, line_at}
+use Rattle.swf_meaning.specs.Top.{Top, Begins, Moves, Fails, Retries, Sleeps, Hears, Awaits, Splits, Ends, Breaks, top_at, line_at}
 use Rattle.swf_meaning.specs.Try.{caught}
 use Rattle.swf_meaning.specs.Wake.{woken, again}
 
@@ -43,6 +44,7 @@ rule s l (Fails r round i p) = Some (failed s l r round p)
 rule s l (Retries r n until) = again s l r n until
 rule s l (Sleeps r until) = woken s l r until
 rule s l (Hears r bound hs) = heard l r hs
+rule s l (Awaits r a q o) = replied l r q o
 rule s l (Splits r ns) = None
 rule s l (Ends w f) = None
 rule s l (Breaks p) = None

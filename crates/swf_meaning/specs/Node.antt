@@ -1,10 +1,12 @@
 -- The tree that an instance is at a moment (DSL, "Concepts", "Workflow" and "Task").
-use Rattle.std.specs.Prelude.{ℕ, List}
+use Rattle.std.specs.Prelude.{ℕ, List, Option}
 use Rattle.swf_value.specs.Value.{Value, Members}
 use Rattle.swf_document.specs.Task.{Task}
 use Rattle.swf_document.specs.declared.common.Flow.{Flow}
 use Rattle.swf_document.specs.declared.document.Document.{Document}
 use Rattle.swf_document.specs.declared.error.Problem.{Problem}
+use Rattle.swf_calls.specs.Request.{Request}
+use Rattle.swf_calls.specs.declared.reply.CallReply.{CallReply}
 use Rattle.swf_meaning.specs.declared.heard.Heard.{Heard}
 
 -- a task at work, with its raw and its transformed input
@@ -34,13 +36,14 @@ mutual
     Fault : Problem → Node
 
   -- what runs inside a task: a place in its list of tasks, and the node there; a `try` that waits until a moment to make that
-  -- retry; a `wait` until a moment; a `listen`, with the values that names are bound to and what it heard; or the branches of a
-  -- `fork`
+  -- retry; a `wait` until a moment; a `listen`, with the values that names are bound to and what it heard; a `call`, with the name of its
+  -- activity, its request, and what it was answered, once it was; or the branches of a `fork`
   pub data Inside : Type 0 where
     At : Round → ℕ → Node → Inside
     Later : ℕ → ℕ → Inside
     Sleep : ℕ → Inside
     Hear : Members → List Heard → Inside
+    Await : List ℕ → Request → Option CallReply → Inside
     Forked : Nodes → Inside
 
   -- branches beside each other, in order

@@ -5,7 +5,7 @@ use Rattle.swf_cloudevents.specs.declared.event.Event.{Event}
 use Rattle.swf_document.specs.Task.{Task}
 use Rattle.swf_document.specs.declared.event.ListenSpec.{ListenSpec}
 use Rattle.swf_meaning.specs.Listen.{takes}
-use Rattle.swf_meaning.specs.Node.{Node, Fresh, Live, Done, Fault, Inside, At, Later, Sleep, Hear, Forked, Nodes, no_nodes, branch, Running}
+use Rattle.swf_meaning.specs.Node.{Node, Fresh, Live, Done, Fault, Inside, At, Later, Sleep, Hear, Await, Forked, Nodes, no_nodes, branch, Running}
 use Rattle.swf_meaning.specs.Parts.{kind_of, listen_in}
 use Rattle.swf_meaning.specs.World.{Instance}
 use Rattle.swf_meaning.specs.declared.heard.Heard.{Heard}
@@ -34,6 +34,7 @@ abbrev mutual
   offered_inside e t (Later n m) = (Later n m, 0)
   offered_inside e t (Sleep m) = (Sleep m, 0)
   offered_inside e t (Hear bound hs) = or_same bound hs (takes_by (listen_in (kind_of t)) bound hs e)
+  offered_inside e t (Await a q o) = (Await a q o, 0)
   offered_inside e t (Forked ns) = let o = offered_among e ns in (Forked o.0, o.1)
 
   pub offered_among : Event → Nodes → Nodes × ℕ

@@ -1,6 +1,9 @@
 -- The parts of a task by name.
 use Rattle.std.specs.Prelude.{ℕ, List, [], Bool, Option, Some, None}
 use Rattle.swf_document.specs.Task.{Task, task, Tasks, Kind, call, do_all, emit, for, fork, listen, raise, run, set, switch, try, wait, Loop, Catch, Handler}
+use Rattle.swf_document.specs.declared.call.Callee.{Callee}
+use Rattle.swf_document.specs.declared.call.Callee.TheVariants as callees
+use Rattle.swf_document.specs.declared.call.HttpSpec.{HttpSpec}
 use Rattle.swf_document.specs.declared.common.Common.{Common}
 use Rattle.swf_document.specs.declared.common.Flow.TheVariants as flows
 use Rattle.swf_document.specs.declared.document.Document.{Document}
@@ -68,6 +71,25 @@ listen_in (set e) = None
 listen_in (switch cs) = None
 listen_in (try c ts h) = None
 listen_in (wait d) = None
+
+-- of a `call: http`, the request that it fills
+abbrev pub http_by : Callee → Option HttpSpec
+http_by (callees.Http h) = Some h
+http_by (callees.Function n e) = None
+
+abbrev pub http_in : Kind → Option HttpSpec
+http_in (call c) = http_by c
+http_in (do_all ts) = None
+http_in (emit e) = None
+http_in (for l ts) = None
+http_in (fork c ts) = None
+http_in (listen l) = None
+http_in (raise e) = None
+http_in (run s) = None
+http_in (set e) = None
+http_in (switch cs) = None
+http_in (try c ts h) = None
+http_in (wait d) = None
 
 -- of a `try`, what it catches, and the list that handles it
 pub record Catching : Type 0 where

@@ -1,14 +1,15 @@
 -- What all instances wait for, and what went out.
-use Rattle.std.specs.Prelude.{ℕ, pos, List, Bool, false, not, codes, map, filter, filter_map, flat_map, take, drop, option_map}
+use Rattle.std.specs.Prelude.{ℕ, pos, List, Bool, false, not, codes, map, filter, filter_map, flat_map, take, drop, Option, Some, None, option_map}
 use Rattle.swf_value.specs.Node.{items_of}
-use Rattle.swf_value.specs.Value.{Value, int, text, list, object, no_items, no_members, member}
+use Rattle.swf_value.specs.Value.{Value, int, text, list, object, no_members, member}
+use Rattle.swf_calls.specs.Request.{Request, request_value}
 use Rattle.swf_cloudevents.specs.Event.{event_value}
 use Rattle.swf_cloudevents.specs.declared.event.Event.{Event}
 use Rattle.swf_meaning.specs.Listen.{is_heard}
 use Rattle.swf_meaning.specs.Node.{Node}
 use Rattle.swf_meaning.specs.Printed.{most_told}
 use Rattle.swf_meaning.specs.Strands.{tops}
-use Rattle.swf_meaning.specs.Top.{Top, Hears}
+use Rattle.swf_meaning.specs.Top.{Top, Hears, Awaits}
 use Rattle.swf_meaning.specs.Wake.{until_top}
 use Rattle.swf_meaning.specs.World.{Instance}
 
@@ -34,16 +35,30 @@ listen_value i bs = object (member (codes "instance") (text i.id) (member (codes
 abbrev pub timer_value : Instance → List ℕ × ℕ → Value
 timer_value i p = object (member (codes "instance") (text i.id) (member (codes "strand") (strand_value p.0) (member (codes "until") (int (pos p.1)) no_members)))
 
+-- the calls that await an answer, ascending by strand, each with its activity
+abbrev pub open_call : Top → Option (List ℕ × Request)
+open_call (Awaits r a q None) = Some (a, q)
+open_call t = None
+
+abbrev pub open_calls : Node → List (List ℕ × Request)
+open_calls n = filter_map (λ s. open_call s.1) (tops n)
+
+abbrev pub call_value : List ℕ × Request → Value
+call_value c = object (member (codes "activity") (text c.0) (member (codes "request") (request_value c.1) no_members))
+
+abbrev pub calls : List Instance → List Value
+calls is = flat_map (λ i. map call_value (open_calls i.node)) is
+
 abbrev pub listens : List Instance → List Value
 listens is = flat_map (λ i. map (listen_value i) (listening i.node)) is
 
 abbrev pub timers : List Instance → List Value
 timers is = flat_map (λ i. map (timer_value i) (waiting i.node)) is
 
--- the calls, the listens and the timers, in start order; no task that is built makes a call
+-- the calls, the listens and the timers, in start order
 abbrev pub pending_value : List Instance → Value
 pending_value is =
-    object (member (codes "calls") (list no_items) (member (codes "listens") (list (items_of (listens is))) (member (codes "timers") (list (items_of (timers is))) no_members)))
+    object (member (codes "calls") (list (items_of (calls is))) (member (codes "listens") (list (items_of (listens is))) (member (codes "timers") (list (items_of (timers is))) no_members)))
 
 -- the events that went out, from that number on
 abbrev pub outbox_value : List Event → ℕ → Value

@@ -5,7 +5,7 @@ use Rattle.swf_meaning.specs.Around.{seen}
 use Rattle.swf_meaning.specs.Complete.{Stepped}
 use Rattle.swf_meaning.specs.Fork.{after_branch}
 use Rattle.swf_meaning.specs.Line.{Line}
-use Rattle.swf_meaning.specs.Node.{Node, Fresh, Live, Done, Fault, Inside, At, Later, Sleep, Hear, Forked, Nodes, no_nodes, branch, Round, Seq, Each, Try, Catch, Fun, Sub, Running}
+use Rattle.swf_meaning.specs.Node.{Node, Fresh, Live, Done, Fault, Inside, At, Later, Sleep, Hear, Await, Forked, Nodes, no_nodes, branch, Round, Seq, Each, Try, Catch, Fun, Sub, Running}
 
 -- a sub-workflow keeps its context itself
 abbrev pub keeping : Round → Value → Round
@@ -45,6 +45,7 @@ abbrev mutual
   put_inside l bs r (Later n until) m = m
   put_inside l bs r (Sleep until) m = m
   put_inside l bs r (Hear bound hs) m = m
+  put_inside l bs r (Await a q o) m = m
   put_inside l [] r (Forked ns) m = m
   put_inside l (b ∷ bs) r (Forked ns) m = after_branch l r ns b (put_branch l b bs ns m)
 

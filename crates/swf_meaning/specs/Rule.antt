@@ -1,6 +1,5 @@
 -- How the parts of a rule follow each other.
 use Rattle.std.specs.Prelude.{ℕ, List, Result, Ok, Err, codes}
-use Rattle.swf_value.specs.Value.{Value}
 use Rattle.swf_document.specs.Errors.{standard}
 use Rattle.swf_document.specs.Task.{Task}
 use Rattle.swf_document.specs.declared.error.ErrorKind.{ErrorKind}
@@ -21,8 +20,8 @@ Err p >>= f = Err p
 abbrev pub fails : {A : Type 0} → Task → ErrorKind → List ℕ → Result A Problem
 fails t k detail = Err (standard k (place_of t) detail)
 
--- the value that was evaluated for a task, or the task's error
-abbrev pub value_of : Task → Got Value → Result Value Problem
+-- what was evaluated for a task, or the task's error
+abbrev pub value_of : {A : Type 0} → Task → Got A → Result A Problem
 value_of t (gots.Value v) = Ok v
 value_of t (gots.Raised m) = fails t kinds.Expression (message m)
 value_of t gots.TooLarge = fails t kinds.Runtime (codes "value limit")

@@ -4,7 +4,7 @@ use Rattle.swf_document.specs.Task.{Kind, call, do_all, emit, for, fork, listen,
 use Rattle.swf_meaning.specs.Documents.{Loaded}
 use Rattle.swf_meaning.specs.Node.{Node, Round, Seq, Each, Try, Catch, Fun, Sub}
 use Rattle.swf_meaning.specs.Parts.{Catching, kind_of, try_in}
-use Rattle.swf_meaning.specs.Top.{Top, Begins, Moves, Fails, Retries, Sleeps, Hears, Splits, Ends, Breaks, top_at, top_is}
+use Rattle.swf_meaning.specs.Top.{Top, Begins, Moves, Fails, Retries, Sleeps, Hears, Awaits, Splits, Ends, Breaks, top_at, top_is}
 use Rattle.swf_meaning.specs.World.{Instance, step_at, with_step}
 
 -- entering a task of these kinds
@@ -43,6 +43,7 @@ is_shared_top (Fails r round i p) = is_shared_error round (kind_of r.task)
 is_shared_top (Retries r n until) = false
 is_shared_top (Sleeps r until) = false
 is_shared_top (Hears r bound hs) = false
+is_shared_top (Awaits r a q o) = false
 is_shared_top (Splits r ns) = false
 is_shared_top (Ends w f) = false
 is_shared_top (Breaks p) = false

@@ -6,12 +6,14 @@ use Rattle.swf_document.specs.declared.common.Flow.{Flow}
 use Rattle.swf_document.specs.declared.error.Problem.{Problem}
 use Rattle.swf_meaning.specs.Around.{seen}
 use Rattle.swf_meaning.specs.Line.{Line}
-use Rattle.swf_meaning.specs.Node.{Node, Fresh, Live, Done, Fault, Inside, At, Later, Sleep, Hear, Forked, Nodes, no_nodes, branch, Round, Running}
+use Rattle.swf_meaning.specs.Node.{Node, Fresh, Live, Done, Fault, Inside, At, Later, Sleep, Hear, Await, Forked, Nodes, no_nodes, branch, Round, Running}
+use Rattle.swf_calls.specs.Request.{Request}
+use Rattle.swf_calls.specs.declared.reply.CallReply.{CallReply}
 use Rattle.swf_meaning.specs.declared.heard.Heard.{Heard}
 
 -- a task that has not begun, with its raw input; a list in a round whose task at a place is done, or ended in an error; a `try` that
 -- waits until a moment to make that retry; a `wait` until a moment; a `listen`, with the values that names are bound to and what it
--- heard; a `fork`, whose branches are strands of their own; and a strand that is over, with its output or in an error
+-- heard; a `call`, with its activity, its request and its answer; a `fork`, whose branches are strands of their own; and a strand that is over, with its output or in an error
 pub data Top : Type 0 where
   Begins : Task → Value → Top
   Moves : Running → Round → ℕ → Value → Flow → Top
@@ -19,6 +21,7 @@ pub data Top : Type 0 where
   Retries : Running → ℕ → ℕ → Top
   Sleeps : Running → ℕ → Top
   Hears : Running → Members → List Heard → Top
+  Awaits : Running → List ℕ → Request → Option CallReply → Top
   Splits : Running → Nodes → Top
   Ends : Value → Flow → Top
   Breaks : Problem → Top
@@ -43,6 +46,7 @@ abbrev mutual
   top_inside bs r (Later n until) = here bs (Retries r n until)
   top_inside bs r (Sleep until) = here bs (Sleeps r until)
   top_inside bs r (Hear bound hs) = here bs (Hears r bound hs)
+  top_inside bs r (Await a q o) = here bs (Awaits r a q o)
   top_inside [] r (Forked ns) = Some (Splits r ns)
   top_inside (b ∷ bs) r (Forked ns) = top_branch b bs ns
 
@@ -71,6 +75,7 @@ abbrev mutual
   line_inside l bs r (Later n until) = l
   line_inside l bs r (Sleep until) = l
   line_inside l bs r (Hear bound hs) = l
+  line_inside l bs r (Await a q o) = l
   line_inside l [] r (Forked ns) = l
   line_inside l (b ∷ bs) r (Forked ns) = line_branch l b bs ns
 

@@ -37,7 +37,7 @@ empty = record { documents = []; instances = []; keys = []; now = 0; outbox = []
 
 -- what every step of an instance goes by, outside all tasks
 abbrev pub line_of : Instance → Line
-line_of i = record { document = i.document; id = i.id; started = i.started; input = i.input; context = i.context; around = [] }
+line_of i = record { document = i.document; id = i.id; started = i.started; input = i.input; context = i.context; around = []; depth = 0 }
 
 -- and what some go by besides, at a moment, where these documents are loaded
 abbrev pub site_of : ℕ → List Loaded → Instance → Site

@@ -6,7 +6,7 @@ use Rattle.std.specs.Prelude.{flat_map}
 use Rattle.swf_value.specs.Value.{Members}
 use Rattle.swf_frames.specs.Tree.{Tree, Branch, find}
 use Rattle.swf_frames.specs.Paths.{nth}
-use Rattle.swf_meaning.specs.Node.{Node, Fresh, Live, Done, Fault, Inside, At, Later, Sleep, Hear, Forked, Nodes, no_nodes, branch, Round, Running}
+use Rattle.swf_meaning.specs.Node.{Node, Fresh, Live, Done, Fault, Inside, At, Later, Sleep, Hear, Await, Forked, Nodes, no_nodes, branch, Round, Running}
 use Rattle.swf_meaning.specs.Strands.{in_branch, tops, tops_from}
 use Rattle.swf_meaning.specs.declared.heard.Heard.{Heard}
 use Rattle.swf_catalog.specs.Rounds.{round_of}
@@ -123,6 +123,7 @@ mutual
   none-inside b bs m r (Later n until) own all = all
   none-inside b bs m r (Sleep until) own all = all
   none-inside b bs m r (Hear bound hs) own all = all
+  none-inside b bs m r (Await a q o) own all = all
   none-inside b bs m r (Forked ns) own all = none-among b bs m ns own all
 
   none-among : (b : ℕ) (bs : List ℕ) (m : Node) (ns : Nodes) → event_types m ≡ [] → event_types_among ns ≡ [] → event_types_among (replaced_among b bs m ns) ≡ []

@@ -29,6 +29,7 @@ hearing-top (tops.Fault p) q bound hs e = cc
 hearing-top (tops.Waiting r None m) q bound hs e = cc
 hearing-top (tops.Waiting r (Some n) m) q bound hs e = cc
 hearing-top (tops.Hearing r c gs) q bound hs e = cc
+hearing-top (tops.Awaiting r a y o) q bound hs e = cc
 hearing-top (tops.Forked r) q bound hs e = cc
 
 -- what took nothing stands as it was
@@ -42,6 +43,7 @@ offered-none e (tops.Done w d) h = refl
 offered-none e (tops.Fault p) h = refl
 offered-none e (tops.Waiting r n m) h = refl
 offered-none e (tops.Hearing r bound hs) h = none-taken r bound hs (takes_by (listen_in (kind_of r.task)) bound hs e) (ap (λ (o : Node × ℕ). o.1) h)
+offered-none e (tops.Awaiting r a q o) h = refl
 offered-none e (tops.Forked r) h = refl
 
 -- what took the event is what listens after it
@@ -57,4 +59,5 @@ offered-some e (tops.Waiting r None m) x h = absurd (one-zero (ap (λ (o : Node 
 offered-some e (tops.Waiting r (Some n) m) x h = absurd (one-zero (ap (λ (o : Node × ℕ). o.1) h))
 offered-some e (tops.Hearing r bound hs) x h =
     one-taken x r bound hs (takes_by (listen_in (kind_of r.task)) bound hs e) (ap (λ (o : Node × ℕ). o.0) h) (ap (λ (o : Node × ℕ). o.1) h)
+offered-some e (tops.Awaiting r a q o) x h = absurd (one-zero (ap (λ (o : Node × ℕ). o.1) h))
 offered-some e (tops.Forked r) x h = absurd (one-zero (ap (λ (o : Node × ℕ). o.1) h))

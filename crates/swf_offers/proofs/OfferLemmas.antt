@@ -72,6 +72,7 @@ fork-after e (tops.Done w d) = refl
 fork-after e (tops.Fault p) = refl
 fork-after e (tops.Waiting r n m) = refl
 fork-after e (tops.Hearing r bound hs) = no-fork-heard r bound hs _
+fork-after e (tops.Awaiting r a q o) = refl
 fork-after e (tops.Forked r) = refl
 
 numbers-strands : (e : Event) (ss : Strands Stand) → numbers (offered_strands e ss) ≡ numbers ss
@@ -274,6 +275,7 @@ top-offered e (tops.Fault p) ns isnt = refl
 top-offered e (tops.Waiting r None m) ns isnt = refl
 top-offered e (tops.Waiting r (Some n) m) ns isnt = refl
 top-offered e (tops.Hearing r bound hs) ns isnt = heard-node-by r bound hs (takes_by (listen_in (kind_of r.task)) bound hs e) ns
+top-offered e (tops.Awaiting r a q o) ns isnt = refl
 top-offered e (tops.Forked r) ns isnt = cc
 
 stands-offered : (e : Event) (ls : List Stand) (ns : Nodes) → IsOne ls → strand_node (offered_stands e ls) ns ≡ plug (frames_of ls) (forked (top_node (offered_top e (top_of ls))) ns)

@@ -26,6 +26,7 @@ offered_top e (tops.Fresh t v) = tops.Fresh t v
 offered_top e (tops.Done w f) = tops.Done w f
 offered_top e (tops.Fault p) = tops.Fault p
 offered_top e (tops.Waiting r n m) = tops.Waiting r n m
+offered_top e (tops.Awaiting r a q o) = tops.Awaiting r a q o
 offered_top e (tops.Forked r) = tops.Forked r
 
 -- what stands innermost after an event that it takes, where it takes it

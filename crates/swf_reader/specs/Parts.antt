@@ -14,8 +14,8 @@ use Rattle.swf_document.specs.declared.call.Callee.TheVariants as callee
 use Rattle.swf_document.specs.declared.call.Endpoint.{Endpoint}
 use Rattle.swf_document.specs.declared.call.Endpoint.TheVariants as endpoint
 use Rattle.swf_document.specs.declared.call.HttpSpec.{HttpSpec}
-use Rattle.swf_document.specs.declared.call.Method.{Method}
-use Rattle.swf_document.specs.declared.call.Method.TheVariants as method
+use Rattle.swf_calls.specs.declared.method.Method.{Method}
+use Rattle.swf_calls.specs.declared.method.Method.TheVariants as method
 use Rattle.swf_document.specs.declared.common.Case.{Case}
 use Rattle.swf_document.specs.declared.common.Common.{Common}
 use Rattle.swf_document.specs.declared.common.Flow.{Flow}

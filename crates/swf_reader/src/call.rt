@@ -5,7 +5,8 @@ ghost use Rattle.swf_reader.specs.Parts.{part, endpoint_run, endpoint_text, endp
 use crate::parts::{flag_at, part, text_in, text_part, tree_of};
 use crate::template::{named_templates_of, template_at};
 use std::alloc::{AllocError, Global};
-use swf_document::{Boxed, Callee, DocKey, Endpoint, HttpSpec, Method, RunSpec};
+use swf_calls::Method;
+use swf_document::{Boxed, Callee, DocKey, Endpoint, HttpSpec, RunSpec};
 use swf_expr::Expr;
 use swf_forms::{characters, inner, is_enclosed, method_of, trimmed};
 use swf_shapes::field;

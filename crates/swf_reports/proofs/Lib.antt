@@ -1,3 +1,4 @@
 pub mod ReportLemmas
 pub mod PendingLemmas
 pub mod StrandsLemmas
+pub mod CallLemmas

@@ -1,12 +1,13 @@
 // What all instances wait for, and the events that went out.
 ghost use Rattle.std.specs.Prelude.{◌≡◌, ◌++◌, ◌∷◌, [], IfOk, OnOk, IsTrue, codes, drop, map, take, option_to_list, if◌then◌else◌};
 ghost use Rattle.swf_text.specs.Same.{is_ascii};
-ghost use Rattle.swf_value.specs.Value.{list, member, no_items, no_members, object, text};
+ghost use Rattle.swf_value.specs.Value.{list, member, no_members, object, text};
 ghost use Rattle.swf_value.specs.Node.{items_of};
 ghost use Rattle.swf_meaning.specs.Pending.{listening, waiting, strand_value, listen_value, timer_value, pending_value, outbox_value};
 ghost use Rattle.swf_meaning.specs.Printed.{most_told};
 ghost use Rattle.swf_strands.specs.Ways.{listens_at, until_at};
 
+use crate::calls::{call_values, open_calls};
 use std::alloc::{AllocError, Global};
 use swf_cloudevents::{Event, event_json};
 use swf_instances::Instances;
@@ -20,24 +21,30 @@ const MOST_TOLD: usize = 100;
 /// The greatest number that a value holds.
 const GREATEST: u64 = 9_007_199_254_740_991;
 
-/// The listens and the timers of all instances, in start order. No task that is built makes a call.
+/// The calls, the listens and the timers of all instances, in start order.
 pub fn pending(alloc: Global, instances: &Instances) -> Result<Json, AllocError>
     ensures { IfOk result (λ v. v ≡ pending_value instances.now.instances) }
 {
+    let calls = call_values(alloc, &open_calls(alloc, instances)?)?;
     let mut listens = Vec::new(alloc);
     let mut timers = Vec::new(alloc);
     for number in 0..instances.len() {
         push_instance(alloc, &mut listens, &mut timers, instances.at(number))?;
     }
-    waits_value(alloc, listens, timers)
+    waits_value(alloc, calls, listens, timers)
 }
 
-// The value of these listens and timers.
-fn waits_value(alloc: Global, listens: Vec<Json>, timers: Vec<Json>) -> Result<Json, AllocError>
-    ensures { IfOk result (λ v. v ≡ object (member (codes "calls") (list no_items) (member (codes "listens") (list (items_of listens.items)) (member (codes "timers") (list (items_of timers.items)) no_members)))) }
+// The value of these calls, listens and timers.
+fn waits_value(
+    alloc: Global,
+    calls: Vec<Json>,
+    listens: Vec<Json>,
+    timers: Vec<Json>,
+) -> Result<Json, AllocError>
+    ensures { IfOk result (λ v. v ≡ object (member (codes "calls") (list (items_of calls.items)) (member (codes "listens") (list (items_of listens.items)) (member (codes "timers") (list (items_of timers.items)) no_members)))) }
 {
     let mut members = Vec::new(alloc);
-    members.push(list_member(alloc, "calls", Vec::new(alloc))?)?;
+    members.push(list_member(alloc, "calls", calls)?)?;
     members.push(list_member(alloc, "listens", listens)?)?;
     members.push(list_member(alloc, "timers", timers)?)?;
     Json::object(alloc, members)

@@ -21,8 +21,8 @@ ending l r compete outputs (tops.Done w f) = if compete then Some (complete l r 
 ending l r compete outputs k = None
 
 -- the step of a rule, where it applies
-abbrev pub MakesSome : Option (Result Stepped Problem) → Result (Option Made) Halt → Type 0
-MakesSome m (Ok None) = m ≡ None
-MakesSome m (Ok (Some x)) = m ≡ Some (Ok (stepped_of x))
-MakesSome m (Err (halts.Fault p)) = m ≡ Some (Err p)
-MakesSome m (Err halts.OutOfMemory) = Unit {0}
+abbrev pub MakesSome : Line → Option (Result Stepped Problem) → Result (Option Made) Halt → Type 0
+MakesSome l m (Ok None) = m ≡ None
+MakesSome l m (Ok (Some x)) = m ≡ Some (Ok (stepped_of l x))
+MakesSome l m (Err (halts.Fault p)) = m ≡ Some (Err p)
+MakesSome l m (Err halts.OutOfMemory) = Unit {0}

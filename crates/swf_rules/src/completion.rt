@@ -1,11 +1,13 @@
 // How a task ends (DSL 1.0.0, "Data flow").
 ghost use Rattle.std.specs.Prelude.{◌≡◌, IfOk, Result};
 ghost use Rattle.swf_document.specs.declared.error.Problem.{Problem};
-ghost use Rattle.swf_meaning.specs.Complete.{Stepped, input_of, output_of, exported, finished, complete_by, complete, step_of};
+ghost use Rattle.swf_meaning.specs.Complete.{Stepped, input_of, output_of, exported, complete_by, complete, step_of};
+ghost use Rattle.swf_meaning.specs.Line.{Line};
 ghost use Rattle.swf_meaning.specs.Parts.{common_of};
 ghost use Rattle.swf_rules.specs.Rules.{line_in};
 ghost use Rattle.swf_scene.specs.Halts.{Gives, Makes};
-ghost use Rattle.swf_stack.specs.Stack.{made_node, stepped_of};
+ghost use Rattle.swf_stack.specs.Stack.{stepped_of};
+ghost use Rattle.swf_stack.specs.declared.made.Top.TheVariants.{Done};
 ghost use Rattle.swf_scene.specs.Setting.{line_of};
 
 use crate::rule::Rule;
@@ -30,32 +32,33 @@ pub fn input_of(alloc: Global, scene: &Scene, task: &TaskRef, raw: &Json) -> Res
     }
 }
 
-/// What a task comes to in which nothing runs, with this context.
-pub fn becoming(alloc: Global, top: Top, context: Json) -> Result<Made, AllocError>
-    ensures { IfOk result (λ m. stepped_of m ≡ record { node = made_node top; context = context; used = 0; emitted = None }) }
+/// What a task comes to in which nothing runs.
+pub fn becoming(alloc: Global, top: Top) -> Result<Made, AllocError>
+    ensures { IfOk result (λ m. m ≡ record { frame = None; top = top; context = None; used = 0; emitted = None }) }
 {
     Ok(Made {
         frame: None,
         top: Boxed::new(alloc, top)?,
-        context,
+        context: None,
+        used: 0,
         emitted: None,
     })
 }
 
 /// A task that is done.
-pub fn finished(alloc: Global, output: Json, flow: Flow, context: Json) -> Result<Made, AllocError>
-    ensures { IfOk result (λ m. stepped_of m ≡ finished output flow context) }
+pub fn finished(alloc: Global, output: Json, flow: Flow) -> Result<Made, AllocError>
+    ensures { IfOk result (λ m. m ≡ record { frame = None; top = Done output flow; context = None; used = 0; emitted = None }) }
 {
-    becoming(alloc, Top::Done { output, flow }, context)
+    becoming(alloc, Top::Done { output, flow })
 }
 
 /// The step of a rule, which ends the task in its error where it gives one.
-pub fn step_of(alloc: Global, scene: &Scene, given: Result<Made, Halt>) -> Result<Made, AllocError>
-    ensures { IfOk result (λ made. (m : Result Stepped Problem) → Makes m given → stepped_of made ≡ step_of (line_of scene.entry.now) m) }
+pub fn step_of(alloc: Global, given: Result<Made, Halt>) -> Result<Made, AllocError>
+    ensures { IfOk result (λ made. (l : Line) (m : Result Stepped Problem) → Makes l m given → stepped_of l made ≡ step_of l m) }
 {
     match given {
         Ok(made) => Ok(made),
-        Err(Halt::Fault(problem)) => becoming(alloc, Top::Fault(problem), scene.context.copy()?),
+        Err(Halt::Fault(problem)) => becoming(alloc, Top::Fault(problem)),
         Err(Halt::OutOfMemory) => Err(AllocError),
     }
 }
@@ -76,22 +79,26 @@ impl Rule<'_> {
 
     // `export.as` makes the context of the transformed output.
     fn exported(&self, flow: Flow, output: Json) -> Result<Made, Halt>
-        ensures { Makes (exported (line_in self.now) self.now.running.now flow output (common_of self.now.running.now.task).export_as) result }
+        ensures { Makes (line_in self.now) (exported (line_in self.now) self.now.running.now flow output (common_of self.now.running.now.task).export_as) result }
     {
         match self.running.task().export_as() {
-            None => Ok(finished(self.alloc, output, flow, self.scene.context.copy()?)?),
+            None => Ok(finished(self.alloc, output, flow)?),
             Some(template) => {
                 let sight = self.within()?;
                 let vars = behind(self.alloc, self.scene, sight.vars(), &output)?;
                 let context = self.value_of(fill(self.alloc, template, &vars, &output)?)?;
-                Ok(finished(self.alloc, output, flow, context)?)
+                let made = finished(self.alloc, output, flow)?;
+                Ok(Made {
+                    context: Some(context),
+                    ..made
+                })
             }
         }
     }
 
     /// The task ends with a raw output, and control goes on by a flow.
     pub(crate) fn complete_by(&self, flow: Flow, given: Json) -> Result<Made, Halt>
-        ensures { Makes (complete_by (line_in self.now) self.now.running.now flow given) result }
+        ensures { Makes (line_in self.now) (complete_by (line_in self.now) self.now.running.now flow given) result }
     {
         if !is_within(&given) {
             return Err(self.fails(ErrorKind::Runtime, "value limit"));
@@ -112,7 +119,7 @@ impl Rule<'_> {
 
     /// The task ends with a raw output, and control goes on by its own `then`.
     pub fn complete(&self, given: Json) -> Result<Made, Halt>
-        ensures { Makes (complete (line_in self.now) self.now.running.now given) result }
+        ensures { Makes (line_in self.now) (complete (line_in self.now) self.now.running.now given) result }
     {
         let flow = self.running.task().flow()?;
         self.complete_by(flow, given)

@@ -1,5 +1,7 @@
 // An `emit` (DSL 1.0.0, reference, "Emit").
-ghost use Rattle.std.specs.Prelude.{◌≡◌, IfOk, decimal};
+ghost use Rattle.std.specs.Prelude.{◌≡◌, IfOk, Result, decimal};
+ghost use Rattle.swf_document.specs.declared.error.Problem.{Problem};
+ghost use Rattle.swf_meaning.specs.Complete.{Stepped, step_of};
 ghost use Rattle.swf_meaning.specs.Emit.{next_id, with_own, sending, emits, emitting};
 ghost use Rattle.swf_cloudevents.specs.Event.{event_of};
 ghost use Rattle.swf_rules.specs.Rules.{line_in, site_in};
@@ -25,19 +27,9 @@ fn digits(alloc: Global, number: u64) -> Result<Text, AllocError>
     Text::from_string(alloc, digits)
 }
 
-// With the event that goes out.
-fn with_event(made: Made, event: SentEvent) -> Made
-    ensures { stepped_of result ≡ sending event (stepped_of made) }
-{
-    Made {
-        emitted: Some(event),
-        ..made
-    }
-}
-
 impl Rule<'_> {
-    // The id of the instance, `/` and the number of its next event.
-    fn next_id(&self) -> Result<Text, AllocError>
+    /// The id of the instance, `/` and the instance's next number.
+    pub fn next_id(&self) -> Result<Text, AllocError>
         ensures { IfOk result (λ t. t ≡ next_id (site_in self.now) (line_in self.now)) }
     {
         let digits = digits(self.alloc, self.scene.setting.number)?;
@@ -61,15 +53,27 @@ impl Rule<'_> {
         Ok(value)
     }
 
+    // The step of a rule with the event that goes out, which uses a number.
+    fn with_event(&self, given: Result<Made, Halt>, event: SentEvent) -> Result<Made, AllocError>
+        ensures { IfOk result (λ made. (m : Result Stepped Problem) → Makes (line_in self.now) m given → stepped_of (line_in self.now) made ≡ sending event (step_of (line_in self.now) m)) }
+    {
+        let made = step_of(self.alloc, given)?;
+        Ok(Made {
+            used: 1,
+            emitted: Some(event),
+            ..made
+        })
+    }
+
     // What is an event goes out, whatever becomes of the task.
     fn emits(&self, value: &Json) -> Result<Made, Halt>
-        ensures { Makes (emits (line_in self.now) self.now.running.now (event_of value.now)) result }
+        ensures { Makes (line_in self.now) (emits (line_in self.now) self.now.running.now (event_of value.now)) result }
     {
         match read_event(self.alloc, value) {
             Ok(event) => {
                 let event = Boxed::new(self.alloc, event)?;
                 let given = self.complete(self.running.input().copy()?);
-                Ok(with_event(step_of(self.alloc, self.scene, given)?, event))
+                Ok(self.with_event(given, event)?)
             }
             Err(EventFault::Bad { .. }) => Err(self.fails(ErrorKind::Validation, "bad event")),
             Err(EventFault::OutOfMemory) => Err(Halt::OutOfMemory),
@@ -78,7 +82,7 @@ impl Rule<'_> {
 
     /// An `emit` sends the event of the attributes that its template gives.
     pub fn emitting(&self, template: &Template) -> Result<Made, Halt>
-        ensures { Makes (emitting (site_in self.now) (line_in self.now) self.now.running.now template.now) result }
+        ensures { Makes (line_in self.now) (emitting (site_in self.now) (line_in self.now) self.now.running.now template.now) result }
     {
         let value = self.filled(template)?;
         let value = self.with_own(value)?;

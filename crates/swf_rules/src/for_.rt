@@ -14,7 +14,7 @@ use swf_value::{Json, JsonNode};
 impl Rule<'_> {
     /// A `for` goes over the items of the list that its `in` gives.
     pub fn looping(&self, spec: &ForSpec) -> Result<Made, Halt>
-        ensures { Makes (looping (line_in self.now) self.now.running.now (loop_of spec.now)) result }
+        ensures { Makes (line_in self.now) (looping (line_in self.now) self.now.running.now (loop_of spec.now)) result }
     {
         let sight = self.within()?;
         let items = first(self.alloc, &spec.items, sight.vars(), self.running.input())?;
@@ -25,7 +25,7 @@ impl Rule<'_> {
     // The first iteration over the items of a list; any other value is an error.
     #[tactic(auto, using(swf_jq_builtins::proofs::Lists::values_of_items_of))]
     fn over(&self, items: &Json) -> Result<Made, Halt>
-        ensures { Makes (over (line_in self.now) self.now.running.now items.now) result }
+        ensures { Makes (line_in self.now) (over (line_in self.now) self.now.running.now items.now) result }
     {
         match items.node() {
             JsonNode::List(items) => self.iteration(items.copy()?, 0, self.running.input().copy()?),

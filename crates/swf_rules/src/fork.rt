@@ -30,7 +30,7 @@ impl Rule<'_> {
     #[tactic(auto, using(crate::proofs::ForkLemmas::count_fresh))]
     pub fn forking(&self, spec: &ForkSpec) -> Result<Made, Halt>
         requires { kind_of self.now.running.now.task ≡ fork spec.now.compete spec.now.branches }
-        ensures { Makes (forking (site_in self.now) (line_in self.now) self.now.running.now spec.now.branches) result }
+        ensures { Makes (line_in self.now) (forking (site_in self.now) (line_in self.now) self.now.running.now spec.now.branches) result }
     {
         let branches = spec.branches.as_slice();
         if self.has_room(branches.len()) {
@@ -43,14 +43,13 @@ impl Rule<'_> {
     // Its branches begin. A `fork` without any is complete.
     fn split(&self, branches: &[Named]) -> Result<Made, Halt>
         requires { branches_of self.now.running.now.task ≡ tasks_of branches.now }
-        ensures { Makes (split (line_in self.now) self.now.running.now (fresh (tasks_of branches.now) self.now.running.now.input)) result }
+        ensures { Makes (line_in self.now) (split (line_in self.now) self.now.running.now (fresh (tasks_of branches.now) self.now.running.now.input)) result }
     {
         if branches.is_empty() {
             return self.complete(Json::list(self.alloc, Vec::new(self.alloc))?);
         }
         let top = Top::Forked(self.running.copy()?);
-        let made = becoming(self.alloc, top, self.scene.context.copy()?)?;
-        Ok(made)
+        Ok(becoming(self.alloc, top)?)
     }
 
     /// What becomes of a `fork` one of whose branches ended, with the outputs of all once all are done; none where the others go
@@ -61,17 +60,14 @@ impl Rule<'_> {
         ended: &Top,
         outputs: Option<Json>,
     ) -> Result<Option<Made>, Halt>
-        ensures { MakesSome (ending (line_in self.now) self.now.running.now compete outputs ended.now) result }
+        ensures { MakesSome (line_in self.now) (ending (line_in self.now) self.now.running.now compete outputs ended.now) result }
     {
         match ended {
             Top::Fault(problem) => Err(Halt::Fault(problem.copy()?)),
             Top::Done {
                 output,
                 flow: Flow::End,
-            } => {
-                let context = self.scene.context.copy()?;
-                Ok(Some(finished(self.alloc, output.copy()?, Flow::End, context)?))
-            }
+            } => Ok(Some(finished(self.alloc, output.copy()?, Flow::End)?)),
             Top::Done { output, .. } if compete => Ok(Some(self.complete(output.copy()?)?)),
             Top::Done { .. } => match outputs {
                 Some(outputs) => Ok(Some(self.complete(outputs)?)),

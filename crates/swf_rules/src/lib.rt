@@ -14,6 +14,6 @@ mod switch;
 mod try_;
 mod wait;
 
-pub use completion::{finished, input_of, step_of};
+pub use completion::{becoming, finished, input_of, step_of};
 pub use next::{failed, moved_on};
 pub use rule::Rule;

@@ -88,7 +88,7 @@ impl Rule<'_> {
 
     /// A `listen` begins.
     pub fn listening(&self, spec: &ListenSpec) -> Result<Made, Halt>
-        ensures { Makes (listening (line_in self.now) self.now.running.now spec.now) result }
+        ensures { Makes (line_in self.now) (listening (line_in self.now) self.now.running.now spec.now) result }
     {
         let sight = self.within()?;
         let bound = self.bound_of(sight.vars(), spec.filters.as_slice())?;
@@ -97,12 +97,12 @@ impl Rule<'_> {
             bound,
             heard: Listing::of(self.alloc, Vec::new(self.alloc))?,
         };
-        Ok(becoming(self.alloc, top, self.scene.context.copy()?)?)
+        Ok(becoming(self.alloc, top)?)
     }
 
     /// A `listen` that heard all is complete.
     pub fn heard(&self, spec: &ListenSpec, heard: &[Heard]) -> Result<Made, Halt>
-        ensures { Makes (complete (line_in self.now) self.now.running.now (events_of spec.now heard.now)) result }
+        ensures { Makes (line_in self.now) (complete (line_in self.now) self.now.running.now (events_of spec.now heard.now)) result }
     {
         self.complete(events_of(self.alloc, spec, heard)?)
     }

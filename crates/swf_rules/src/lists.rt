@@ -38,7 +38,7 @@ fn begins_with(child: Option<TaskRef>, value: Json) -> Top
 impl Rule<'_> {
     /// Control comes to a place of the task's list with a value; past the last task the list ends.
     pub fn comes_to(&self, round: Round, place: usize, value: Json) -> Result<Made, Halt>
-        ensures { Makes (comes_to (line_in self.now) self.now.running.now (round_of round) place value) result }
+        ensures { Makes (line_in self.now) (comes_to (line_in self.now) self.now.running.now (round_of round) place value) result }
     {
         let Some(task) = self.running.task().child(&round, place)? else {
             return self.list_ended(round, value);
@@ -48,7 +48,7 @@ impl Rule<'_> {
 
     /// The task's list has ended with a value: a `for` goes on to its next iteration, and any other task is complete.
     pub(crate) fn list_ended(&self, round: Round, value: Json) -> Result<Made, Halt>
-        ensures { Makes (list_ended (line_in self.now) self.now.running.now (round_of round) value) result }
+        ensures { Makes (line_in self.now) (list_ended (line_in self.now) self.now.running.now (round_of round) value) result }
     {
         match round {
             Round::Each(Iteration { items, number }) => self.iteration(items, number + 1, value),
@@ -58,7 +58,7 @@ impl Rule<'_> {
 
     /// The iteration of a number begins with a value, unless no item is left.
     pub(crate) fn iteration(&self, items: JsonList, number: u64, value: Json) -> Result<Made, Halt>
-        ensures { Makes (iteration (line_in self.now) self.now.running.now items number value) result }
+        ensures { Makes (line_in self.now) (iteration (line_in self.now) self.now.running.now items number value) result }
     {
         if number as usize >= items.as_slice().len() {
             return self.complete(value);
@@ -72,7 +72,7 @@ impl Rule<'_> {
 
     // `while` is asked before an iteration.
     fn iteration_guarded(&self, round: Round, value: Json) -> Result<Made, Halt>
-        ensures { Makes (iteration_guarded (line_in self.now) self.now.running.now (round_of round) value (guard_of self.now.running.now.task)) result }
+        ensures { Makes (line_in self.now) (iteration_guarded (line_in self.now) self.now.running.now (round_of round) value (guard_of self.now.running.now.task)) result }
     {
         let Some(condition) = self.running.task().guard() else {
             return self.iteration_begins(round, value);
@@ -95,18 +95,17 @@ impl Rule<'_> {
 
     // An iteration begins with the first task of the list.
     fn iteration_begins(&self, round: Round, value: Json) -> Result<Made, Halt>
-        ensures { Makes (Ok (iteration_begins (line_in self.now) self.now.running.now (round_of round) value)) result }
+        ensures { Makes (line_in self.now) (Ok (iteration_begins (line_in self.now) self.now.running.now (round_of round) value)) result }
     {
         let child = self.running.task().child(&round, 0)?;
         Ok(self.holding(round, 0, begins_with(child, value))?)
     }
 
-    // The task runs its list in a round, and this stands at a place of it.
-    fn holding(&self, round: Round, place: usize, top: Top) -> Result<Made, AllocError>
+    /// The task runs its list in a round, and this stands at a place of it.
+    pub fn holding(&self, round: Round, place: usize, top: Top) -> Result<Made, AllocError>
         requires { place < 2 ^ 64 - 1 }
-        ensures { IfOk result (λ m. stepped_of m ≡ becomes (line_in self.now) (Live self.now.running.now (At (round_of round) place (made_node top)))) }
+        ensures { IfOk result (λ m. stepped_of (line_in self.now) m ≡ becomes (line_in self.now) (Live self.now.running.now (At (round_of round) place (made_node top)))) }
     {
-        let context = self.scene.context.copy()?;
         let running = self.running.copy()?;
         let frame = Frame {
             running,
@@ -116,7 +115,8 @@ impl Rule<'_> {
         Ok(Made {
             frame: Some(Boxed::new(self.alloc, frame)?),
             top: Boxed::new(self.alloc, top)?,
-            context,
+            context: None,
+            used: 0,
             emitted: None,
         })
     }

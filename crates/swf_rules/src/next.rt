@@ -1,7 +1,8 @@
 // Where control goes after a task of a list (DSL 1.0.0, "Flow directives").
 ghost use Rattle.std.specs.Prelude.{◌≡◌, ◌<◌, ◌-◌, ◌^◌};
 ghost use Rattle.swf_document.specs.TaskNode.{tasks_of};
-ghost use Rattle.swf_meaning.specs.Next.{place_from, next, ended};
+ghost use Rattle.swf_meaning.specs.Lists.{workflow_ended};
+ghost use Rattle.swf_meaning.specs.Next.{next, ended};
 ghost use Rattle.swf_meaning.specs.Local.{moved_on, failed};
 ghost use Rattle.swf_rules.specs.Goals.{goal_of};
 ghost use Rattle.swf_rules.specs.Rules.{line_in};
@@ -12,11 +13,10 @@ ghost use Rattle.swf_scene.specs.Setting.{line_of, site_of};
 use crate::completion::finished;
 use crate::rule::Rule;
 use std::alloc::Global;
-use swf_catalog::{Round, Work};
+use swf_catalog::{Round, Work, place_of};
 use swf_document::{Flow, Named, Problem};
 use swf_scene::{Halt, Scene};
 use swf_stack::{Frame, Made};
-use swf_text::{Text, same_texts};
 use swf_value::Json;
 
 /// What comes after a place of a list.
@@ -25,18 +25,6 @@ pub enum Goal {
     Place(usize),
     ListEnd,
     WorkflowEnd,
-}
-
-// The place of the task of a name.
-fn place_of(name: &Text, tasks: &[Named]) -> Option<usize>
-    ensures { result ≡ place_from 0 name.now (tasks_of tasks.now) }
-{
-    for (place, named) in tasks.iter().enumerate() {
-        if same_texts(&named.name, name) {
-            return Some(place);
-        }
-    }
-    None
 }
 
 // What comes after a place by a flow.
@@ -58,18 +46,29 @@ fn next(tasks: &[Named], place: usize, flow: &Flow) -> Goal
 impl Rule<'_> {
     // `end` passes over the tasks around; of the workflow `output.as` is applied.
     fn ended(&self, output: Json) -> Result<Made, Halt>
-        ensures { Makes (ended (line_in self.now) self.now.running.now output) result }
+        ensures { Makes (line_in self.now) (ended (line_in self.now) self.now.running.now output) result }
     {
-        if !self.running.task().is_workflow() {
-            return Ok(finished(self.alloc, output, Flow::End, self.scene.context.copy()?)?);
+        let output = if self.running.task().is_workflow() {
+            self.output_of(output)?
+        } else {
+            output
+        };
+        Ok(finished(self.alloc, output, Flow::End)?)
+    }
+
+    // The workflow ends: of a sub-workflow the task that runs it is complete.
+    fn workflow_ended(&self, round: &Round, output: Json) -> Result<Made, Halt>
+        ensures { Makes (line_in self.now) (workflow_ended (line_in self.now) self.now.running.now (round_of round.now) output) result }
+    {
+        match round {
+            Round::SubWorkflow(_) => self.complete(output),
+            Round::Seq | Round::Each(_) | Round::Try { .. } | Round::Catch(_) | Round::Function =>
+                self.ended(output),
         }
-        let output = self.output_of(output)?;
-        Ok(finished(self.alloc, output, Flow::End, self.scene.context.copy()?)?)
     }
 }
 
 /// A task of a running task's list is done.
-#[tactic(auto, using(swf_stack::proofs::RoundLemmas::workflow_ended_of))]
 pub fn moved_on<'s>(
     alloc: Global,
     scene: &'s Scene<'s>,
@@ -77,7 +76,7 @@ pub fn moved_on<'s>(
     output: &Json,
     flow: &Flow,
 ) -> Result<Made, Halt>
-    ensures { Makes (moved_on (line_of scene.entry.now) frame.now.running (round_of frame.now.round) frame.now.place output.now flow.now) result }
+    ensures { Makes (line_of scene.entry.now) (moved_on (line_of scene.entry.now) frame.now.running (round_of frame.now.round) frame.now.place output.now flow.now) result }
 {
     let (running, round) = (&frame.running, &frame.round);
     let rule = Rule {
@@ -90,7 +89,7 @@ pub fn moved_on<'s>(
     match next(running.task().named(round), frame.place, flow) {
         Goal::Place(place) => rule.comes_to(round.copy()?, place, output),
         Goal::ListEnd => rule.list_ended(round.copy()?, output),
-        Goal::WorkflowEnd => rule.ended(output),
+        Goal::WorkflowEnd => rule.workflow_ended(round, output),
     }
 }
 
@@ -101,7 +100,7 @@ pub fn failed<'s>(
     frame: &'s Frame,
     problem: &Problem,
 ) -> Result<Made, Halt>
-    ensures { Makes (failed (site_of scene.entry.now) (line_of scene.entry.now) frame.now.running (round_of frame.now.round) problem.now) result }
+    ensures { Makes (line_of scene.entry.now) (failed (site_of scene.entry.now) (line_of scene.entry.now) frame.now.running (round_of frame.now.round) problem.now) result }
 {
     let rule = Rule {
         alloc,

@@ -95,7 +95,7 @@ impl Rule<'_> {
 
     /// A `raise` ends in its error.
     pub fn raising(&self, reference: &ErrorRef) -> Result<Made, Halt>
-        ensures { Makes (raising (line_in self.now) self.now.running.now reference.now) result }
+        ensures { Makes (line_in self.now) (raising (line_in self.now) self.now.running.now reference.now) result }
     {
         Err(Halt::Fault(self.raised_by(reference)?))
     }

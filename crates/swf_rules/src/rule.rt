@@ -46,15 +46,15 @@ impl Rule<'_> {
         }
     }
 
-    // The value that was got for the task, or the task's error.
-    pub(crate) fn value_of(&self, got: Got<Json>) -> Result<Json, Halt>
+    /// The value that was got for the task, or the task's error.
+    pub fn value_of<T: Drop>(&self, got: Got<T>) -> Result<T, Halt>
         ensures { Gives (value_of self.now.running.now.task got) result }
     {
         value_of(self.alloc, self.running.task(), got)
     }
 
-    // The task ends in a standard error, with an ASCII word as its detail.
-    pub(crate) fn fails(&self, kind: ErrorKind, detail: &str) -> Halt
+    /// The task ends in a standard error, with an ASCII word as its detail.
+    pub fn fails(&self, kind: ErrorKind, detail: &str) -> Halt
         requires { IsTrue (is_ascii detail.now) }
         ensures { IsFault self.now.running.now.task kind detail.now result }
     {

@@ -54,7 +54,7 @@ impl Rule<'_> {
 
     // The task is complete, and control goes by a case.
     fn goes_by(&self, case: Option<&Case>) -> Result<Made, Halt>
-        ensures { Makes (complete_by (line_in self.now) self.now.running.now (flow_by self.now.running.now.task (option_map (λ c. c.now) case.entry)) self.now.running.now.input) result }
+        ensures { Makes (line_in self.now) (complete_by (line_in self.now) self.now.running.now (flow_by self.now.running.now.task (option_map (λ c. c.now) case.entry)) self.now.running.now.input) result }
     {
         let flow = self.flow_by(case)?;
         self.complete_by(flow, self.running.input().copy()?)
@@ -62,7 +62,7 @@ impl Rule<'_> {
 
     /// A `switch` takes the first case whose `when` is true, and else the first without one.
     pub fn switched(&self, cases: &[Case]) -> Result<Made, Halt>
-        ensures { Makes (switched (line_in self.now) self.now.running.now cases.now) result }
+        ensures { Makes (line_in self.now) (switched (line_in self.now) self.now.running.now cases.now) result }
     {
         for case in cases {
             if self.is_taken(case)? {

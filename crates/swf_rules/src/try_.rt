@@ -166,7 +166,7 @@ impl Rule<'_> {
 
     // What a verdict leads to.
     fn by_verdict(&self, retries: u64, problem: &Problem, verdict: Verdict) -> Result<Made, Halt>
-        ensures { Makes (by_verdict (site_in self.now) (line_in self.now) self.now.running.now retries problem.now (verdict_of verdict)) result }
+        ensures { Makes (line_in self.now) (by_verdict (site_in self.now) (line_in self.now) self.now.running.now retries problem.now (verdict_of verdict)) result }
     {
         match verdict {
             Verdict::Pass | Verdict::Stay => Err(Halt::Fault(problem.copy()?)),
@@ -186,7 +186,7 @@ impl Rule<'_> {
         problem: &Problem,
         spec: &TrySpec,
     ) -> Result<Made, Halt>
-        ensures { Makes (caught (site_in self.now) (line_in self.now) self.now.running.now retries problem.now (catch_of spec.now) (handler_of spec.now.handler)) result }
+        ensures { Makes (line_in self.now) (caught (site_in self.now) (line_in self.now) self.now.running.now retries problem.now (catch_of spec.now) (handler_of spec.now.handler)) result }
     {
         let verdict = self.verdict(retries, problem, spec)?;
         self.by_verdict(retries, problem, verdict)

@@ -18,7 +18,7 @@ use swf_stack::{Made, Top};
 impl Rule<'_> {
     // The task waits for so long from now, a `try` for the retry of this number.
     fn waiting_for(&self, retries: Option<u64>, duration: u64) -> Result<Made, Halt>
-        ensures { Makes (Ok (becomes (line_in self.now) (Live self.now.running.now (waiting retries ((site_in self.now).now + duration))))) result }
+        ensures { Makes (line_in self.now) (Ok (becomes (line_in self.now) (Live self.now.running.now (waiting retries ((site_in self.now).now + duration))))) result }
     {
         let Some(until) = self.scene.site.now.milliseconds().checked_add(duration) else {
             return Err(Halt::OutOfMemory);
@@ -28,12 +28,12 @@ impl Rule<'_> {
             retries,
             until,
         };
-        Ok(becoming(self.alloc, top, self.scene.context.copy()?)?)
+        Ok(becoming(self.alloc, top)?)
     }
 
     // One more try after a delay.
     pub(crate) fn later(&self, retries: u64, delay: u64) -> Result<Made, Halt>
-        ensures { Makes (Ok (becomes (line_in self.now) (Live self.now.running.now (Later (retries + 1) ((site_in self.now).now + delay))))) result }
+        ensures { Makes (line_in self.now) (Ok (becomes (line_in self.now) (Live self.now.running.now (Later (retries + 1) ((site_in self.now).now + delay))))) result }
     {
         let Some(retry) = retries.checked_add(1) else {
             return Err(Halt::OutOfMemory);
@@ -43,14 +43,14 @@ impl Rule<'_> {
 
     /// A `wait` begins.
     pub fn waiting(&self, duration: u64) -> Result<Made, Halt>
-        ensures { Makes (begun (site_in self.now) (line_in self.now) self.now.running.now (wait duration)) result }
+        ensures { Makes (line_in self.now) (begun (site_in self.now) (line_in self.now) self.now.running.now (wait duration)) result }
     {
         self.waiting_for(None, duration)
     }
 
     /// The moment has come: a `wait` is complete, and a `try` is made again.
     pub fn woken(&self, retries: Option<u64>) -> Result<Made, Halt>
-        ensures { Makes (woken_to (line_in self.now) self.now.running.now retries) result }
+        ensures { Makes (line_in self.now) (woken_to (line_in self.now) self.now.running.now retries) result }
     {
         let input = self.running.input().copy()?;
         match retries {

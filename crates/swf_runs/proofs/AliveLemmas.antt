@@ -12,7 +12,7 @@ use Rattle.swf_meaning.specs.Complete.{Stepped, step_of, complete}
 use Rattle.swf_meaning.specs.Fork.{put, outputs, output_before, joined, settled, after_branch, competes}
 use Rattle.swf_meaning.specs.Line.{Line, Site}
 use Rattle.swf_meaning.specs.Local.{local}
-use Rattle.swf_meaning.specs.Node.{Node, Fresh, Live, Done, Fault, Inside, At, Later, Sleep, Hear, Forked, Nodes, no_nodes, branch, Running}
+use Rattle.swf_meaning.specs.Node.{Node, Fresh, Live, Done, Fault, Inside, At, Later, Sleep, Hear, Await, Forked, Nodes, no_nodes, branch, Running}
 use Rattle.swf_meaning.specs.Put.{put_at, put_inside, put_branch}
 use Rattle.swf_runs.specs.Alive.{has_ended, is_error, some_goes_on, all_go_on, IsAlive, IsAliveInside, AreAlive}
 use Rattle.swf_runs.proofs.RuleLemmas.{AreFresh, IsMade, IsMadeInside, Yields, completes, local_put}
@@ -46,6 +46,7 @@ made_inside s t (At round i (Fault p)) h = tt
 made_inside s t (Later n m) h = tt
 made_inside s t (Sleep m) h = tt
 made_inside s t (Hear bound hs) h = tt
+made_inside s t (Await a q o) h = tt
 made_inside s t (Forked no_nodes) h = absurd h
 made_inside s t (Forked (branch n ns)) h = (fresh_goes n ns h.1, λ c. fresh_all (branch n ns) h.1, fresh_alive (branch n ns) h.1)
 
@@ -152,6 +153,7 @@ mutual
   inside_alive s l bs r (Later n until) m a h = h
   inside_alive s l bs r (Sleep until) m a h = h
   inside_alive s l bs r (Hear bound hs) m a h = h
+  inside_alive s l bs r (Await b q o) m a h = h
   inside_alive s l [] r (Forked ns) m a h = h
   inside_alive s l (b ∷ bs) r (Forked ns) m a h = branch_alive s l r ns b (put_branch l b bs ns m) a (among_alive s l b bs ns m a.2 h)
 

@@ -1,5 +1,5 @@
 -- An instance with a timer that is over can take a step.
-use Rattle.std.proofs.Common.{◌≡◌, refl, ap, cond, ℕ, List, [], ◌∷◌, codes, nat_le, Bool, true, false, ◌||◌, inl, inr, option_map}
+use Rattle.std.proofs.Common.{is_some, ◌≡◌, refl, ap, cond, ℕ, List, [], ◌∷◌, codes, nat_le, Bool, true, false, ◌||◌, inl, inr, option_map}
 use Rattle.std.proofs.lemmas.Bool.{or_left, or_right, or_cases}
 use Rattle.std.specs.List.{list_any, filter_map}
 use Rattle.swf_meaning.specs.Answer.{status_of}
@@ -7,7 +7,7 @@ use Rattle.swf_meaning.specs.Listen.{is_heard}
 use Rattle.swf_meaning.specs.Node.{Node, Fresh, Live, Done, Fault}
 use Rattle.swf_meaning.specs.Pending.{waiting}
 use Rattle.swf_meaning.specs.Strands.{tops_inside, can_top}
-use Rattle.swf_meaning.specs.Top.{Top, Begins, Moves, Fails, Retries, Sleeps, Hears, Splits, Ends, Breaks}
+use Rattle.swf_meaning.specs.Top.{Top, Begins, Moves, Fails, Retries, Sleeps, Hears, Awaits, Splits, Ends, Breaks}
 use Rattle.swf_meaning.specs.Wake.{until_top}
 use Rattle.swf_meaning.specs.declared.label.Label.{Label}
 use Rattle.swf_runs.specs.Waiting.{is_over, IsOverRunning}
@@ -37,6 +37,7 @@ more_over now bs t ss rest = by t
     by (Retries r n m) h = timer m h
     by (Sleeps r m) h = timer m h
     by (Hears r bound hs) h = behind (is_heard r.task hs) h
+    by (Awaits r a q o) h = behind (is_some o) h
     by (Splits r ns) h = behind false h
     by (Ends w f) h = behind false h
     by (Breaks p) h = behind false h

@@ -11,8 +11,8 @@ use Rattle.swf_meaning.specs.Documents.{document_at}
 use Rattle.swf_runs.specs.After.{is_used, with_document, loaded, accepted, most_documents, with_instance, most_instances, with_event, stepped, sent, with_instances, counted, after}
 use Rattle.swf_runs.specs.Grows.{Begins, origin, Grows}
 use Rattle.swf_runs.specs.Runs.{run_from, world_at, Legal}
-use Rattle.swf_runs.proofs.OnceLemmas.{mapped_some, refused_some}
-use Rattle.swf_runs.proofs.WorldLemmas.{Change, Kept, Began, Heard, Took, change, now_after, map_offered, map_sent, map_taken, run_keeps, legal_both}
+use Rattle.swf_runs.proofs.OnceLemmas.{mapped_some, refused_some, replied_some}
+use Rattle.swf_runs.proofs.WorldLemmas.{Change, Kept, Began, Heard, Answered, Took, change, now_after, map_offered, map_replied, map_sent, map_taken, run_keeps, legal_both}
 
 same_list : {A : Type 0} (xs ys : List A) → ys ≡ xs → Begins xs ys
 same_list xs ys e = ([], e ∙ sym (append-nil xs))
@@ -44,7 +44,9 @@ adds_after w m (Told x) e =
     let h = refused_some (is_used (OfEvent x.source x.id) w) (Some (with_event w x)) m e in
     let s = sym (same_Some (with_event w x) m h.1) in
     same_both w m (ap (λ u. u.documents) s) (ap (λ u. u.outbox) s)
-adds_after w m (Reply a x) e = cc
+adds_after w m (Reply a x) e =
+    let h = replied_some w m a x e in
+    same_both w m (ap (λ u. u.documents) (sym h.2)) (ap (λ u. u.outbox) (sym h.2))
 adds_after w m (Moment t) e =
     let h = refused_some (nat_le t w.now) (Some (record (counted (OfMoment t) w) { now = t })) m e in
     let s = sym (same_Some (record (counted (OfMoment t) w) { now = t }) m h.1) in
@@ -59,6 +61,7 @@ origins_after w m (Kept e later) = same_list (map origin w.instances) (map origi
 origins_after w m (Began id input d unused used room e now) =
     (map origin (new_instance id input w.now d ∷ []), ap (map origin) e ∙ map-append origin w.instances (new_instance id input w.now d ∷ []))
 origins_after w m (Heard x e now) = same_list (map origin w.instances) (map origin m.instances) (ap (map origin) e ∙ map_offered origin x (λ i. refl) w.instances)
+origins_after w m (Answered a r e now) = same_list (map origin w.instances) (map origin m.instances) (ap (map origin) e ∙ map_replied origin a r (λ i. refl) w.instances)
 origins_after w m (Took id strand js s e now) =
     same_list (map origin w.instances) (map origin m.instances) (ap (map origin) e ∙ map_sent origin (λ x i. refl) js.1 js.0 ∙ map_taken origin (λ i x. refl) w.now w.documents id strand w.instances js s)
 

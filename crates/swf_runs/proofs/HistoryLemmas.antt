@@ -13,7 +13,7 @@ use Rattle.swf_runs.specs.After.{is_used, with_document, loaded, accepted, most_
 use Rattle.swf_runs.specs.Keys.{key_of}
 use Rattle.swf_runs.specs.Counted.{keyed, IsCounted}
 use Rattle.swf_runs.specs.Runs.{run_from, run, world_at, Legal}
-use Rattle.swf_runs.proofs.OnceLemmas.{Grown, Timed, mapped_some, refused_some, after_grown, timed_after}
+use Rattle.swf_runs.proofs.OnceLemmas.{Grown, Timed, mapped_some, refused_some, replied_some, after_grown, timed_after}
 use Rattle.swf_runs.proofs.RunLemmas.{world_of_run}
 use Rattle.swf_runs.proofs.WorldLemmas.{there}
 
@@ -32,7 +32,7 @@ count_after w m (Start id key input) e =
 count_after w m (Told x) e =
     let h = refused_some (is_used (OfEvent x.source x.id) w) (Some (with_event w x)) m e in
     ap (λ u. u.count) (sym (same_Some (with_event w x) m h.1))
-count_after w m (Reply a x) e = cc
+count_after w m (Reply a x) e = let h = replied_some w m a x e in ap (λ u. u.count) (sym h.2)
 count_after w m (Moment t) e =
     let h = refused_some (nat_le t w.now) (Some (record (counted (OfMoment t) w) { now = t })) m e in
     ap (λ u. u.count) (sym (same_Some (record (counted (OfMoment t) w) { now = t }) m h.1))

@@ -14,7 +14,7 @@ use Rattle.swf_runs.specs.Keys.{key_of}
 use Rattle.swf_runs.specs.Kept.{ids, is_one_of, are_apart, IsWorld}
 use Rattle.swf_runs.specs.Runs.{world_at, Legal}
 use Rattle.swf_runs.proofs.OnceLemmas.{still_used, after_grown, timed_after}
-use Rattle.swf_runs.proofs.WorldLemmas.{Change, Kept, Began, Heard, Took, change, change_all, all_weaker, now_after, map_offered, map_sent, map_taken, legal_keeps}
+use Rattle.swf_runs.proofs.WorldLemmas.{Change, Kept, Began, Heard, Answered, Took, change, change_all, all_weaker, one_keeps, now_after, map_offered, map_replied, map_sent, map_taken, legal_keeps}
 
 -- the ids are those before, or there is one behind them that was not used and is, and for which there was room
 abbrev pub IdsAfter : World → World → Type 0
@@ -24,6 +24,7 @@ pub ids_after : (w m : World) → Change w m → IdsAfter w m
 ids_after w m (Kept e later) = inl (ap ids e)
 ids_after w m (Began id input d unused used room e now) = inr (id, unused, used, ap ids e ∙ map-append (λ i. i.id) w.instances (new_instance id input w.now d ∷ []), room)
 ids_after w m (Heard x e now) = inl (ap ids e ∙ map_offered (λ i. i.id) x (λ i. refl) w.instances)
+ids_after w m (Answered a r e now) = inl (ap ids e ∙ map_replied (λ i. i.id) a r (λ i. refl) w.instances)
 ids_after w m (Took id strand js s e now) = inl (ap ids e ∙ map_sent (λ i. i.id) (λ x i. refl) js.1 js.0 ∙ map_taken (λ i. i.id) (λ i m. refl) w.now w.documents id strand w.instances js s)
 
 same_turned : (x y : List ℕ) → same x y ≡ false → same y x ≡ false
@@ -64,7 +65,7 @@ used_after w m x still (inr h) id t =
 -- none started after now, which does not fall
 started_after : (w m : World) → AllByRecursion (λ i. i.started ≤ w.now) w.instances → Change w m → w.now ≤ m.now → AllByRecursion (λ i. i.started ≤ m.now) m.instances
 started_after w m all c later =
-    change_all (λ i. i.started ≤ m.now) w m (λ id input d. later) (λ now ds strand i x s h. h) (λ e i h. h)
+    change_all (λ i. i.started ≤ m.now) w m (λ id input d. later) (λ now ds strand i x s h. h) (λ e i h. h) (λ a r i h. one_keeps (λ i. i.started ≤ m.now) a r i h h)
     (all_weaker (λ i. i.started ≤ w.now) (λ i. i.started ≤ m.now) (λ i h. omega (arith, h, later)) w.instances all) c
 
 kept_after : (w m : World) (l : Label) → IsWorld w → after w l ≡ Some m → IsWorld m

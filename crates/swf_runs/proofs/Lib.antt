@@ -3,6 +3,7 @@ pub mod OnceLemmas
 pub mod KeyLemmas
 pub mod StrandLemmas
 pub mod OfferLemmas
+pub mod ReplyLemmas
 pub mod RuleLemmas
 pub mod AliveLemmas
 pub mod LimitLemmas

@@ -6,6 +6,7 @@ use Rattle.std.proofs.lemmas.Option.{same_Some, option_and_then_some}
 use Rattle.std.specs.List.{AllByRecursion}
 use Rattle.swf_value.specs.Value.{Value, list, Members}
 use Rattle.swf_value.specs.Node.{items_of}
+use Rattle.swf_calls.specs.declared.reply.CallReply.{CallReply}
 use Rattle.swf_cloudevents.specs.declared.event.Event.{Event}
 use Rattle.swf_document.specs.declared.common.Flow.{Flow}
 use Rattle.swf_document.specs.declared.common.Flow.TheVariants as flows
@@ -14,7 +15,7 @@ use Rattle.swf_meaning.specs.Around.{seen}
 use Rattle.swf_meaning.specs.Complete.{Stepped, step_of, complete}
 use Rattle.swf_meaning.specs.Fork.{count, most_branches, put, outputs, joined, settled, after_branch, competes}
 use Rattle.swf_meaning.specs.Line.{Line, Site}
-use Rattle.swf_meaning.specs.Node.{Node, Fresh, Live, Done, Fault, Inside, At, Later, Sleep, Hear, Forked, Nodes, no_nodes, branch, Round, Running}
+use Rattle.swf_meaning.specs.Node.{Node, Fresh, Live, Done, Fault, Inside, At, Later, Sleep, Hear, Await, Forked, Nodes, no_nodes, branch, Round, Running}
 use Rattle.swf_meaning.specs.Offer.{or_same, takes_by, offered, offered_inside, offered_among, offered_one}
 use Rattle.swf_meaning.specs.Parts.{kind_of, listen_in}
 use Rattle.swf_meaning.specs.Put.{keeping, put_at, put_inside, put_branch}
@@ -24,16 +25,17 @@ use Rattle.swf_meaning.specs.declared.heard.Heard.{Heard}
 use Rattle.swf_meaning.specs.declared.key.Key.TheVariants.{Document as OfDocument, Instance as OfInstance, Event as OfEvent, Moment as OfMoment}
 use Rattle.swf_meaning.specs.declared.label.Label.{Label}
 use Rattle.swf_meaning.specs.declared.label.Label.TheVariants.{Load, Start, Event as Told, Reply, Moment, Step}
+use Rattle.swf_meaning.proofs.ReplyLemmas.{branches_replied}
 use Rattle.swf_meaning.proofs.TopsLemmas.{strands_among, strands_among-branch, branches_in-fork, branches_in-at}
 use Rattle.swf_meaning.specs.Documents.{Loaded, document_at}
-use Rattle.swf_runs.specs.After.{is_used, with_document, loaded, accepted, most_documents, with_instance, most_instances, with_event, stepped, sent, with_instances, counted, after}
+use Rattle.swf_runs.specs.After.{is_used, with_document, loaded, accepted, most_documents, with_instance, most_instances, with_event, replied_one, stepped, sent, with_instances, counted, after}
 use Rattle.swf_runs.specs.Kept.{ids}
 use Rattle.swf_runs.specs.Within.{IsWithin}
 use Rattle.swf_runs.specs.Runs.{world_at, Legal}
 use Rattle.swf_runs.proofs.KeepLemmas.{IdsAfter, ids_after}
-use Rattle.swf_runs.proofs.OnceLemmas.{mapped_some, refused_some}
+use Rattle.swf_runs.proofs.OnceLemmas.{mapped_some, refused_some, replied_some}
 use Rattle.swf_runs.proofs.RuleLemmas.{AreFresh, IsMade, IsMadeInside, Yields, completes, local_put}
-use Rattle.swf_runs.proofs.WorldLemmas.{Change, change, change_all, legal_keeps}
+use Rattle.swf_runs.proofs.WorldLemmas.{Change, change, change_all, one_keeps, legal_keeps}
 
 -- branches that have not begun are one strand each
 one_each : (ns : Nodes) → AreFresh ns → strands_among ns ≡ count ns
@@ -52,6 +54,7 @@ made_inside s r (At round i (Fault p)) few h = omega (arith, few)
 made_inside s r (Later n m) few h = omega (arith, few)
 made_inside s r (Sleep m) few h = omega (arith, few)
 made_inside s r (Hear bound hs) few h = omega (arith, few)
+made_inside s r (Await a q o) few h = omega (arith, few)
 made_inside s r (Forked no_nodes) few h = absurd h
 made_inside s r (Forked (branch n ns)) few h = omega (arith, h.0, one_each (branch n ns) h.1, branches_in-fork r (branch n ns))
 
@@ -139,6 +142,7 @@ mutual
   inside_few s l bs r (Later n until) m few h = h
   inside_few s l bs r (Sleep until) m few h = h
   inside_few s l bs r (Hear bound hs) m few h = h
+  inside_few s l bs r (Await a q o) m few h = h
   inside_few s l [] r (Forked ns) m few h = omega (arith, h)
   inside_few s l (b ∷ bs) r (Forked ns) m few h = branch_few s l r ns b (put_branch l b bs ns m) few (among_few s l b bs ns m few h)
 
@@ -164,6 +168,7 @@ mutual
   offered_inside_few e r (Later n m) = refl
   offered_inside_few e r (Sleep m) = refl
   offered_inside_few e r (Hear bound hs) = or_same_few r bound hs (takes_by (listen_in (kind_of r.task)) bound hs e)
+  offered_inside_few e r (Await a q o) = refl
   offered_inside_few e r (Forked ns) = branches_in-fork r (offered_among e ns).0 ∙ offered_among_few e ns ∙ sym (branches_in-fork r ns)
 
   offered_among_few : (e : Event) (ns : Nodes) → strands_among (offered_among e ns).0 ≡ strands_among ns
@@ -187,8 +192,11 @@ step_few now ds strand i m e few =
 offer_few : (e : Event) (i : Instance) → IsFew i → IsFew (offered_one e i)
 offer_few e i few = omega (arith, few, offered_few e i.node)
 
+answer_few : (a : List ℕ) (r : CallReply) (i : Instance) → IsFew i → IsFew (replied_one a r i)
+answer_few a r i few = one_keeps IsFew a r i (omega (arith, few, branches_replied a r i.node)) few
+
 few_after : (w m : World) → AllByRecursion IsFew w.instances → Change w m → AllByRecursion IsFew m.instances
-few_after w m all c = change_all IsFew w m (λ id input d. omega arith) step_few offer_few all c
+few_after w m all c = change_all IsFew w m (λ id input d. omega arith) step_few offer_few answer_few all c
 
 sent_documents : (w : World) (o : Option Event) → (sent w o).documents ≡ w.documents
 sent_documents w None = refl
@@ -211,7 +219,7 @@ documents_after w m (Start id key input) few e =
 documents_after w m (Told x) few e =
     let h = refused_some (is_used (OfEvent x.source x.id) w) (Some (with_event w x)) m e in
     same_documents w m few (ap (λ u. u.documents) (sym (same_Some (with_event w x) m h.1)))
-documents_after w m (Reply a x) few e = cc
+documents_after w m (Reply a x) few e = let h = replied_some w m a x e in same_documents w m few (ap (λ u. u.documents) (sym h.2))
 documents_after w m (Moment t) few e =
     let h = refused_some (nat_le t w.now) (Some (record (counted (OfMoment t) w) { now = t })) m e in
     same_documents w m few (ap (λ u. u.documents) (sym (same_Some (record (counted (OfMoment t) w) { now = t }) m h.1)))

@@ -3,7 +3,7 @@ use Rattle.std.proofs.Common.{false, ◌≡◌, ◌∙◌, refl, ap, if◌then�
 use Rattle.swf_value.specs.Value.{Members}
 use Rattle.swf_cloudevents.specs.declared.event.Event.{Event}
 use Rattle.swf_document.specs.Task.{Task}
-use Rattle.swf_meaning.specs.Node.{Node, Fresh, Live, Done, Fault, Inside, At, Later, Sleep, Hear, Forked, Nodes, no_nodes, branch}
+use Rattle.swf_meaning.specs.Node.{Node, Fresh, Live, Done, Fault, Inside, At, Later, Sleep, Hear, Await, Forked, Nodes, no_nodes, branch}
 use Rattle.swf_meaning.specs.Offer.{or_same, takes_by, offered, offered_inside, offered_among, offered_one, takers_in}
 use Rattle.swf_meaning.specs.Parts.{kind_of, listen_in}
 use Rattle.swf_meaning.specs.World.{Instance}
@@ -27,6 +27,7 @@ mutual
   same_inside_untaken e t (Later n m) h = refl
   same_inside_untaken e t (Sleep m) h = refl
   same_inside_untaken e t (Hear bound hs) h = or_same_none bound hs (takes_by (listen_in (kind_of t)) bound hs e) h
+  same_inside_untaken e t (Await a q o) h = refl
   same_inside_untaken e t (Forked ns) h = ap Forked (same_among_untaken e ns h)
 
   same_among_untaken : (e : Event) (ns : Nodes) → (offered_among e ns).1 ≡ 0 → (offered_among e ns).0 ≡ ns
@@ -83,6 +84,7 @@ mutual
   alive_inside_offered e t (Later n m) a = tt
   alive_inside_offered e t (Sleep m) a = tt
   alive_inside_offered e t (Hear bound hs) a = alive_same t bound hs (takes_by (listen_in (kind_of t)) bound hs e)
+  alive_inside_offered e t (Await b q o) a = tt
   alive_inside_offered e t (Forked ns) a = (still_goes_on e ns ∙ a.0, λ c. still_all_go_on e ns ∙ a.1 c, are_alive_offered e ns a.2)
 
   are_alive_offered : (e : Event) (ns : Nodes) → AreAlive ns → AreAlive (offered_among e ns).0

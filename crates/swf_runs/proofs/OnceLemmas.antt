@@ -18,7 +18,9 @@ use Rattle.swf_meaning.specs.declared.key.Key.{Key}
 use Rattle.swf_meaning.specs.declared.key.Key.TheVariants.{Document as OfDocument, Instance as OfInstance, Event as OfEvent, Activity as OfActivity, Moment as OfMoment}
 use Rattle.swf_meaning.specs.World.{World, empty, new_instance}
 use Rattle.swf_meaning.specs.Documents.{document_at}
-use Rattle.swf_runs.specs.After.{is_used, with_document, loaded, load_faults, if_none, accepted, most_documents, with_instance, most_instances, with_event, stepped, sent, with_instances, counted, after}
+use Rattle.swf_validate.specs.Accepts.{faults}
+use Rattle.swf_calls.specs.declared.reply.CallReply.{CallReply}
+use Rattle.swf_runs.specs.After.{is_used, with_document, loaded, if_none, accepted, most_documents, with_instance, most_instances, with_event, is_open, with_answer, replied, stepped, sent, with_instances, counted, after}
 use Rattle.swf_runs.specs.Runs.{run_from, Legal}
 
 -- what is mapped to a value is a value
@@ -67,11 +69,22 @@ if_none_some e [] d h = same_Some e d h
 if_none_some e (f ∷ fs) d h = cc
 
 pub accepted_is : (v : Value) (d : Document) → accepted v ≡ Some d → document_of v ≡ d
-accepted_is v d e = if_none_some (document_of v) (load_faults v) d e
+accepted_is v d e = if_none_some (document_of v) (faults v) d e
 
 -- the key of a document is the key that its value gives
 pub doc_key_read : (v : Value) (d : Document) → accepted v ≡ Some d → doc_key v ≡ d.key
 doc_key_read v d e = ap (λ d. d.key) (accepted_is v d e)
+
+-- an answer that comes asks for a new key and an open call
+pub replied_some : (w m : World) (a : List ℕ) (r : CallReply) → replied w a r ≡ Some m → (is_used (OfActivity a) w ≡ false) × (is_open a w ≡ true) × (with_answer w a r ≡ m)
+replied_some w m a r e =
+    let h = refused_some (is_used (OfActivity a) w || not (is_open a w)) (Some (with_answer w a r)) m e in
+    let p = or_parts (is_used (OfActivity a) w) (not (is_open a w)) h.0 in
+    (p.0, yes (is_open a w) p.1, same_Some (with_answer w a r) m h.1)
+  where
+    yes : (b : Bool) → not b ≡ false → b ≡ true
+    yes true f = refl
+    yes false f = cc
 
 -- what a label's key does in the world after it: it was not used, and it is now
 abbrev pub Grown : Option Key → World → World → Type 0
@@ -110,7 +123,7 @@ after_grown w m (Start id key input) timed e =
 after_grown w m (Told x) timed e =
     let h = refused_some (is_used (OfEvent x.source x.id) w) (Some (with_event w x)) m e in
     (h.0, ap (λ u. u.keys) (sym (same_Some (with_event w x) m h.1)))
-after_grown w m (Reply a x) timed e = cc
+after_grown w m (Reply a x) timed e = let h = replied_some w m a x e in (h.0, ap (λ u. u.keys) (sym h.2))
 after_grown w m (Moment t) timed e =
     let h = refused_some (nat_le t w.now) (Some (record (counted (OfMoment t) w) { now = t })) m e in
     (not_reached w t timed h.0, ap (λ u. u.keys) (sym (same_Some (record (counted (OfMoment t) w) { now = t }) m h.1)))
@@ -146,7 +159,7 @@ later w m (Start id key input) e =
 later w m (Told x) e =
     let h = refused_some (is_used (OfEvent x.source x.id) w) (Some (with_event w x)) m e in
     same_now (Told x) w m (ap (λ u. u.now) (sym (same_Some (with_event w x) m h.1))) (λ t k. cc)
-later w m (Reply a x) e = cc
+later w m (Reply a x) e = let h = replied_some w m a x e in same_now (Reply a x) w m (ap (λ u. u.now) (sym h.2)) (λ t k. cc)
 later w m (Moment t) e =
     let h = refused_some (nat_le t w.now) (Some (record (counted (OfMoment t) w) { now = t })) m e in
     let n : t ≡ m.now = ap (λ u. u.now) (same_Some (record (counted (OfMoment t) w) { now = t }) m h.1) in

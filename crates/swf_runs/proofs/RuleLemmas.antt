@@ -4,38 +4,48 @@ use Rattle.std.proofs.lemmas.Bool.{leb-true}
 use Rattle.std.proofs.lemmas.Option.{option_and_then_some}
 use Rattle.std.specs.Prelude.{option_and_then}
 use Rattle.swf_expr.specs.Expr.{Tree}
-use Rattle.swf_value.specs.Value.{Value, list}
+use Rattle.swf_value.specs.Value.{Value, null, list}
 use Rattle.swf_value.specs.Members.{values_of}
 use Rattle.swf_value.specs.Node.{items_of}
+use Rattle.swf_calls.specs.Request.{Request}
+use Rattle.swf_calls.specs.declared.reply.CallReply.{CallReply}
+use Rattle.swf_calls.specs.declared.reply.CallReply.TheVariants as replies
 use Rattle.swf_cloudevents.specs.Event.{event_of}
 use Rattle.swf_cloudevents.specs.Faults.{Fault as EventFault}
 use Rattle.swf_cloudevents.specs.declared.event.Event.{Event}
 use Rattle.swf_document.specs.Task.{Task, Tasks, no_tasks, named, Kind, call, do_all, emit, for, fork, listen, raise, run, set, switch, try, wait}
 use Rattle.swf_document.specs.Template.{Template}
+use Rattle.swf_document.specs.declared.call.Callee.{Callee}
+use Rattle.swf_document.specs.declared.call.Callee.TheVariants as callees
+use Rattle.swf_document.specs.declared.call.HttpSpec.{HttpSpec}
 use Rattle.swf_document.specs.declared.common.Flow.{Flow}
 use Rattle.swf_document.specs.declared.common.Flow.TheVariants as flows
 use Rattle.swf_document.specs.declared.error.ErrorKind.TheVariants as kinds
 use Rattle.swf_document.specs.declared.error.Problem.{Problem}
 use Rattle.swf_document.specs.declared.event.ListenSpec.{ListenSpec}
+use Rattle.swf_document.specs.declared.run.RunSpec.{RunSpec}
 use Rattle.swf_transform.specs.Fill.{fill, first_of, is_within}
 use Rattle.swf_meaning.specs.Around.{seen}
+use Rattle.swf_meaning.specs.Call.{requested, awaits, is_answered, response_value, communication, answered, answered_by, replied}
 use Rattle.swf_meaning.specs.Complete.{Stepped, becomes, step_of, asked, input_of, output_of, finished, exported, complete_by, complete}
 use Rattle.swf_meaning.specs.Emit.{emits, with_own}
-use Rattle.swf_meaning.specs.Enter.{begun, begun_if, guarded, enter}
+use Rattle.swf_meaning.specs.Documents.{document_at, resolved}
+use Rattle.swf_meaning.specs.Enter.{called, begun, begun_if, guarded, enter}
 use Rattle.swf_meaning.specs.For.{over}
+use Rattle.swf_meaning.specs.Function.{in_depth, input_by, function_in, or_unknown_function, or_unknown_workflow, runs_inside, calling, running}
 use Rattle.swf_meaning.specs.Fork.{fresh, split, forking, count, most_branches}
 use Rattle.swf_meaning.specs.Line.{Line, Site, within, is_workflow}
 use Rattle.swf_meaning.specs.Listen.{bound_by, correlations, heard_by, is_satisfied, events_of}
 use Rattle.swf_meaning.specs.Lists.{list_of, guard_of, begins_with, iteration_decided, iteration_guarded, iteration, list_ended, arrives, comes_to, workflow_ended, goes_to}
 use Rattle.swf_meaning.specs.Local.{moved_on, caught_by, failed, rule, local}
 use Rattle.swf_meaning.specs.Next.{Goal, Place, ListEnd, WorkflowEnd, task_at, ended, next}
-use Rattle.swf_meaning.specs.Node.{Node, Fresh, Live, Done, Fault, Inside, At, Later, Sleep, Hear, Forked, Nodes, no_nodes, branch, Round, Seq, Each, Try, Catch, Fun, Sub, Running}
-use Rattle.swf_meaning.specs.Parts.{Catching, kind_of, common_of, listen_in, try_in}
+use Rattle.swf_meaning.specs.Node.{Node, Fresh, Live, Done, Fault, Inside, At, Later, Sleep, Hear, Await, Forked, Nodes, no_nodes, branch, Round, Seq, Each, Try, Catch, Fun, Sub, Running}
+use Rattle.swf_meaning.specs.Parts.{Catching, kind_of, common_of, http_in, listen_in, try_in, workflow}
 use Rattle.swf_meaning.specs.Put.{put_at}
 use Rattle.swf_meaning.specs.Raise.{raised_by}
 use Rattle.swf_meaning.specs.Rule.{◌>>=◌, fails, value_of}
 use Rattle.swf_meaning.specs.Switch.{taken, default_of, flow_by}
-use Rattle.swf_meaning.specs.Top.{Top, Begins, Moves, Fails, Retries, Sleeps, Hears, Splits, Ends, Breaks, top_at, line_at}
+use Rattle.swf_meaning.specs.Top.{Top, Begins, Moves, Fails, Retries, Sleeps, Hears, Awaits, Splits, Ends, Breaks, top_at, line_at}
 use Rattle.swf_meaning.specs.Try.{Verdict, Pass, Again, Handle, Stay, Give, verdict, by_verdict}
 use Rattle.swf_meaning.specs.declared.heard.Heard.{Heard}
 use Rattle.swf_runs.proofs.OnceLemmas.{mapped_some}
@@ -67,6 +77,7 @@ IsMadeInside s (At round i n) = IsBeginning n
 IsMadeInside s (Later n m) = Unit {0}
 IsMadeInside s (Sleep m) = Unit {0}
 IsMadeInside s (Hear bound hs) = Unit {0}
+IsMadeInside s (Await a q o) = Unit {0}
 IsMadeInside s (Forked ns) = IsSplit s ns
 
 -- a node that a rule makes: it is done or in an error, its list begins or goes on, it waits or listens, or it splits
@@ -213,15 +224,41 @@ forks s l r ts = by (nat_le (s.branches + count (fresh ts r.input)) most_branche
     by true e = splits s l r ts r.input (leb-true (s.branches + count (fresh ts r.input)) most_branches e)
     by false e = tt
 
+-- a call asks, or runs a function
+calls_function : (s : Site) (l : Line) (r : Running) (n : List ℕ) (e : Option Template) → Yields s (calling l r n e)
+calls_function s l r n e = after_part s (in_depth l r.task) _ (λ u. after_part s (input_by l r e) _ (λ v. after_part s (or_unknown_function r.task (function_in n l.document.functions)) (λ f. Ok (runs_inside l r Fun f v)) (λ f. tt)))
+
+calls : (s : Site) (l : Line) (r : Running) (c : Callee) → Yields s (called s l r c)
+calls s l r (callees.Http h) = after_part s (requested l r h) (λ q. Ok (awaits s l r q)) (λ q. tt)
+calls s l r (callees.Function n e) = calls_function s l r n e
+
+runs : (s : Site) (l : Line) (r : Running) (spec : RunSpec) → Yields s (running s l r spec)
+runs s l r spec = after_part s (in_depth l r.task) _
+    (λ u. after_part s (input_by l r spec.input) _ (λ v. after_part s (or_unknown_workflow r.task (document_at (resolved s.documents spec.key) s.documents)) (λ d. Ok (runs_inside l r (Sub d v null) (workflow d) v)) (λ d. tt)))
+
+-- what a call is answered it gives, or is in an error
+gives : (s : Site) (l : Line) (r : Running) (h : HttpSpec) (q : Request) (p : CallReply) → Yields s (answered l r h q p)
+gives s l r h q (replies.Answer status headers content) =
+    by_either s (is_answered h.redirect status) (complete l r (response_value h.response q status headers content)) (communication r.task status None) (completes s l r (response_value h.response q status headers content)) tt
+gives s l r h q replies.Unreached = tt
+
+gives_by : (s : Site) (l : Line) (r : Running) (q : Request) (p : CallReply) (o : Option HttpSpec) → Yields s (answered_by l r q p o)
+gives_by s l r q p None = completes s l r r.input
+gives_by s l r q p (Some h) = gives s l r h q p
+
+goes_on : (s : Site) (l : Line) (r : Running) (q : Request) (o : Option CallReply) → MayYield s (replied l r q o)
+goes_on s l r q None = tt
+goes_on s l r q (Some p) = gives_by s l r q p (http_in (kind_of r.task))
+
 begins_as : (s : Site) (l : Line) (r : Running) (k : Kind) → Yields s (begun s l r k)
-begins_as s l r (call c) = completes s l r r.input
+begins_as s l r (call c) = calls s l r c
 begins_as s l r (do_all ts) = comes s l r Seq zero r.input
 begins_as s l r (emit e) = after_part s (value_of r.task (fill e (within l r) r.input)) (λ v. emits l r (event_of (with_own s l v))) (λ v. sends s l r (event_of (with_own s l v)))
 begins_as s l r (for spec ts) = after_part s (value_of r.task (first_of spec.items (within l r) r.input)) (over l r) (goes_over s l r)
 begins_as s l r (fork c ts) = forks s l r ts
 begins_as s l r (listen spec) = after_part s (bound_by r.task (within l r) r.input (correlations spec.filters) _) (λ bound. Ok (becomes l (Live r (Hear bound [])))) (λ bound. tt)
 begins_as s l r (raise e) = after_part s (raised_by l r e) (λ p. Err p) (λ p. tt)
-begins_as s l r (run spec) = completes s l r r.input
+begins_as s l r (run spec) = runs s l r spec
 begins_as s l r (set e) = after_part s (value_of r.task (fill e (within l r) r.input)) (complete l r) (completes s l r)
 begins_as s l r (switch cs) = after_part s (taken l r (default_of cs) cs) (λ c. complete_by l r (flow_by r.task c) r.input) (λ c. completes_by s l r (flow_by r.task c) r.input)
 begins_as s l r (try c ts h) = comes s l r (Try zero) zero r.input
@@ -246,6 +283,7 @@ rules s l (Fails r round i p) = fails_on s l r round p
 rules s l (Retries r n until) = if_some s (nat_le until s.now) (comes_to l r (Try n) zero r.input) (comes s l r (Try n) zero r.input)
 rules s l (Sleeps r until) = if_some s (nat_le until s.now) (complete l r r.input) (completes s l r r.input)
 rules s l (Hears r bound hs) = hears s l r hs (listen_in (kind_of r.task))
+rules s l (Awaits r a q o) = goes_on s l r q o
 rules s l (Splits r ns) = tt
 rules s l (Ends w f) = tt
 rules s l (Breaks p) = tt

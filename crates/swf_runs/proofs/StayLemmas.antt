@@ -1,7 +1,8 @@
 -- What has ended stays as it is, whatever comes after it.
-use Rattle.std.proofs.Common.{◌≡◌, ◌∙◌, refl, ap, sym, subst, cond, ℕ, List, [], ◌∷◌, ◌++◌, codes, Bool, true, false, Option, Some, None, option_map}
+use Rattle.std.proofs.Common.{◌≡◌, ◌∙◌, refl, ap, sym, subst, cond, ℕ, List, [], ◌∷◌, ◌++◌, map, codes, Bool, true, false, Option, Some, None, option_map}
 use Rattle.std.proofs.lemmas.Option.{same_Some}
 use Rattle.swf_value.specs.Value.{text, object, no_members, member}
+use Rattle.swf_calls.specs.declared.reply.CallReply.{CallReply}
 use Rattle.swf_cloudevents.specs.declared.event.Event.{Event}
 use Rattle.swf_text.specs.Same.{same}
 use Rattle.swf_meaning.specs.Answer.{instance_at, report, status_of, with_error, with_output}
@@ -13,13 +14,14 @@ use Rattle.swf_meaning.specs.Offer.{offered_one, offered_all}
 use Rattle.swf_meaning.specs.World.{World, Instance, step_at, with_step, new_instance, site_of, line_of}
 use Rattle.swf_meaning.specs.Line.{Line, Site}
 use Rattle.swf_meaning.specs.declared.label.Label.{Label}
-use Rattle.swf_runs.specs.After.{stepped}
+use Rattle.swf_runs.specs.After.{replied_one, stepped}
 use Rattle.swf_runs.specs.Alive.{has_ended}
 use Rattle.swf_runs.specs.Stays.{Stays}
 use Rattle.swf_runs.specs.Runs.{run_from, world_at, Legal}
 use Rattle.swf_runs.proofs.OfferLemmas.{ended_offered}
 use Rattle.swf_runs.proofs.OnceLemmas.{mapped_some}
-use Rattle.swf_runs.proofs.WorldLemmas.{sent_to, Change, Kept, Began, Heard, Took, change, run_keeps, legal_both}
+use Rattle.swf_runs.proofs.ReplyLemmas.{ended_replied}
+use Rattle.swf_runs.proofs.WorldLemmas.{sent_to, Change, Kept, Began, Heard, Answered, Took, change, one_keeps, run_keeps, legal_both}
 
 -- the first of an id is still so where more come behind
 at_before : (id : List ℕ) (is js : List Instance) (i : Instance) → instance_at id is ≡ Some i → instance_at id (is ++ js) ≡ Some i
@@ -30,16 +32,21 @@ at_before id (x ∷ xs) js i e = by (same id x.id) e (at_before id xs js i)
     by true e h = e
     by false e h = h e
 
-pub at_offered : (id : List ℕ) (e : Event) (is : List Instance) → instance_at id (offered_all e is) ≡ option_map (offered_one e) (instance_at id is)
-at_offered id e [] = refl
-at_offered id e (x ∷ xs) = by (same id x.id) (at_offered id e xs)
+-- where ids stay, what becomes of the instance of an id is what becomes of that one
+at_each : (id : List ℕ) (f : Instance → Instance) → ((i : Instance) → (f i).id ≡ i.id) → (is : List Instance) → instance_at id (map f is) ≡ option_map f (instance_at id is)
+at_each id f kept [] = refl
+at_each id f kept (x ∷ xs) = ap (λ k. cond (same id k) (Some (f x)) (instance_at id (map f xs))) (kept x) ∙ by (same id x.id) (at_each id f kept xs)
   where
-    by : (b : Bool) → instance_at id (offered_all e xs) ≡ option_map (offered_one e) (instance_at id xs) → cond b (Some (offered_one e x)) (instance_at id (offered_all e xs)) ≡ option_map (offered_one e) (cond b (Some x) (instance_at id xs))
+    by : (b : Bool) → instance_at id (map f xs) ≡ option_map f (instance_at id xs) → cond b (Some (f x)) (instance_at id (map f xs)) ≡ option_map f (cond b (Some x) (instance_at id xs))
     by true h = refl
     by false h = h
 
+ended_answered : (id a : List ℕ) (r : CallReply) (is : List Instance) (i : Instance) → has_ended i.node ≡ true → instance_at id is ≡ Some i → instance_at id (map (replied_one a r) is) ≡ Some i
+ended_answered id a r is i h p =
+    at_each id (replied_one a r) (λ j. one_keeps (λ k. k.id ≡ j.id) a r j refl refl) is ∙ ap (option_map (replied_one a r)) p ∙ ap (λ j. Some j) (ended_replied a r i h)
+
 ended_heard : (id : List ℕ) (e : Event) (is : List Instance) (i : Instance) → has_ended i.node ≡ true → instance_at id is ≡ Some i → instance_at id (offered_all e is) ≡ Some i
-ended_heard id e is i h p = at_offered id e is ∙ ap (option_map (offered_one e)) p ∙ ap (λ j. Some j) (ended_offered e i h)
+ended_heard id e is i h p = at_each id (offered_one e) (λ j. refl) is ∙ ap (option_map (offered_one e)) p ∙ ap (λ j. Some j) (ended_offered e i h)
 
 ended_sent : (id : List ℕ) (o : Option Event) (is : List Instance) (i : Instance) → has_ended i.node ≡ true → instance_at id is ≡ Some i → instance_at id (sent_to o is) ≡ Some i
 ended_sent id None is i h p = p
@@ -85,6 +92,7 @@ ended_after : (id : List ℕ) (i : Instance) → has_ended i.node ≡ true → (
 ended_after id i h w m p (Kept e later) = ap (instance_at id) e ∙ p
 ended_after id i h w m p (Began new input d unused used room e now) = ap (instance_at id) e ∙ at_before id w.instances (new_instance new input w.now d ∷ []) i p
 ended_after id i h w m p (Heard x e now) = ap (instance_at id) e ∙ ended_heard id x w.instances i h p
+ended_after id i h w m p (Answered a r e now) = ap (instance_at id) e ∙ ended_answered id a r w.instances i h p
 ended_after id i h w m p (Took new strand js s e now) = ap (instance_at id) e ∙ ended_sent id js.1 js.0 i h (taken_ended w.now w.documents new strand w.instances js id i h s p)
 
 ended_run : (id : List ℕ) (i : Instance) → has_ended i.node ≡ true → (w m : World) (ls : List Label) → run_from w ls ≡ Some m → instance_at id w.instances ≡ Some i → instance_at id m.instances ≡ Some i

@@ -13,7 +13,7 @@ use Rattle.swf_meaning.specs.Node.{Node, Try, Running}
 use Rattle.swf_meaning.specs.Parts.{kind_of, listen_in}
 use Rattle.swf_meaning.specs.Put.{put_at}
 use Rattle.swf_meaning.specs.Strands.{tops, can_go, can_top}
-use Rattle.swf_meaning.specs.Top.{Top, Begins, Moves, Fails, Retries, Sleeps, Hears, Splits, Ends, Breaks, top_at, top_is, line_at}
+use Rattle.swf_meaning.specs.Top.{Top, Begins, Moves, Fails, Retries, Sleeps, Hears, Awaits, Splits, Ends, Breaks, top_at, top_is, line_at}
 use Rattle.swf_meaning.specs.World.{Instance, step_at, site_of, line_of, with_step}
 use Rattle.swf_meaning.specs.Answer.{instance_at}
 use Rattle.swf_meaning.specs.declared.heard.Heard.{Heard}
@@ -43,6 +43,8 @@ rule_can s l (Fails r round i p) = refl
 rule_can s l (Retries r n until) = some_if (nat_le until s.now) (comes_to l r (Try n) zero r.input)
 rule_can s l (Sleeps r until) = some_if (nat_le until s.now) (complete l r r.input)
 rule_can s l (Hears r bound hs) = heard_some l r hs (listen_in (kind_of r.task))
+rule_can s l (Awaits r a q None) = refl
+rule_can s l (Awaits r a q (Some p)) = refl
 rule_can s l (Splits r ns) = refl
 rule_can s l (Ends w f) = refl
 rule_can s l (Breaks p) = refl

@@ -1,19 +1,20 @@
--- What goes on without a step listens, or waits for a moment.
+-- What goes on without a step listens, waits for a moment, or awaits an answer.
 use Rattle.std.proofs.Common.{◌≡◌, ◌∙◌, refl, ap, sym, subst, cond, ℕ, zero, ◌+◌, ◌<◌, ◌⊎◌, inl, inr, ⊎_elim, List, [], ◌∷◌, map, length, codes, Bool, true, false, not, Option, Some, None, option_map, arith, ◌||◌}
 use Rattle.std.proofs.lemmas.Bool.{or_cases, or_left, or_right, both_ways, cases_Bool}
 use Rattle.std.proofs.lemmas.Option.{same_Some}
 use Rattle.std.specs.List.{AllByRecursion, cons_option, filter, filter_map, list_any}
 use Rattle.swf_text.specs.Same.{same}
+use Rattle.swf_calls.specs.Request.{Request}
 use Rattle.swf_text.proofs.SameLemmas.{same_refl}
 use Rattle.swf_meaning.specs.Answer.{instance_at, status_of}
 use Rattle.swf_meaning.specs.Complete.{Stepped}
 use Rattle.swf_meaning.specs.Documents.{Loaded}
 use Rattle.swf_meaning.specs.Listen.{is_heard}
 use Rattle.swf_meaning.specs.Local.{is_enabled}
-use Rattle.swf_meaning.specs.Node.{Node, Fresh, Live, Done, Fault, Inside, At, Later, Sleep, Hear, Forked, Nodes, no_nodes, branch, Running}
-use Rattle.swf_meaning.specs.Pending.{is_listening}
+use Rattle.swf_meaning.specs.Node.{Node, Fresh, Live, Done, Fault, Inside, At, Later, Sleep, Hear, Await, Forked, Nodes, no_nodes, branch, Running}
+use Rattle.swf_meaning.specs.Pending.{is_listening, open_call}
 use Rattle.swf_meaning.specs.Strands.{tops, tops_inside, tops_from, can_top}
-use Rattle.swf_meaning.specs.Top.{Top, Begins, Moves, Fails, Retries, Sleeps, Hears, Splits, Ends, Breaks}
+use Rattle.swf_meaning.specs.Top.{Top, Begins, Moves, Fails, Retries, Sleeps, Hears, Awaits, Splits, Ends, Breaks}
 use Rattle.swf_meaning.specs.Wake.{until_top}
 use Rattle.swf_meaning.specs.World.{World, Instance, step_at, with_step, site_of, line_of}
 use Rattle.swf_meaning.specs.declared.label.Label.{Label}
@@ -24,21 +25,22 @@ use Rattle.swf_runs.specs.Waiting.{IsListed, IsWaitListed}
 use Rattle.swf_runs.specs.Runs.{world_at, Legal}
 use Rattle.swf_runs.proofs.AliveLemmas.{local_alive}
 use Rattle.swf_runs.proofs.OfferLemmas.{alive_offered}
-use Rattle.swf_runs.proofs.WorldLemmas.{change, change_all, legal_keeps}
+use Rattle.swf_runs.proofs.ReplyLemmas.{alive_replied}
+use Rattle.swf_runs.proofs.WorldLemmas.{change, change_all, one_keeps, legal_keeps}
 
--- each step and each offer leaves an instance alive
+-- each step, each offer and each answer leaves an instance alive
 step_alive : (now : ℕ) (ds : List Loaded) (strand : List ℕ) (i : Instance) (m : Stepped) → step_at now ds strand i ≡ Some m → IsAlive i.node → IsAlive (with_step i m).node
 step_alive now ds strand i m s a = local_alive (site_of now ds i) (line_of i) strand i.node m s a
 
 alive_after : (w m : World) (l : Label) → IsAllAlive w → after w l ≡ Some m → IsAllAlive m
-alive_after w m l all e = change_all (λ i. IsAlive i.node) w m (λ id input d. tt) step_alive (λ x i a. alive_offered x i.node a) all (change w m l e)
+alive_after w m l all e = change_all (λ i. IsAlive i.node) w m (λ id input d. tt) step_alive (λ x i a. alive_offered x i.node a) (λ c r i a. one_keeps (λ i. IsAlive i.node) c r i (alive_replied c r i.node a) a) all (change w m l e)
 
 pub legal_alive : (h : List Label) → Legal h → IsAllAlive (world_at h)
 legal_alive h legal = legal_keeps IsAllAlive alive_after tt h legal
 
 -- something can take a step, or is listed
-abbrev OrListed : Bool → ℕ → ℕ → Type 0
-OrListed enabled listens timers = (enabled ≡ true) ⊎ (0 < listens + timers)
+abbrev OrListed : Bool → ℕ → ℕ → ℕ → Type 0
+OrListed enabled listens timers calls = (enabled ≡ true) ⊎ (0 < listens + timers + calls)
 
 -- the strand has not ended, and is no `fork`
 abbrev goes_on : Top → Bool
@@ -50,21 +52,28 @@ goes_on t = true
 abbrev listens : List (List ℕ × Top) → ℕ
 listens ss = length (map {A = List ℕ × Top} (λ s. s.0) (filter (λ s. is_listening s.1) ss))
 
+abbrev calls : List (List ℕ × Top) → ℕ
+calls ss = length (filter_map {X = List ℕ × Top} {Y = List ℕ × Request} (λ s. open_call s.1) ss)
+
 abbrev timers : List (List ℕ × Top) → ℕ
 timers ss = length (filter_map {X = List ℕ × Top} {Y = List ℕ × ℕ} (λ s. option_map (λ m. (s.0, m)) (until_top s.1)) ss)
 
 -- one more strand
-more_listed : (now : ℕ) (bs : List ℕ) (t : Top) (ss : List (List ℕ × Top)) → OrListed (list_any (λ s. can_top now s.1) ss) (listens ss) (timers ss) → OrListed (list_any (λ s. can_top now s.1) ((bs, t) ∷ ss)) (listens ((bs, t) ∷ ss)) (timers ((bs, t) ∷ ss))
+more_listed : (now : ℕ) (bs : List ℕ) (t : Top) (ss : List (List ℕ × Top)) → OrListed (list_any (λ s. can_top now s.1) ss) (listens ss) (timers ss) (calls ss) → OrListed (list_any (λ s. can_top now s.1) ((bs, t) ∷ ss)) (listens ((bs, t) ∷ ss)) (timers ((bs, t) ∷ ss)) (calls ((bs, t) ∷ ss))
 more_listed now bs t ss (inl e) = inl (or_right (can_top now t) (list_any (λ s. can_top now s.1) ss) e)
-more_listed now bs t ss (inr h) = inr (by (is_listening t) (until_top t))
+more_listed now bs t ss (inr h) = inr (by (is_listening t) (until_top t) (open_call t))
   where
-    by : (b : Bool) (o : Option ℕ) → 0 < length (map {A = List ℕ × Top} (λ s. s.0) (cond b ((bs, t) ∷ filter (λ s. is_listening s.1) ss) (filter (λ s. is_listening s.1) ss))) + length (cons_option {X = List ℕ × ℕ} (option_map (λ m. (bs, m)) o) (filter_map (λ s. option_map (λ m. (s.0, m)) (until_top s.1)) ss))
-    by true None = omega arith
-    by true (Some m) = omega arith
-    by false None = h
-    by false (Some m) = omega arith
+    by : (b : Bool) (o : Option ℕ) (c : Option (List ℕ × Request)) → 0 < length (map {A = List ℕ × Top} (λ s. s.0) (cond b ((bs, t) ∷ filter (λ s. is_listening s.1) ss) (filter (λ s. is_listening s.1) ss))) + length (cons_option {X = List ℕ × ℕ} (option_map (λ m. (bs, m)) o) (filter_map (λ s. option_map (λ m. (s.0, m)) (until_top s.1)) ss)) + length (cons_option {X = List ℕ × Request} c (filter_map (λ s. open_call s.1) ss))
+    by true None None = omega arith
+    by true None (Some q) = omega arith
+    by true (Some m) None = omega arith
+    by true (Some m) (Some q) = omega arith
+    by false None None = h
+    by false None (Some q) = omega arith
+    by false (Some m) None = omega arith
+    by false (Some m) (Some q) = omega arith
 
-one_listed : (now : ℕ) (bs : List ℕ) (t : Top) (ss : List (List ℕ × Top)) → goes_on t ≡ true → OrListed (list_any (λ s. can_top now s.1) ((bs, t) ∷ ss)) (listens ((bs, t) ∷ ss)) (timers ((bs, t) ∷ ss))
+one_listed : (now : ℕ) (bs : List ℕ) (t : Top) (ss : List (List ℕ × Top)) → goes_on t ≡ true → OrListed (list_any (λ s. can_top now s.1) ((bs, t) ∷ ss)) (listens ((bs, t) ∷ ss)) (timers ((bs, t) ∷ ss)) (calls ((bs, t) ∷ ss))
 one_listed now bs (Begins r v) ss e = inl refl
 one_listed now bs (Moves r round i w f) ss e = inl refl
 one_listed now bs (Fails r round i p) ss e = inl refl
@@ -72,15 +81,17 @@ one_listed now bs (Retries r n m) ss e = inr (omega arith)
 one_listed now bs (Sleeps r m) ss e = inr (omega arith)
 one_listed now bs (Hears r bound hs) ss e = by (is_heard r.task hs)
   where
-    by : (heard : Bool) → OrListed (heard || list_any (λ s. can_top now s.1) ss) (length (map {A = List ℕ × Top} (λ s. s.0) (cond (not heard) ((bs, Hears r bound hs) ∷ filter (λ s. is_listening s.1) ss) (filter (λ s. is_listening s.1) ss)))) (timers ss)
+    by : (heard : Bool) → OrListed (heard || list_any (λ s. can_top now s.1) ss) (length (map {A = List ℕ × Top} (λ s. s.0) (cond (not heard) ((bs, Hears r bound hs) ∷ filter (λ s. is_listening s.1) ss) (filter (λ s. is_listening s.1) ss)))) (timers ss) (calls ss)
     by true = inl refl
     by false = inr (omega arith)
+one_listed now bs (Awaits r a q None) ss e = inr (omega arith)
+one_listed now bs (Awaits r a q (Some p)) ss e = inl refl
 one_listed now bs (Splits r ns) ss e = cc
 one_listed now bs (Ends w f) ss e = cc
 one_listed now bs (Breaks p) ss e = cc
 
 -- some of these go on
-some_listed : (now : ℕ) (ss : List (List ℕ × Top)) → list_any (λ s. goes_on s.1) ss ≡ true → OrListed (list_any (λ s. can_top now s.1) ss) (listens ss) (timers ss)
+some_listed : (now : ℕ) (ss : List (List ℕ × Top)) → list_any (λ s. goes_on s.1) ss ≡ true → OrListed (list_any (λ s. can_top now s.1) ss) (listens ss) (timers ss) (calls ss)
 some_listed now [] e = cc
 some_listed now (s ∷ ss) e = elim (or_cases (goes_on s.1) (list_any (λ s. goes_on s.1) ss) e) [
   | inl own ↦ one_listed now s.0 s.1 ss own
@@ -107,6 +118,7 @@ mutual
   some_on_inside r (Later n m) a = refl
   some_on_inside r (Sleep m) a = refl
   some_on_inside r (Hear bound hs) a = refl
+  some_on_inside r (Await b q o) a = refl
   some_on_inside r (Forked ns) a = some_on_among ns a.0 a.2
 
   some_on_among : (ns : Nodes) → some_goes_on ns ≡ true → AreAlive ns → list_any (λ s. goes_on s.1) (tops_from zero ns) ≡ true

@@ -1,5 +1,5 @@
 -- What a label needs, and what it changes.
-use Rattle.std.specs.Prelude.{◌+◌, ◌||◌, ℕ, List, [], ◌∷◌, ◌++◌, Bool, false, length, nat_le, Option, Some, None, option_map, option_and_then, if◌then◌else◌}
+use Rattle.std.specs.Prelude.{◌+◌, ◌&&◌, ◌||◌, ℕ, List, [], ◌∷◌, ◌++◌, Bool, length, map, not, nat_le, Option, Some, None, option_map, option_and_then, if◌then◌else◌}
 use Rattle.std.specs.List.{list_any}
 use Rattle.swf_value.specs.Value.{Value}
 use Rattle.swf_calls.specs.declared.reply.CallReply.{CallReply}
@@ -12,12 +12,12 @@ use Rattle.swf_document.specs.declared.document.Document.{Document}
 use Rattle.swf_meaning.specs.declared.label.Label.{Label}
 use Rattle.swf_meaning.specs.declared.label.Label.TheVariants.{Load, Start, Event as Told, Reply, Moment, Step}
 use Rattle.swf_document.specs.declared.fault.Fault.{Fault}
-use Rattle.swf_meaning.specs.Built.{not_built}
 use Rattle.swf_meaning.specs.Documents.{Loaded, document_at}
 use Rattle.swf_runs.specs.Keys.{same_key}
 use Rattle.swf_meaning.specs.Offer.{offered_all, takers}
 use Rattle.swf_meaning.specs.declared.key.Key.{Key}
-use Rattle.swf_meaning.specs.declared.key.Key.TheVariants.{Document as OfDocument, Instance as OfInstance, Event as OfEvent, Moment as OfMoment}
+use Rattle.swf_meaning.specs.declared.key.Key.TheVariants.{Document as OfDocument, Instance as OfInstance, Event as OfEvent, Activity as OfActivity, Moment as OfMoment}
+use Rattle.swf_meaning.specs.Reply.{is_of, is_open as is_open_in, with_reply}
 use Rattle.swf_meaning.specs.World.{Instance, World, step_at, new_instance, with_step}
 
 abbrev pub most_documents : ℕ
@@ -40,21 +40,13 @@ with_document w v d = record (counted (OfDocument d.key) w) { documents = w.docu
 abbrev pub loaded : World → Value → Document → Option World
 loaded w v d = if is_used (OfDocument d.key) w || nat_le most_documents (length w.documents) then None else Some (with_document w v d)
 
--- the faults for which a value cannot be loaded: those of its document, and else the first task of a kind that is not built
-abbrev pub or_not_built : Document → List Fault → List Fault
-or_not_built d [] = not_built d
-or_not_built d (f ∷ fs) = f ∷ fs
-
-abbrev pub load_faults : Value → List Fault
-load_faults v = or_not_built (document_of v) (faults v)
-
 abbrev pub if_none : Document → List Fault → Option Document
 if_none d [] = Some d
 if_none d (f ∷ fs) = None
 
--- the document of a value that can be loaded
+-- the document of a value that can be loaded: of one that has no faults
 abbrev pub accepted : Value → Option Document
-accepted v = if_none (document_of v) (load_faults v)
+accepted v = if_none (document_of v) (faults v)
 
 abbrev pub with_instance : World → Instance → World
 with_instance w i = record (counted (OfInstance i.id) w) { instances = w.instances ++ i ∷ [] }
@@ -74,13 +66,20 @@ with_event w e = record (counted (OfEvent e.source e.id) w) { instances = offere
 abbrev pub told : World → Event → Option World
 told w e = if is_used (OfEvent e.source e.id) w then None else Some (with_event w e)
 
--- the activity is a call that waits for a reply; no task that is built makes one
+-- the activity is a call of its instance that awaits its answer
 abbrev pub is_open : List ℕ → World → Bool
-is_open a w = false
+is_open a w = list_any (λ i. is_of a i.id && is_open_in a i.node) w.instances
 
--- a reply needs an open call
+-- an instance after an answer came
+abbrev pub replied_one : List ℕ → CallReply → Instance → Instance
+replied_one a r i = if is_of a i.id then record i { node = with_reply a r i.node } else i
+
+abbrev pub with_answer : World → List ℕ → CallReply → World
+with_answer w a r = record (counted (OfActivity a) w) { instances = map (replied_one a r) w.instances }
+
+-- an answer that is new, of an open call
 abbrev pub replied : World → List ℕ → CallReply → Option World
-replied w a r = if is_open a w then Some w else None
+replied w a r = if is_used (OfActivity a) w || not (is_open a w) then None else Some (with_answer w a r)
 
 -- the instances after a strand of the one of that id took a step at a moment, where these documents are loaded, and the event that goes
 -- out; none where there is none or it cannot

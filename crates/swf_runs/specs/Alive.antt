@@ -3,7 +3,7 @@ use Rattle.std.specs.Prelude.{◌≡◌, Bool, true, false, if◌then◌else◌}
 use Rattle.std.specs.List.{AllByRecursion}
 use Rattle.swf_document.specs.Task.{Task}
 use Rattle.swf_meaning.specs.Fork.{competes}
-use Rattle.swf_meaning.specs.Node.{Node, Fresh, Live, Done, Fault, Inside, At, Later, Sleep, Hear, Forked, Nodes, no_nodes, branch}
+use Rattle.swf_meaning.specs.Node.{Node, Fresh, Live, Done, Fault, Inside, At, Later, Sleep, Hear, Await, Forked, Nodes, no_nodes, branch}
 use Rattle.swf_meaning.specs.World.{World}
 
 -- done, or ended in an error: no rule applies to it
@@ -43,6 +43,7 @@ abbrev mutual
   IsAliveInside t (Later n m) = Unit {0}
   IsAliveInside t (Sleep m) = Unit {0}
   IsAliveInside t (Hear bound hs) = Unit {0}
+  IsAliveInside t (Await a q o) = Unit {0}
   IsAliveInside t (Forked ns) = (some_goes_on ns ≡ true) × (competes t ≡ true → all_go_on ns ≡ true) × AreAlive ns
 
   pub AreAlive : Nodes → Type 0

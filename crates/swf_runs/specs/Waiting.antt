@@ -3,12 +3,12 @@ use Rattle.std.specs.Prelude.{nat_le, ◌≡◌, ◌+◌, ◌<◌, ℕ, length, 
 use Rattle.std.specs.List.{list_any}
 use Rattle.swf_meaning.specs.Answer.{instance_at, status_of}
 use Rattle.swf_meaning.specs.Node.{Node}
-use Rattle.swf_meaning.specs.Pending.{listening, waiting}
+use Rattle.swf_meaning.specs.Pending.{listening, open_calls, waiting}
 use Rattle.swf_meaning.specs.World.{Instance, World}
 
--- at least one strand listens for an event, or waits for a moment
+-- at least one strand listens for an event, waits for a moment, or awaits an answer
 abbrev pub IsListed : Node → Type 0
-IsListed n = 0 < length (listening n) + length (waiting n)
+IsListed n = 0 < length (listening n) + length (waiting n) + length (open_calls n)
 
 -- what waits is listed
 abbrev pub IsWaitListed : World → Type 0

@@ -14,7 +14,8 @@ ghost use Rattle.swf_runs.specs.Waiting.{IsOverRunning, IsWaitListed};
 ghost use Rattle.swf_runs.specs.Within.{IsWithin};
 ghost use Rattle.swf_runs.specs.Runs.{Legal, world_at};
 
-/// In a legal run no document is loaded twice under one key, no id starts two instances, and no moment is reached twice.
+/// In a legal run no document is loaded twice under one key, no id starts two instances, no event is told twice, no call is answered
+/// twice, and no moment is reached twice.
 pub fn legal_once()
     ensures no_key_twice { (h : List Label) → Legal h → Once h }
 {}
@@ -35,7 +36,8 @@ pub fn legal_alive()
     ensures forks_go_on { (h : List Label) → Legal h → IsAllAlive (world_at h) }
 {}
 
-/// After a legal run an instance whose status is waiting has a strand that listens, or one that waits for a moment.
+/// After a legal run an instance whose status is waiting has a strand that listens, one that waits for a moment, or one that awaits an
+/// answer.
 pub fn legal_waiting()
     ensures waiting_is_listed { (h : List Label) → Legal h → IsWaitListed (world_at h) }
 {}

@@ -5,6 +5,7 @@ use Rattle.swf_document.specs.Task.{Task}
 use Rattle.swf_document.specs.declared.error.ErrorKind.{ErrorKind}
 use Rattle.swf_document.specs.declared.error.Problem.{Problem}
 use Rattle.swf_meaning.specs.Complete.{Stepped}
+use Rattle.swf_meaning.specs.Line.{Line}
 use Rattle.swf_meaning.specs.Parts.{place_of}
 use Rattle.swf_stack.specs.Stack.{stepped_of}
 use Rattle.swf_scene.specs.declared.halt.Halt.{Halt}
@@ -22,8 +23,8 @@ Gives m (Ok x) = m ≡ Ok x
 Gives m (Err (halts.Fault p)) = m ≡ Err p
 Gives m (Err halts.OutOfMemory) = Unit {0}
 
--- the step of a rule
-abbrev pub Makes : Result Stepped Problem → Result Made Halt → Type 0
-Makes m (Ok x) = m ≡ Ok (stepped_of x)
-Makes m (Err (halts.Fault p)) = m ≡ Err p
-Makes m (Err halts.OutOfMemory) = Unit {0}
+-- the step of a rule, of a task that goes by the line
+abbrev pub Makes : Line → Result Stepped Problem → Result Made Halt → Type 0
+Makes l m (Ok x) = m ≡ Ok (stepped_of l x)
+Makes l m (Err (halts.Fault p)) = m ≡ Err p
+Makes l m (Err halts.OutOfMemory) = Unit {0}

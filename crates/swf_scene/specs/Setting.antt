@@ -8,14 +8,14 @@ use Rattle.swf_scene.specs.declared.setting.Setting.{Setting}
 
 -- what every step of an instance goes by, outside all tasks
 abbrev pub setting_line : Setting → Line
-setting_line s = record { document = s.document; id = s.id; started = s.started; input = s.input; context = s.context; around = [] }
+setting_line s = record { document = s.document; id = s.id; started = s.started; input = s.input; context = s.context; around = []; depth = 0 }
 
 abbrev pub line_of : Scene → Line
-line_of s = record (setting_line s.setting.now) { context = s.context; around = s.around.items }
+line_of s = record (setting_line s.setting) { around = s.around.items; depth = s.depth }
 
 -- and what some go by besides
 abbrev pub site_of : Scene → Site
-site_of s = record { number = s.setting.now.number; branches = s.branches; now = s.site.now; documents = s.site.documents.now.documents }
+site_of s = record { number = s.setting.number; branches = s.branches; now = s.site.now; documents = s.site.documents.now.documents }
 
 -- the same without the variables around
 abbrev pub alone : Line → Line

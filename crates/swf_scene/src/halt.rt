@@ -11,7 +11,6 @@ use std::alloc::{AllocError, AllocFailed, Global};
 use swf_catalog::TaskRef;
 use swf_document::{ErrorKind, Problem, standard_error};
 use swf_transform::{Got, message};
-use swf_value::Json;
 
 /// Why a rule does not go on.
 #[derive(Drop)]
@@ -61,7 +60,7 @@ fn failure(
 }
 
 /// The value that was got for a task, or its error.
-pub fn value_of(alloc: Global, task: &TaskRef, got: Got<Json>) -> Result<Json, Halt>
+pub fn value_of<T: Drop>(alloc: Global, task: &TaskRef, got: Got<T>) -> Result<T, Halt>
     ensures { Gives (value_of task.now got) result }
 {
     match got {

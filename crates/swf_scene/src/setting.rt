@@ -5,7 +5,7 @@ ghost use Rattle.swf_value.specs.ValueCode.{value_code};
 ghost use Rattle.swf_meaning.specs.Line.{epoch, workflow_value};
 
 use std::alloc::{AllocError, Global};
-use swf_catalog::{SharedDocument, Words};
+use swf_catalog::{SharedDocument, SubWorkflow, Words};
 use swf_duration::Moment;
 use swf_text::Text;
 use swf_value::{Json, Member};
@@ -27,7 +27,7 @@ pub struct Setting {
 impl Setting {
     ghost use Rattle.swf_value.specs.Value.{null};
     ghost use Rattle.swf_meaning.specs.Node.{Node};
-    ghost use Rattle.swf_scene.specs.Setting.{instance_of};
+    ghost use Rattle.swf_scene.specs.Setting.{instance_of, setting_line};
 
     /// That of an instance that has just begun.
     pub fn new(
@@ -48,6 +48,29 @@ impl Setting {
             workflow,
             context: Json::null(),
             number: 0,
+        })
+    }
+
+    /// That of a sub-workflow of the instance.
+    pub fn of_sub(&self, alloc: Global, sub: &SubWorkflow) -> Result<Setting, AllocError>
+        ensures line { IfOk result (λ s. setting_line s ≡ record (setting_line self.now) { document = sub.now.document; input = sub.now.input; context = sub.now.context }) }
+        ensures number { IfOk result (λ s. s.number ≡ self.now.number) }
+    {
+        let SubWorkflow {
+            document,
+            input,
+            context,
+        } = sub;
+        let words = document.get().words();
+        let workflow = workflow_value(alloc, words, &self.id, self.started, input)?;
+        Ok(Setting {
+            document: document.copy()?,
+            id: self.id.copy()?,
+            started: self.started,
+            input: input.copy()?,
+            workflow,
+            context: context.copy()?,
+            number: self.number,
         })
     }
 

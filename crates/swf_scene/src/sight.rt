@@ -138,7 +138,7 @@ fn name_at(alloc: Global, place: &Place) -> Result<Text, AllocError>
 }
 
 // The names that variables need.
-fn words_of<'a>(scene: &Scene<'a>) -> &'a Words {
+fn words_of<'s>(scene: &'s Scene<'_>) -> &'s Words {
     scene.setting.document.get().words()
 }
 
@@ -188,7 +188,7 @@ fn with_context(alloc: Global, scene: &Scene) -> Result<Vec<Variable>, AllocErro
     push_variable(
         &mut variables,
         words_of(scene).context(),
-        scene.context.copy()?,
+        scene.setting.context.copy()?,
     )?;
     Ok(variables)
 }

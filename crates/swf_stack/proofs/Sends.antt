@@ -8,10 +8,15 @@ use Rattle.swf_chain.specs.contracts.chain.Chain as chain
 use Rattle.swf_cloudevents.specs.contracts.named.NamedValues as named
 use Rattle.swf_cloudevents.specs.contracts.event.Payload as payload
 use Rattle.swf_cloudevents.specs.contracts.event.Event as event
+use Rattle.swf_calls.specs.contracts.headers.Header as header
+use Rattle.swf_calls.specs.contracts.headers.Headers as headers
+use Rattle.swf_calls.specs.contracts.request.CallRequest as request
+use Rattle.swf_calls.specs.contracts.reply.CallReply as reply
 use Rattle.swf_document.specs.contracts.boxed.Boxed as boxed
 use Rattle.swf_meaning.specs.contracts.heard.Heard as heard
-use Rattle.swf_document.proofs.Sent.{text_send, text_sync, json_send, json_sync, boxed_send, boxed_sync, flow_inside_send, flow_inside_sync, listing_send, listing_sync, problem_inside_send, problem_inside_sync}
-use Rattle.swf_catalog.proofs.TaskSends.{task_send, task_sync, round_inside_send, round_inside_sync}
+use Rattle.swf_document.proofs.Sent.{text_send, text_sync, json_send, json_sync, boxed_send, boxed_sync, flow_inside_send, flow_inside_sync, listing_send, listing_sync, method_inside_send, method_inside_sync, problem_inside_send, problem_inside_sync}
+use Rattle.swf_catalog.specs.contracts.shared.Shared as shared
+use Rattle.swf_catalog.proofs.TaskSends.{shared_send, shared_sync, task_send, task_sync, round_inside_send, round_inside_sync}
 use Rattle.swf_stack.specs.contracts.running.Running as running
 use Rattle.swf_stack.specs.contracts.made.Frame as frame
 use Rattle.swf_stack.specs.contracts.made.Top as top
@@ -56,6 +61,48 @@ heard_inside_sync = search (sendable, event_inside_sync) depth 20
 pub heard_sync : IsSync heard.the_row
 heard_sync = search (sendable, heard_inside_sync) depth 4
 
+pub header_inside_send : IsSend (header.the_field).row
+header_inside_send = search (sendable, text_send) depth 20
+
+pub header_send : IsSend header.the_row
+header_send = search (sendable, header_inside_send) depth 4
+
+pub header_inside_sync : IsSync (header.the_field).row
+header_inside_sync = search (sendable, text_sync) depth 20
+
+pub header_sync : IsSync header.the_row
+header_sync = search (sendable, header_inside_sync) depth 4
+
+pub headers_send : IsSend headers.the_row
+headers_send = search (sendable, crosses, header_send) depth 20
+
+pub headers_sync : IsSync headers.the_row
+headers_sync = search (sendable, crosses, header_sync) depth 20
+
+pub request_send : IsSend request.the_row
+request_send = search (sendable, method_inside_send, text_send, headers_send, json_send, option.the_field_send) depth 20
+
+pub request_sync : IsSync request.the_row
+request_sync = search (sendable, method_inside_sync, text_sync, headers_sync, json_sync, option.the_field_sync) depth 20
+
+pub shared_request_send : IsSend (shared.the_row request.the_row)
+shared_request_send = shared_send request.the_row request_send request_sync
+
+pub shared_request_sync : IsSync (shared.the_row request.the_row)
+shared_request_sync = shared_sync request.the_row request_send request_sync
+
+pub reply_inside_send : IsSend (reply.the_field).row
+reply_inside_send = search (sendable, headers_send, json_send) depth 20
+
+pub reply_send : IsSend reply.the_row
+reply_send = search (sendable, reply_inside_send) depth 4
+
+pub reply_inside_sync : IsSync (reply.the_field).row
+reply_inside_sync = search (sendable, headers_sync, json_sync) depth 20
+
+pub reply_sync : IsSync reply.the_row
+reply_sync = search (sendable, reply_inside_sync) depth 4
+
 -- ---- a task, and what a strand holds
 
 pub running_send : IsSend running.the_row
@@ -89,13 +136,13 @@ pub chain_frame_sync : IsSync (chain.the_row frame.the_row)
 chain_frame_sync = search (sendable, crosses, chain_knot.crosses, frame_send, frame_sync) depth 20
 
 pub top_inside_send : IsSend (top.the_field).row
-top_inside_send = search (sendable, task_send, running_send, json_send, flow_inside_send, problem_inside_send, option.the_field_send, named_send, heard_send, heard_sync, listing_send) depth 20
+top_inside_send = search (sendable, task_send, running_send, json_send, flow_inside_send, problem_inside_send, option.the_field_send, named_send, heard_send, heard_sync, listing_send, text_send, shared_request_send, reply_send) depth 20
 
 pub top_send : IsSend top.the_row
 top_send = search (sendable, top_inside_send) depth 4
 
 pub top_inside_sync : IsSync (top.the_field).row
-top_inside_sync = search (sendable, task_sync, running_sync, json_sync, flow_inside_sync, problem_inside_sync, option.the_field_sync, named_sync, heard_send, heard_sync, listing_sync) depth 20
+top_inside_sync = search (sendable, task_sync, running_sync, json_sync, flow_inside_sync, problem_inside_sync, option.the_field_sync, named_sync, heard_send, heard_sync, listing_sync, text_sync, shared_request_sync, reply_sync) depth 20
 
 pub top_sync : IsSync top.the_row
 top_sync = search (sendable, top_inside_sync) depth 4

@@ -1,5 +1,5 @@
 -- The tasks that run on a strand.
-use Rattle.std.proofs.Common.{◌≡◌, List, [], ◌∷◌, ◌++◌, Option, Some, None, refl, sym, append-nil}
+use Rattle.std.proofs.Common.{◌≡◌, List, ◌++◌, Option, Some, None, refl, sym, append-nil}
 use Rattle.std.specs.Prelude.{option_to_list}
 use Rattle.swf_stack.specs.Stands.{inward}
 use Rattle.swf_stack.specs.declared.made.Frame.{Frame}

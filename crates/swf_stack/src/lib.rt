@@ -3,10 +3,12 @@
 
 mod crossing;
 mod heard;
+mod kept;
 mod made;
 mod running;
 
 pub use crossing::stand_crosses;
 pub use heard::{events_of, is_heard, takes};
+pub use kept::{Kept, keep};
 pub use made::{Frame, Made, SentEvent, Stand, Top};
 pub use running::Running;

@@ -3,12 +3,14 @@ ghost use Rattle.std.specs.Prelude.{◌≡◌, ◌<◌, ◌-◌, ◌^◌, ◌++�
 
 use crate::running::Running;
 use std::alloc::{AllocError, Global};
-use swf_catalog::{Round, TaskRef};
+use swf_calls::{CallReply, CallRequest};
+use swf_catalog::{Round, Shared, TaskRef};
 use swf_chain::Chain;
 use swf_cloudevents::{Event, NamedValues};
 use swf_document::{Boxed, Flow, Listing, Problem};
 use swf_frames::CopyFrame;
 use swf_meaning::Heard;
+use swf_text::Text;
 use swf_value::Json;
 
 /// A task that runs, and the place of what runs in its list.
@@ -44,6 +46,13 @@ pub enum Top {
         bound: NamedValues,
         heard: Listing<Heard>,
     },
+    /// A `call`, with its activity, its request, and what it was answered, once it was.
+    Awaiting {
+        running: Running,
+        activity: Text,
+        request: Shared<CallRequest>,
+        answer: Option<CallReply>,
+    },
     /// A `fork` whose branches run, each on a strand of its own below this one.
     Forked(Running),
 }
@@ -58,19 +67,30 @@ pub struct Stand {
 /// An event that goes out, behind a box, since most steps send none.
 pub type SentEvent = Boxed<Event>;
 
-/// What a step makes of the task that takes it: the task with what runs in it, or what it ended in; the context; and the event
-/// that goes out, where one does.
+/// What a step makes of the task that takes it: the task with what runs in it, or what it ended in; the context, where it changed; how
+/// many of the instance's numbers it used; and the event that goes out, where one does.
 #[derive(Drop)]
 pub struct Made {
     pub frame: Option<Boxed<Frame>>,
     pub top: Boxed<Top>,
-    pub context: Json,
+    pub context: Option<Json>,
+    pub used: u64,
     pub emitted: Option<SentEvent>,
+}
+
+// What a call was answered once more, where it was.
+fn copy_answer(alloc: Global, answer: &Option<CallReply>) -> Result<Option<CallReply>, AllocError>
+    ensures { IfOk result (λ o. o ≡ answer.now) }
+{
+    match answer {
+        Some(reply) => Ok(Some(reply.copy(alloc)?)),
+        None => Ok(None),
+    }
 }
 
 impl Top {
     /// The same once more. It copies no values.
-    pub fn copy(&self) -> Result<Top, AllocError>
+    pub fn copy(&self, alloc: Global) -> Result<Top, AllocError>
         ensures { IfOk result (λ t. t ≡ self.now) }
     {
         match self {
@@ -101,6 +121,17 @@ impl Top {
                 bound: bound.copy()?,
                 heard: heard.copy()?,
             }),
+            Top::Awaiting {
+                running,
+                activity,
+                request,
+                answer,
+            } => Ok(Top::Awaiting {
+                running: running.copy()?,
+                activity: activity.copy()?,
+                request: request.copy()?,
+                answer: copy_answer(alloc, answer)?,
+            }),
             Top::Forked(running) => Ok(Top::Forked(running.copy()?)),
         }
     }
@@ -121,14 +152,13 @@ impl Stand {
     /// What a strand holds with this inside its running tasks.
     pub fn inside(
         alloc: Global,
-        around: &Chain<Frame>,
+        mut around: Chain<Frame>,
         frame: Option<Boxed<Frame>>,
         top: Boxed<Top>,
     ) -> Result<Stand, AllocError>
-        ensures around { IfOk result (λ s. s.around ≡ option_to_list frame ++ around.now) }
+        ensures around { IfOk result (λ s. s.around ≡ option_to_list frame ++ around) }
         ensures top { IfOk result (λ s. s.top ≡ top) }
     {
-        let mut around = around.copy()?;
         if let Some(frame) = frame {
             around = around.with(alloc, frame.into_inner())?;
         }
@@ -138,7 +168,7 @@ impl Stand {
 
 impl CopyFrame for Stand {
     fn copy(&self, alloc: Global) -> Result<Stand, AllocError> {
-        let top = self.top.get().copy()?;
+        let top = self.top.get().copy(alloc)?;
         Ok(Stand {
             around: self.around.copy()?,
             top: Boxed::new(alloc, top)?,

@@ -4,7 +4,7 @@ use Rattle.std.proofs.lemmas.Option.{same_Some}
 use Rattle.std.specs.List.{fold, reduce}
 use Rattle.swf_frames.specs.Tree.{Tree, Branch, find, numbers}
 use Rattle.swf_frames.specs.Paths.{nth}
-use Rattle.swf_meaning.specs.Node.{Node, Fresh, Live, Done, Fault, Inside, At, Later, Sleep, Hear, Forked, Nodes, no_nodes, branch, Running}
+use Rattle.swf_meaning.specs.Node.{Node, Fresh, Live, Done, Fault, Inside, At, Later, Sleep, Hear, Await, Forked, Nodes, no_nodes, branch, Running}
 use Rattle.swf_meaning.specs.Wake.{waits}
 use Rattle.swf_meaning.proofs.TopsLemmas.{waits_among, waits_among-branch, waits-at}
 use Rattle.swf_stack.specs.Stands.{frames_of, inward, top_of}
@@ -65,6 +65,7 @@ plain-alarm (tops.Fault p) e = refl
 plain-alarm (tops.Waiting r None m) e = refl
 plain-alarm (tops.Waiting r (Some n) m) e = refl
 plain-alarm (tops.Hearing r bound hs) e = refl
+plain-alarm (tops.Awaiting r a q o) e = refl
 plain-alarm (tops.Forked r) e = cc
 
 alarm-node : (b : Branch Stand) → IsGrownAt b → alarm_of (node_of b) ≡ earlier (own_until (node_of b)) (alarm_among (nodes_of b.below))
@@ -120,6 +121,7 @@ own-is b s e = sym (own-top b s.top (sym (ap top_of e)) ∙ by s.top)
     by (tops.Fault p) = refl
     by (tops.Waiting r n m) = ap own_until (waiting-forked r n m (nodes_of b.below)) ∙ own_until-waiting r n m
     by (tops.Hearing r bound hs) = refl
+    by (tops.Awaiting r a q o) = refl
     by (tops.Forked r) = refl
 
 -- what a strand waits for that is put anew
@@ -133,6 +135,7 @@ alarm-stand s = ap (reduce min) (waits-plug (inward s.around) (forked (top_node 
     by (tops.Waiting r None m) = refl
     by (tops.Waiting r (Some n) m) = refl
     by (tops.Hearing r bound hs) = refl
+    by (tops.Awaiting r a q o) = refl
     by (tops.Forked r) = refl
 
 -- ---- one strand is put anew
@@ -151,6 +154,7 @@ abbrev mutual
   beside_inside b bs (Later n m) = []
   beside_inside b bs (Sleep m) = []
   beside_inside b bs (Hear bound hs) = []
+  beside_inside b bs (Await a q o) = []
   beside_inside b bs (Forked ns) = beside_among b bs ns
 
   beside_among : ℕ → List ℕ → Nodes → List ℕ
@@ -171,6 +175,7 @@ mutual
   alarm-inside b bs m r (Later n l) x e = absurd (nothing x e)
   alarm-inside b bs m r (Sleep l) x e = absurd (nothing x e)
   alarm-inside b bs m r (Hear bound hs) x e = absurd (nothing x e)
+  alarm-inside b bs m r (Await a q o) x e = absurd (nothing x e)
   alarm-inside b bs m r (Forked ns) x e = alarm-branches b bs m ns x e
 
   alarm-branches : (b : ℕ) (bs : List ℕ) (m : Node) (ns : Nodes) (x : Node) → at_among b bs ns ≡ Some x → alarm_among (replaced_among b bs m ns) ≡ earlier (alarm_of m) (reduce min (beside_among b bs ns))
@@ -203,6 +208,7 @@ mutual
   itself-inside b bs (Later n l) x e = refl
   itself-inside b bs (Sleep l) x e = refl
   itself-inside b bs (Hear bound hs) x e = refl
+  itself-inside b bs (Await a q o) x e = refl
   itself-inside b bs (Forked ns) x e = ap Forked (itself-among b bs ns x e)
 
   itself-among : (b : ℕ) (bs : List ℕ) (ns : Nodes) (x : Node) → at_among b bs ns ≡ Some x → replaced_among b bs x ns ≡ ns

@@ -3,8 +3,10 @@ use Rattle.std.proofs.Common.{◌≡◌, ◌∙◌, refl, sym, ap, ℕ, zero, su
 use Rattle.std.proofs.Math.Bool.{or-false}
 use Rattle.std.proofs.Math.Dec.{eqb-suc-zero}
 use Rattle.std.proofs.lemmas.Option.{same_Some}
-use Rattle.std.specs.Prelude.{◌||◌, ◌==◌, nat_le}
+use Rattle.std.specs.Prelude.{◌||◌, ◌==◌, is_some, nat_le}
 use Rattle.swf_value.specs.Value.{Value, Members}
+use Rattle.swf_calls.specs.Request.{Request}
+use Rattle.swf_calls.specs.declared.reply.CallReply.{CallReply}
 use Rattle.swf_document.specs.Task.{Task}
 use Rattle.swf_document.specs.declared.common.Flow.{Flow}
 use Rattle.swf_document.specs.declared.error.Problem.{Problem}
@@ -12,7 +14,7 @@ use Rattle.swf_frames.specs.Tree.{Tree, Strands, no_strands, strand, Branch, fin
 use Rattle.swf_frames.specs.Paths.{Found, nth}
 use Rattle.swf_meaning.specs.Listen.{is_heard}
 use Rattle.swf_meaning.specs.Local.{is_enabled}
-use Rattle.swf_meaning.specs.Node.{Node, Fresh, Live, Done, Fault, Inside, At, Hear, Forked, Nodes, no_nodes, branch, Round, Running}
+use Rattle.swf_meaning.specs.Node.{Node, Fresh, Live, Done, Fault, Inside, At, Hear, Await, Forked, Nodes, no_nodes, branch, Round, Running}
 use Rattle.swf_meaning.specs.Strands.{can_go, can_top}
 use Rattle.swf_meaning.specs.Top.{top_is}
 use Rattle.swf_meaning.specs.Wake.{waits}
@@ -141,6 +143,9 @@ goes-waiting now fs t ns r n m e =
 pub goes-hearing : (now : ℕ) (fs : List Frame) (t : Top) (ns : Nodes) (r : Running) (bound : Members) (hs : List Heard) → t ≡ tops.Hearing r bound hs → is_heard r.task hs ≡ goes now fs t ns
 goes-hearing now fs t ns r bound hs e = goes-is now fs t (tops.Hearing r bound hs) ns (is_heard r.task hs) e (can_go-live now fs r (Hear bound hs))
 
+pub goes-awaiting : (now : ℕ) (fs : List Frame) (t : Top) (ns : Nodes) (r : Running) (a : List ℕ) (q : Request) (o : Option CallReply) → t ≡ tops.Awaiting r a q o → is_some o ≡ goes now fs t ns
+goes-awaiting now fs t ns r a q o e = goes-is now fs t (tops.Awaiting r a q o) ns (is_some o) e (can_go-live now fs r (Await a q o))
+
 pub goes-forked : (now : ℕ) (fs : List Frame) (t : Top) (ns : Nodes) (r : Running) → t ≡ tops.Forked r → false ≡ goes now fs t ns
 goes-forked now fs t ns r e = goes-is now fs t (tops.Forked r) ns false e (can_go-live now fs r (Forked ns))
 
@@ -179,6 +184,7 @@ plain-enabled now [] (tops.Fault p) e = refl
 plain-enabled now [] (tops.Waiting r None m) e = or-false (nat_le m now)
 plain-enabled now [] (tops.Waiting r (Some n) m) e = or-false (nat_le m now)
 plain-enabled now [] (tops.Hearing r bound hs) e = or-false (is_heard r.task hs)
+plain-enabled now [] (tops.Awaiting r a q o) e = or-false (is_some o)
 plain-enabled now [] (tops.Forked r) e = cc
 plain-enabled now (f ∷ g ∷ gs) t e = plain-enabled now (g ∷ gs) t e
 plain-enabled now (f ∷ []) (tops.Fresh r v) e = refl
@@ -187,6 +193,7 @@ plain-enabled now (f ∷ []) (tops.Fault p) e = refl
 plain-enabled now (f ∷ []) (tops.Waiting r None m) e = or-false (nat_le m now)
 plain-enabled now (f ∷ []) (tops.Waiting r (Some n) m) e = or-false (nat_le m now)
 plain-enabled now (f ∷ []) (tops.Hearing r bound hs) e = or-false (is_heard r.task hs)
+plain-enabled now (f ∷ []) (tops.Awaiting r a q o) e = or-false (is_some o)
 plain-enabled now (f ∷ []) (tops.Forked r) e = cc
 
 -- a strand itself can, or one below it

@@ -156,6 +156,7 @@ fork-with (tops.Done w f) bs e = absurd (nothing bs e)
 fork-with (tops.Fault p) bs e = absurd (nothing bs e)
 fork-with (tops.Waiting r n m) bs e = absurd (nothing bs e)
 fork-with (tops.Hearing r b hs) bs e = absurd (nothing bs e)
+fork-with (tops.Awaiting r a q o) bs e = absurd (nothing bs e)
 fork-with (tops.Forked r) bs e = (r, (refl, sym (same_Some _ bs e)))
 
 numbers-fresh : (n : ℕ) (ls : List Stand) → length (numbers (fresh n ls)) ≡ length ls

@@ -28,6 +28,7 @@ plain-strands (tops.Fault p) e = refl
 plain-strands (tops.Waiting r None m) e = refl
 plain-strands (tops.Waiting r (Some n) m) e = refl
 plain-strands (tops.Hearing r bound hs) e = refl
+plain-strands (tops.Awaiting r a q o) e = refl
 plain-strands (tops.Forked r) e = cc
 
 pub strands-node : (b : Branch Stand) → IsGrownAt b → strands (node_of b) ≡ [] ∷ strands_from 0 (nodes_of b.below)

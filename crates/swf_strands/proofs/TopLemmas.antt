@@ -5,7 +5,7 @@ use Rattle.swf_value.specs.Value.{Value}
 use Rattle.swf_document.specs.Task.{Task}
 use Rattle.swf_frames.specs.Tree.{Branch}
 use Rattle.swf_frames.specs.Paths.{Found, nth}
-use Rattle.swf_meaning.specs.Node.{Node, Fresh, Live, Done, Fault, Inside, At, Later, Sleep, Hear, Forked, Nodes, no_nodes, branch, Running}
+use Rattle.swf_meaning.specs.Node.{Node, Fresh, Live, Done, Fault, Inside, At, Later, Sleep, Hear, Await, Forked, Nodes, no_nodes, branch, Running}
 use Rattle.swf_meaning.specs.Top.{Top, top_at, top_inside, top_branch, top_is}
 use Rattle.swf_meaning.specs.Wake.{until_top}
 use Rattle.swf_stack.specs.Stack.{plug}
@@ -43,6 +43,7 @@ mutual
   top-inside b bs r (Later n m) = refl
   top-inside b bs r (Sleep m) = refl
   top-inside b bs r (Hear bound hs) = refl
+  top-inside b bs r (Await a q o) = refl
   top-inside b bs r (Forked ns) = top-among b bs ns
 
   top-among : (b : ℕ) (bs : List ℕ) (ns : Nodes) → top_branch b bs ns ≡ option_and_then (top_at []) (at_among b bs ns)

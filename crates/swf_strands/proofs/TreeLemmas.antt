@@ -53,6 +53,7 @@ fork-of (tops.Done w f) e = absurd (yes-no (sym e))
 fork-of (tops.Fault p) e = absurd (yes-no (sym e))
 fork-of (tops.Waiting r n m) e = absurd (yes-no (sym e))
 fork-of (tops.Hearing r b hs) e = absurd (yes-no (sym e))
+fork-of (tops.Awaiting r a q o) e = absurd (yes-no (sym e))
 fork-of (tops.Forked r) e = (r, refl)
 
 none-in : (i : ℕ) (c : Found Stand) (ss : Strands Stand) → ss ≡ no_strands → nth ss i ≡ Some c → ⊥
@@ -82,6 +83,7 @@ no-fork-node (tops.Done w f) ns e = refl
 no-fork-node (tops.Fault p) ns e = refl
 no-fork-node (tops.Waiting r n m) ns e = waiting-forked r n m ns
 no-fork-node (tops.Hearing r b hs) ns e = refl
+no-fork-node (tops.Awaiting r a q o) ns e = refl
 no-fork-node (tops.Forked r) ns e = absurd (yes-no e)
 
 -- what holds no `fork` is what stands on it
@@ -121,6 +123,7 @@ at-top i is (tops.Done w f) ns e = refl
 at-top i is (tops.Fault p) ns e = refl
 at-top i is (tops.Waiting r n m) ns e = ap (at (i ∷ is)) (waiting-forked r n m ns) ∙ at-waiting i is r n m
 at-top i is (tops.Hearing r b hs) ns e = refl
+at-top i is (tops.Awaiting r a q o) ns e = refl
 at-top i is (tops.Forked r) ns e = at_among-none i is ns e
 
 pub at-no-child : (b : Branch Stand) (i : ℕ) (is : List ℕ) → nth b.below i ≡ None → at (i ∷ is) (node_of b) ≡ None

@@ -26,6 +26,7 @@ branches_in (tops.Done w f) = None
 branches_in (tops.Fault p) = None
 branches_in (tops.Waiting r n m) = None
 branches_in (tops.Hearing r bound hs) = None
+branches_in (tops.Awaiting r a q o) = None
 branches_in (tops.Forked r) = Some (fresh_stands (branches_of r.task) r.input)
 
 abbrev pub IsPutAnew : ℕ → Stand → Tree Stand → Tree Stand → Type 0

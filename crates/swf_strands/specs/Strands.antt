@@ -37,6 +37,7 @@ is_fork (tops.Done w f) = false
 is_fork (tops.Fault p) = false
 is_fork (tops.Waiting r n m) = false
 is_fork (tops.Hearing r bound hs) = false
+is_fork (tops.Awaiting r a q o) = false
 is_fork (tops.Forked r) = true
 
 -- one stand

@@ -1,6 +1,6 @@
 -- The strand that branch numbers lead to in the tree of an instance.
 use Rattle.std.specs.Prelude.{ℕ, zero, suc, List, [], ◌∷◌, Bool, Option, Some, None, is_some, option_and_then}
-use Rattle.swf_meaning.specs.Node.{Node, Fresh, Live, Done, Fault, Inside, At, Later, Sleep, Hear, Forked, Nodes, no_nodes, branch}
+use Rattle.swf_meaning.specs.Node.{Node, Fresh, Live, Done, Fault, Inside, At, Later, Sleep, Hear, Await, Forked, Nodes, no_nodes, branch}
 use Rattle.swf_meaning.specs.Pending.{is_listening}
 use Rattle.swf_meaning.specs.Top.{top_at, top_is}
 use Rattle.swf_meaning.specs.Wake.{until_top}
@@ -19,6 +19,7 @@ abbrev mutual
   at_inside b bs (Later n m) = None
   at_inside b bs (Sleep m) = None
   at_inside b bs (Hear bound hs) = None
+  at_inside b bs (Await a q o) = None
   at_inside b bs (Forked ns) = at_among b bs ns
 
   pub at_among : ℕ → List ℕ → Nodes → Option Node
@@ -43,6 +44,7 @@ abbrev mutual
   replaced_inside b bs m (Later n l) = Later n l
   replaced_inside b bs m (Sleep l) = Sleep l
   replaced_inside b bs m (Hear bound hs) = Hear bound hs
+  replaced_inside b bs m (Await a q o) = Await a q o
   replaced_inside b bs m (Forked ns) = Forked (replaced_among b bs m ns)
 
   pub replaced_among : ℕ → List ℕ → Node → Nodes → Nodes

@@ -22,6 +22,7 @@ fn can_go(stand: &Stand, now: Moment) -> bool
         Top::Fault(_) => !stand.around.is_empty(),
         Top::Waiting { until, .. } => *until <= now.milliseconds(),
         Top::Hearing { running, heard, .. } => is_heard(running.task(), heard.as_slice()),
+        Top::Awaiting { answer, .. } => answer.is_some(),
         Top::Forked(_) => false,
     }
 }

@@ -14,7 +14,7 @@ use Rattle.swf_meaning.specs.Parts.{kind_of, listen_in}
 use Rattle.swf_meaning.specs.Put.{put_at}
 use Rattle.swf_meaning.specs.Shared.{is_shared, unshared, after_one, advanced}
 use Rattle.swf_meaning.specs.Strands.{can_go, can_top}
-use Rattle.swf_meaning.specs.Top.{Top, Begins, Moves, Fails, Retries, Sleeps, Hears, Splits, Ends, Breaks, top_at, top_is, line_at}
+use Rattle.swf_meaning.specs.Top.{Top, Begins, Moves, Fails, Retries, Sleeps, Hears, Awaits, Splits, Ends, Breaks, top_at, top_is, line_at}
 use Rattle.swf_meaning.specs.World.{Instance, line_of, site_of, step_at, with_step}
 use Rattle.swf_meaning.specs.declared.heard.Heard.{Heard}
 use Rattle.swf_tasks.specs.Taken.{taken}
@@ -32,6 +32,8 @@ no_rule s l (Fails r round i p) e = cc
 no_rule s l (Retries r n until) e = ap (λ x. if x then Some (comes_to l r (Try n) zero r.input) else None) e
 no_rule s l (Sleeps r until) e = ap (λ x. if x then Some (complete l r r.input) else None) e
 no_rule s l (Hears r bound hs) e = unheard l r hs (listen_in (kind_of r.task)) e
+no_rule s l (Awaits r a q None) e = refl
+no_rule s l (Awaits r a q (Some p)) e = cc
 no_rule s l (Splits r ns) e = refl
 no_rule s l (Ends w f) e = refl
 no_rule s l (Breaks p) e = refl

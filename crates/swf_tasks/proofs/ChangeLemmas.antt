@@ -19,7 +19,8 @@ use Rattle.swf_meaning.specs.Top.{top_branch, top_is, line_branch}
 use Rattle.swf_meaning.specs.Node.{Node, Fresh, Live, Done, Fault, Forked, Nodes, no_nodes, branch, Running}
 use Rattle.swf_rules.specs.Settles.{ending, MakesSome}
 use Rattle.swf_stack.specs.Stands.{frames_of, inward, top_of}
-use Rattle.swf_stack.specs.Stack.{plug, top_node, made_node, stepped_of, used_by, seen_in}
+use Rattle.swf_stack.specs.Kept.{context_kept, kept}
+use Rattle.swf_stack.specs.Stack.{context_or, plug, top_node, made_node, stepped_of, seen_in}
 use Rattle.swf_stack.proofs.StandLemmas.{inward-more}
 use Rattle.swf_scene.specs.Halts.{Makes}
 use Rattle.swf_scene.specs.declared.halt.Halt.{Halt}
@@ -35,7 +36,8 @@ use Rattle.swf_strands.specs.Strands.{made_stand, node_of, nodes_of, is_fork, Is
 use Rattle.swf_strands.specs.Ways.{has_strand, replaced}
 use Rattle.swf_tasks.specs.declared.prepared.Prepared.{Prepared}
 use Rattle.swf_tasks.specs.declared.prepared.Strands.TheVariants as strands
-use Rattle.swf_tasks.proofs.StepLemmas.{plug-append, is_open, open-plug, local-put, local-plug}
+use Rattle.swf_tasks.proofs.KeptLemmas.{plug-append, put_in-made, put_in-same}
+use Rattle.swf_tasks.proofs.StepLemmas.{is_open, open-plug, local-put, local-plug}
 use Rattle.swf_strands.proofs.AskLemmas.{can_go-live}
 use Rattle.swf_strands.proofs.TopLemmas.{top-no-child}
 use Rattle.swf_strands.proofs.TreeLemmas.{nth_node, nth_node-of, nothing, yes-no, has-fork, fork-node, at-child, replaced-fork, plain-node, held-is, IsChild}
@@ -44,21 +46,23 @@ use Rattle.swf_strands.proofs.OrderLemmas.{can_go-child}
 -- ---- what stands innermost takes its step
 
 -- what a rule makes, with these tasks around it
-pub made-around : (fs : List Frame) (m : Made) (h : Stand) → h.around ≡ option_to_list m.frame ++ fs → h.top ≡ m.top → made_stand h ≡ plug (inward fs) (stepped_of m).node
+pub made-around : (fs : List Frame) (m : Made) (h : Stand) → h.around ≡ option_to_list m.frame ++ fs → h.top ≡ m.top → made_stand h ≡ plug (inward fs) (plug (option_to_list m.frame) (made_node m.top))
 made-around fs m h a t =
     (λ i. plug (inward (a i)) (made_node (t i))) ∙ ap (λ gs. plug gs (made_node m.top)) (inward-more fs m.frame) ∙ plug-append (inward fs) (option_to_list m.frame) (made_node m.top)
 
-pub own-change : (s : Site) (l : Line) (h : Stand) (m : Made) (x : Stand) (way : List ℕ) (above : ℕ) (p : Prepared) → IsStep s l h (stepped_of m) → p.strands ≡ strands.One above x → x.around ≡ option_to_list m.frame ++ outer h.top h.around → x.top ≡ m.top → p.context ≡ m.context → p.emitted ≡ m.emitted →
-    p.strand ≡ way → p.number ≡ s.number + used_by m.emitted → IsChange s l way above [] (own_node h) p
+pub own-change : (s : Site) (l : Line) (h : Stand) (m : Made) (x : Stand) (way : List ℕ) (above : ℕ) (p : Prepared) → IsStep s l h m → p.strands ≡ strands.One above x → x.around ≡ option_to_list m.frame ++ kept (outer h.top h.around) m.context → x.top ≡ m.top →
+    p.context ≡ context_kept (outer h.top h.around) m.context → p.emitted ≡ m.emitted → p.strand ≡ way → p.number ≡ s.number + m.used → IsChange s l way above [] (own_node h) p
 own-change s l h m x way above p step puts a t c e named number = record {
   depth = 0;
   stand = x;
+  used = m.used;
   puts = puts ∙ ap (λ n. strands.One n x) (omega arith);
   deep = omega arith;
   there = refl;
-  step = step ∙ ap Some (λ i. record { node = sym (made-around (outer h.top h.around) m x a t) i; context = sym c i; used = used_by (sym e i); emitted = sym e i });
+  step = step ∙ ap Some (put_in-made l (outer h.top h.around) (stepped_of (seen_in l (inward (outer h.top h.around))) m) m.context refl)
+      ∙ ap Some (λ i. record { node = sym (made-around (kept (outer h.top h.around) m.context) m x a t) i; context = context_or l.context (sym c i); used = m.used; emitted = sym e i });
   named = named;
-  number = number ∙ ap (λ o. s.number + used_by o) (sym e);
+  number = number;
 }
 
 -- ---- a branch takes its step
@@ -71,7 +75,7 @@ local-among s l (suc i) bs (branch m ns) n f e = local-among s l i bs ns n f e
 
 -- inside running tasks a branch of a `fork` takes its step
 local-fork : (s : Site) (l : Line) (fs : List Frame) (r : Running) (ns : Nodes) (i : ℕ) (bs : List ℕ) (n : Node) (m : Stepped) → nth_node ns i ≡ Some n → local s (seen_in l fs) bs n ≡ Some m →
-    local s l (i ∷ bs) (plug fs (Live r (Forked ns))) ≡ Some (put_in fs (after_branch (seen_in l fs) r ns i m))
+    local s l (i ∷ bs) (plug fs (Live r (Forked ns))) ≡ Some (put_in l fs (after_branch (seen_in l fs) r ns i m))
 local-fork s l fs r ns i bs n m e h =
     let z = seen_in l fs in
     local-plug s l (i ∷ bs) fs (Live r (Forked ns)) (after_branch z r ns i m) refl (local-among s z i bs ns n (after_branch z r ns i) e ∙ ap (option_map (after_branch z r ns i)) h)
@@ -116,6 +120,7 @@ open-or-ended zero bs h n l there none = open-in h.around h.top none
     open-top (tops.Fault p) e = absurd (nothing _ (sym e))
     open-top (tops.Waiting r k m) e = refl
     open-top (tops.Hearing r b hs) e = refl
+    open-top (tops.Awaiting r a q o) e = refl
     open-top (tops.Forked r) e = refl
 
     open-in : (fs : List Frame) (t : Top) → ended_in fs t ≡ None → is_open (plug (inward fs) (made_node t)) ≡ true
@@ -135,22 +140,24 @@ line_on l b = seen_in l (frames_of b.frames)
 
 -- what the branch of that number, which holds this, comes to
 abbrev pub branch_at : {s : Site} {z : Line} {way : List ℕ} {above : ℕ} (h : Found Stand) (inner : List ℕ) (p : Prepared) → IsChange s z way above inner (node_of h.held) p → Stepped
-branch_at h inner p change = change_at change.depth change.stand p inner (node_of h.held)
+branch_at {z = z} h inner p change = change_at change.depth change.stand z.context change.used p inner (node_of h.held)
 
 -- the strand with the branch anew
 goes-on : (s : Site) (l : Line) (way : List ℕ) (above : ℕ) (b : Branch Stand) (i : ℕ) (h : Found Stand) (inner : List ℕ) (p r : Prepared) → IsGrownAt b → nth b.below i ≡ Some h → (change : IsChange s (line_on l b) way (above + 1) inner (node_of h.held) p) →
     ((q : Running) → top_of b.frames ≡ tops.Forked q → after_branch (line_on l b) q (nodes_of b.below) i (branch_at h inner p change) ≡ goes_with (line_on l b) q (nodes_of b.below) i (branch_at h inner p change)) →
-    r ≡ record p { context = (line_on l b).context } → IsChange s l way above (i ∷ inner) (node_of b) r
+    r ≡ record p { context = None } → IsChange s l way above (i ∷ inner) (node_of b) r
 goes-on s l way above b i h inner p r g e change after is = subst (IsChange s l way above (i ∷ inner) (node_of b)) (sym is) (record {
   depth = suc d;
   stand = change.stand;
+  used = change.used;
   puts = change.puts ∙ ap (λ n. strands.One n change.stand) (omega arith);
   deep = omega (arith, change.deep);
   there = ap is_some (at-child b i (take d inner) h g e) ∙ change.there;
   step = ap (local s l (i ∷ inner)) f.1.1
       ∙ local-fork s l fs f.0 ns i inner (node_of h.held) x n change.step
-      ∙ ap (λ y. Some (put_in fs y)) (after f.0 f.1.0)
-      ∙ ap (λ m. Some (record x { node = m; context = (line_on l b).context })) (sym node);
+      ∙ ap (λ y. Some (put_in l fs y)) (after f.0 f.1.0)
+      ∙ ap Some (put_in-same l fs (goes_with (line_on l b) f.0 ns i x) refl)
+      ∙ ap (λ m. Some (record x { node = m; context = l.context })) (sym node);
   named = change.named;
   number = change.number;
 })
@@ -182,7 +189,7 @@ ended-branch s z way above inner n p o change e = sym (ended-of above change.dep
 
 -- where the branch has not ended
 pub goes-deeper : (s : Site) (l : Line) (way : List ℕ) (above : ℕ) (b : Branch Stand) (i : ℕ) (h : Found Stand) (inner : List ℕ) (p r : Prepared) → IsGrownAt b → nth b.below i ≡ Some h → IsChange s (line_on l b) way (above + 1) inner (node_of h.held) p →
-    ended_at (above + 1) p.strands ≡ None → r ≡ record p { context = (line_on l b).context } → IsChange s l way above (i ∷ inner) (node_of b) r
+    ended_at (above + 1) p.strands ≡ None → r ≡ record p { context = None } → IsChange s l way above (i ∷ inner) (node_of b) r
 goes-deeper s l way above b i h inner p r g e change none =
     goes-on s l way above b i h inner p r g e change
     (λ q top. open-after (line_on l b) q (nodes_of b.below) i (branch_at h inner p change)
@@ -205,6 +212,7 @@ settled-ending : (l : Line) (r : Running) (compete : Bool) (ns : Nodes) (x : Top
 settled-ending l r compete ns (tops.Fresh t w) e = absurd (yes-no (sym e))
 settled-ending l r compete ns (tops.Waiting q n m) e = absurd (yes-no (sym e))
 settled-ending l r compete ns (tops.Hearing q b hs) e = absurd (yes-no (sym e))
+settled-ending l r compete ns (tops.Awaiting q a u o) e = absurd (yes-no (sym e))
 settled-ending l r compete ns (tops.Forked q) e = absurd (yes-no (sym e))
 settled-ending l r compete ns (tops.Done w flows.End) e = refl
 settled-ending l r compete ns (tops.Done w flows.Continue) e = or-joined l r ns compete w (outputs ns)
@@ -216,6 +224,7 @@ ended-top : (t x : Top) → if_ended t ≡ Some x → (t ≡ x) × (has_ended x 
 ended-top (tops.Fresh r v) x e = absurd (nothing x e)
 ended-top (tops.Waiting r n m) x e = absurd (nothing x e)
 ended-top (tops.Hearing r b hs) x e = absurd (nothing x e)
+ended-top (tops.Awaiting r a q o) x e = absurd (nothing x e)
 ended-top (tops.Forked r) x e = absurd (nothing x e)
 ended-top (tops.Done w f) x e = (same_Some _ x e, ap has_ended (sym (same_Some (tops.Done w f) x e)))
 ended-top (tops.Fault p) x e = (same_Some _ x e, ap has_ended (sym (same_Some (tops.Fault p) x e)))
@@ -224,6 +233,7 @@ made-ended : (x : Top) → has_ended x ≡ true → made_node x ≡ top_node x
 made-ended (tops.Fresh r v) e = refl
 made-ended (tops.Waiting r n m) e = refl
 made-ended (tops.Hearing r b hs) e = refl
+made-ended (tops.Awaiting r a q o) e = refl
 made-ended (tops.Forked r) e = absurd (yes-no (sym e))
 made-ended (tops.Done w f) e = refl
 made-ended (tops.Fault p) e = refl
@@ -242,38 +252,40 @@ abbrev ends : Line → Branch Stand → ℕ → Top → Running → Option Stepp
 ends l b i x r = option_map (step_of l) (ending l r (competes r.task) (option_map listed (outputs (put (nodes_of b.below) i (top_node x)))) x)
 
 after-ended : (s : Site) (l z : Line) (way : List ℕ) (above : ℕ) (b : Branch Stand) (i : ℕ) (h : Found Stand) (inner : List ℕ) (p : Prepared) (x : Top) (r : Running) → (change : IsChange s z way above inner (node_of h.held) p) → ended_of change.depth change.stand ≡ Some x →
-    after_branch l r (nodes_of b.below) i (branch_at h inner p change) ≡ record (or_on l r (put (nodes_of b.below) i (top_node x)) (ends l b i x r)) { used = used_by p.emitted; emitted = p.emitted }
+    after_branch l r (nodes_of b.below) i (branch_at h inner p change) ≡ record (or_on l r (put (nodes_of b.below) i (top_node x)) (ends l b i x r)) { used = change.used; emitted = p.emitted }
 after-ended s l z way above b i h inner p x r change e =
     let n = ended-node change.depth inner change.stand (node_of h.held) x e in
-    ap (λ y. record (step_of l (settled l r (competes r.task) (put (nodes_of b.below) i y) y)) { used = used_by p.emitted; emitted = p.emitted }) n.1
-    ∙ ap (λ (y : Stepped). record y { used = used_by p.emitted; emitted = p.emitted }) (settled-ending l r (competes r.task) (put (nodes_of b.below) i (top_node x)) x n.0)
+    ap (λ y. record (step_of l (settled l r (competes r.task) (put (nodes_of b.below) i y) y)) { used = change.used; emitted = p.emitted }) n.1
+    ∙ ap (λ (y : Stepped). record y { used = change.used; emitted = p.emitted }) (settled-ending l r (competes r.task) (put (nodes_of b.below) i (top_node x)) x n.0)
 
 -- it goes on
 pub settle-on : (s : Site) (l : Line) (way : List ℕ) (above : ℕ) (b : Branch Stand) (i : ℕ) (h : Found Stand) (inner : List ℕ) (p r : Prepared) (x : Top) → IsGrownAt b → nth b.below i ≡ Some h → IsChange s (line_on l b) way (above + 1) inner (node_of h.held) p →
-    ended_at (above + 1) p.strands ≡ Some x → ((q : Running) → top_of b.frames ≡ tops.Forked q → ends (line_on l b) b i x q ≡ None) → r ≡ record p { context = (line_on l b).context } → IsChange s l way above (i ∷ inner) (node_of b) r
+    ended_at (above + 1) p.strands ≡ Some x → ((q : Running) → top_of b.frames ≡ tops.Forked q → ends (line_on l b) b i x q ≡ None) → r ≡ record p { context = None } → IsChange s l way above (i ∷ inner) (node_of b) r
 settle-on s l way above b i h inner p r x g e change ended none =
     let z = line_on l b in
     let done = ended-branch s z way (above + 1) inner (node_of h.held) p (Some x) change ended in
     goes-on s l way above b i h inner p r g e change (λ q top.
     after-ended s z z way (above + 1) b i h inner p x q change done
-    ∙ ap (λ o. record (or_on z q (put (nodes_of b.below) i (top_node x)) o) { used = used_by p.emitted; emitted = p.emitted }) (none q top)
+    ∙ ap (λ o. record (or_on z q (put (nodes_of b.below) i (top_node x)) o) { used = change.used; emitted = p.emitted }) (none q top)
     ∙ ap (λ y. record (branch_at h inner p change) { node = Live q (Forked (put (nodes_of b.below) i y)); context = z.context }) (sym (ended-node change.depth inner change.stand (node_of h.held) x done).1))
 
 -- it ends
 pub settle-off : (s : Site) (l : Line) (way : List ℕ) (above : ℕ) (b : Branch Stand) (i : ℕ) (h : Found Stand) (inner : List ℕ) (p r : Prepared) (x : Top) (m : Made) (top y : Stand) → IsGrownAt b → nth b.below i ≡ Some h → IsChange s (line_on l b) way (above + 1) inner (node_of h.held) p →
-    ended_at (above + 1) p.strands ≡ Some x → ((q : Running) → top_of b.frames ≡ tops.Forked q → ends (line_on l b) b i x q ≡ Some (stepped_of m)) → b.frames ≡ top ∷ [] →
-    y.around ≡ option_to_list m.frame ++ top.around → y.top ≡ m.top → r ≡ record p { strands = strands.One above y; context = m.context } → IsChange s l way above (i ∷ inner) (node_of b) r
+    ended_at (above + 1) p.strands ≡ Some x → ((q : Running) → top_of b.frames ≡ tops.Forked q → ends (line_on l b) b i x q ≡ Some (stepped_of (line_on l b) m)) → b.frames ≡ top ∷ [] →
+    y.around ≡ option_to_list m.frame ++ kept top.around m.context → y.top ≡ m.top → r ≡ record p { strands = strands.One above y; context = context_kept top.around m.context } → IsChange s l way above (i ∷ inner) (node_of b) r
 settle-off s l way above b i h inner p r x m top y g e change ended some one a t is = subst (IsChange s l way above (i ∷ inner) (node_of b)) (sym is) (record {
   depth = 0;
   stand = y;
+  used = change.used;
   puts = ap (λ n. strands.One n y) (omega arith);
   deep = omega arith;
   there = refl;
   step = ap (local s l (i ∷ inner)) f.1.1
       ∙ local-fork s l fs f.0 (nodes_of b.below) i inner (node_of h.held) (branch_at h inner p change) (nth_node-of b.below i h e) change.step
-      ∙ ap (λ k. Some (put_in fs k)) (after-ended s z z way (above + 1) b i h inner p x f.0 change (ended-branch s z way (above + 1) inner (node_of h.held) p (Some x) change ended))
-      ∙ ap (λ o. Some (put_in fs (record (or_on z f.0 (put (nodes_of b.below) i (top_node x)) o) { used = used_by p.emitted; emitted = p.emitted }))) (some f.0 f.1.0)
-      ∙ ap (λ n. Some (record { node = n; context = m.context; used = used_by p.emitted; emitted = p.emitted })) node;
+      ∙ ap (λ k. Some (put_in l fs k)) (after-ended s z z way (above + 1) b i h inner p x f.0 change (ended-branch s z way (above + 1) inner (node_of h.held) p (Some x) change ended))
+      ∙ ap (λ o. Some (put_in l fs (record (or_on z f.0 (put (nodes_of b.below) i (top_node x)) o) { used = change.used; emitted = p.emitted }))) (some f.0 f.1.0)
+      ∙ ap Some (placed z refl)
+      ∙ ap (λ n. Some (record { node = n; context = context_or l.context (context_kept top.around m.context); used = change.used; emitted = p.emitted })) (sym (made-around (kept top.around m.context) m y a t));
   named = change.named;
   number = change.number;
 })
@@ -287,8 +299,15 @@ settle-off s l way above b i h inner p r x m top y g e change ended some one a t
     f : (q : Running) × ((top_of b.frames ≡ tops.Forked q) × (node_of b ≡ plug fs (Live q (Forked (nodes_of b.below)))))
     f = fork-node b.frames (nodes_of b.below) (has-fork b i h g e)
 
-    node : plug fs (stepped_of m).node ≡ made_stand y
-    node = ap (λ ls. plug (frames_of ls) (stepped_of m).node) one ∙ sym (made-around top.around m y a t)
+    same : fs ≡ inward top.around
+    same = ap frames_of one
+
+    placed : (k : Line) → k ≡ z → put_in l fs (record (stepped_of k m) { used = change.used; emitted = p.emitted }) ≡
+        record { node = plug (inward (kept top.around m.context)) (plug (option_to_list m.frame) (made_node m.top)); context = context_or l.context (context_kept top.around m.context); used = change.used; emitted = p.emitted }
+    placed k is =
+        ap (λ gs. put_in l gs (record (stepped_of k m) { used = change.used; emitted = p.emitted })) same
+        ∙ put_in-made l top.around (record (stepped_of k m) { used = change.used; emitted = p.emitted }) m.context
+        (ap (λ (w : Line). context_or w.context m.context) (is ∙ ap (seen_in l) same))
 
 -- ---- what the rule of a `fork` gives
 
@@ -305,10 +324,10 @@ settles-to z l b i x a compete o e hz hc ho he ha r hr = subst (on_fork (λ q. e
     here = sym (λ j. option_map (step_of (hz j)) (ending (hz j) a (hc j) (ho j) x)) ∙ he
 
 -- where it ends in an error
-pub halted : (z : Line) (r : Running) (e : Option (Result Stepped Problem)) (h : Halt) (m : Made) → MakesSome e (Err h) → ((g : Result Stepped Problem) → Makes g (Err h) → stepped_of m ≡ step_of z g) → option_map (step_of z) e ≡ Some (stepped_of m)
-halted z r e (halts.Fault p) m h k = ap (option_map (step_of z)) h ∙ ap Some (sym (k (Err p) refl))
+pub halted : (z : Line) (r : Running) (e : Option (Result Stepped Problem)) (h : Halt) (m : Made) → MakesSome z e (Err h) → ((y : Line) (g : Result Stepped Problem) → Makes y g (Err h) → stepped_of y m ≡ step_of y g) → option_map (step_of z) e ≡ Some (stepped_of z m)
+halted z r e (halts.Fault p) m h k = ap (option_map (step_of z)) h ∙ ap Some (sym (k z (Err p) refl))
 halted z r e halts.OutOfMemory m h k =
-    absurd (yes-no (sym (ap (λ (x : Stepped). is_open x.node) (k (Ok (becomes z (Fresh r.task r.raw))) tt)) ∙ ap (λ (x : Stepped). is_open x.node) (k (Ok (becomes z (Done r.raw flows.Continue))) tt)))
+    absurd (yes-no (sym (ap (λ (x : Stepped). is_open x.node) (k z (Ok (becomes z (Fresh r.task r.raw))) tt)) ∙ ap (λ (x : Stepped). is_open x.node) (k z (Ok (becomes z (Done r.raw flows.Continue))) tt)))
 
 -- ---- options
 

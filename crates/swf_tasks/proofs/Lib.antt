@@ -1,3 +1,4 @@
+pub mod KeptLemmas
 pub mod WayLemmas
 pub mod StepLemmas
 pub mod ChangeLemmas

@@ -21,6 +21,7 @@ none-on-top (tops.Fault p) e = refl
 none-on-top (tops.Waiting r None until) e = refl
 none-on-top (tops.Waiting r (Some n) until) e = refl
 none-on-top (tops.Hearing r bound hs) e = cc
+none-on-top (tops.Awaiting r a q o) e = refl
 none-on-top (tops.Forked r) e = refl
 
 none-after : (s : Strands) (bs : List ℕ) (n : Node) → may_listen s ≡ false → event_types n ≡ [] → event_types (node_after s bs n) ≡ []

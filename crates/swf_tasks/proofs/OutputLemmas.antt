@@ -55,6 +55,7 @@ output-top (tops.Done w f) ns = refl
 output-top (tops.Fault p) ns = refl
 output-top (tops.Waiting r n m) ns = refl
 output-top (tops.Hearing r b hs) ns = refl
+output-top (tops.Awaiting r a q o) ns = refl
 output-top (tops.Forked r) ns = refl
 
 pub output-plug : (fs : List Frame) (t : Top) (ns : Nodes) → output_on fs t ≡ output_in (plug (inward fs) (forked (top_node t) ns))
@@ -71,6 +72,7 @@ output-ended (tops.Done w f) = refl
 output-ended (tops.Fault p) = refl
 output-ended (tops.Waiting r n m) = refl
 output-ended (tops.Hearing r b hs) = refl
+output-ended (tops.Awaiting r a q o) = refl
 output-ended (tops.Forked r) = refl
 
 -- the outputs up to a number are these

@@ -12,7 +12,7 @@ use Rattle.swf_meaning.specs.Strands.{branches_in, can_go}
 use Rattle.swf_meaning.specs.World.{Instance, line_of, site_of}
 use Rattle.swf_meaning.proofs.TopsLemmas.{strands_among, strands_among-branch, branches_in-at, branches_in-fork}
 use Rattle.swf_stack.specs.Stands.{frames_of, top_of}
-use Rattle.swf_stack.specs.Stack.{plug, top_node}
+use Rattle.swf_stack.specs.Stack.{context_or, plug, top_node}
 use Rattle.swf_catalog.specs.Rounds.{round_of}
 use Rattle.swf_scene.specs.Setting.{setting_line, instance_of}
 use Rattle.swf_stack.specs.declared.made.Frame.{Frame}
@@ -44,6 +44,7 @@ plain-branches (tops.Fault p) e = refl
 plain-branches (tops.Waiting r None m) e = refl
 plain-branches (tops.Waiting r (Some n) m) e = refl
 plain-branches (tops.Hearing r bound hs) e = refl
+plain-branches (tops.Awaiting r a q o) e = refl
 plain-branches (tops.Forked r) e = cc
 
 branches-node : (ls : List Stand) (below : Below Stand) → IsStrand ls below → branches_in (strand_node ls (nodes_of below)) ≡ strands_among (nodes_of below)
@@ -117,7 +118,7 @@ change-fits s l bs ws i p same change =
 pub prepared-by : (now : ℕ) (ds : List Loaded) (bs ws : List ℕ) (i : Instance) (c p : Prepared) (new : Strands) → ws ≡ c.strand → IsChange (site_of now ds i) (line_of i) bs 0 bs i.node c → IsBegun c.strands ws i.node new → p ≡ record c { strands = new } → IsPrepared now ds bs i p
 prepared-by now ds bs ws i c p new same change begun is = subst (IsPrepared now ds bs i) (sym is) (record {
   fits = subst (λ w. fits new w i.node) same begun.fits;
-  step = ap (option_map (taken i)) change.step ∙ λ j. Some (record i { node = node j; context = c.context; number = sym change.number j }, c.emitted);
+  step = ap (option_map (taken i)) change.step ∙ λ j. Some (record i { node = node j; context = context_or i.context c.context; number = sym change.number j }, c.emitted);
 })
   where
     d : ℕ
@@ -155,6 +156,6 @@ pub fits-root : (s : Strands) (ws bs : List ℕ) (t : Setting) (old : Below Stan
 fits-root s ws bs t old i view same f = subst (λ w. fits s w (root_node old)) (sym same) (subst (λ (j : Instance). fits s bs j.node) (sym view) f)
 
 -- the instance after a step
-pub applied-by : (s : Setting) (old new : Below Stand) (p : Prepared) (i : Instance) (ws : List ℕ) → instance_of s (root_node old) ≡ i → ws ≡ p.strand → root_node new ≡ node_after p.strands ws (root_node old) → record (instance_of s (root_node new)) { context = p.context; number = p.number } ≡ applied p i
+pub applied-by : (s : Setting) (old new : Below Stand) (p : Prepared) (i : Instance) (ws : List ℕ) → instance_of s (root_node old) ≡ i → ws ≡ p.strand → root_node new ≡ node_after p.strands ws (root_node old) → record (instance_of s (root_node new)) { context = context_or s.context p.context; number = p.number } ≡ applied p i
 applied-by s old new p i ws view same node =
-    ap (λ n. record (instance_of s n) { context = p.context; number = p.number }) (node ∙ ap (λ w. node_after p.strands w (root_node old)) same) ∙ ap (applied p) view
+    ap (λ n. record (instance_of s n) { context = context_or s.context p.context; number = p.number }) (node ∙ ap (λ w. node_after p.strands w (root_node old)) same) ∙ ap (applied p) view

@@ -8,7 +8,7 @@ use Rattle.swf_document.specs.declared.common.Flow.{Flow}
 use Rattle.swf_document.specs.declared.error.Problem.{Problem}
 use Rattle.swf_frames.specs.Tree.{Tree, Branch, find, numbers}
 use Rattle.swf_meaning.specs.Listen.{is_heard}
-use Rattle.swf_meaning.specs.Node.{Node, Fresh, Live, Done, Fault, Inside, At, Hear, Forked, Nodes, Round, Running}
+use Rattle.swf_meaning.specs.Node.{Node, Fresh, Live, Done, Fault, Inside, At, Hear, Await, Forked, Nodes, Round, Running}
 use Rattle.swf_meaning.specs.Parts.{kind_of}
 use Rattle.swf_meaning.specs.Shared.{is_shared, is_shared_top, is_shared_kind, is_shared_error}
 use Rattle.swf_meaning.specs.Top.{top_is}
@@ -26,7 +26,7 @@ use Rattle.swf_scene.specs.declared.setting.Setting.{Setting}
 use Rattle.swf_tasks.specs.Installed.{output_in, problem_in}
 use Rattle.swf_strands.specs.Strands.{nodes_of, node_of, root_node, IsGrown, IsHeld}
 use Rattle.swf_strands.specs.Ways.{at, listens_at}
-use Rattle.swf_tasks.proofs.StepLemmas.{plug-append}
+use Rattle.swf_tasks.proofs.KeptLemmas.{plug-append}
 use Rattle.swf_strands.proofs.TopLemmas.{top-live, top-fresh}
 use Rattle.swf_strands.proofs.TreeLemmas.{root-holds, at-walk, at-nowhere, waiting-forked, IsAt, IsNowhere}
 
@@ -104,6 +104,7 @@ shared-not b t s fresh fault = shares-is b t t false s refl (by t fresh fault)
     by (tops.Fault p) fresh fault = absurd (fault p refl)
     by (tops.Waiting r n m) fresh fault = ap (λ x. is_shared [] (plug fs x)) (waiting-forked r n m (nodes_of b.below)) ∙ is_shared-live fs r (waiting n m) ∙ waiting-alone r n m
     by (tops.Hearing r bound hs) fresh fault = is_shared-live fs r (Hear bound hs)
+    by (tops.Awaiting r a q o) fresh fault = is_shared-live fs r (Await a q o)
     by (tops.Forked r) fresh fault = is_shared-live fs r (Forked (nodes_of b.below))
 
 -- an error inside the innermost of some tasks
@@ -147,6 +148,7 @@ listens-not b t s isnt = sym (own_listens-top b t s ∙ by t isnt)
     by (tops.Waiting r None m) isnt = refl
     by (tops.Waiting r (Some n) m) isnt = refl
     by (tops.Hearing r bound hs) isnt = absurd (isnt r bound hs refl)
+    by (tops.Awaiting r a q o) isnt = refl
     by (tops.Forked r) isnt = refl
 
 -- ---- what an instance ended in
@@ -190,6 +192,7 @@ output-none b t s isnt = sym (ap output_in (ended-at b t s) ∙ by (frames_of b.
     by [] (tops.Fault p) isnt = refl
     by [] (tops.Waiting r n m) isnt = refl
     by [] (tops.Hearing r bound hs) isnt = refl
+    by [] (tops.Awaiting r a q o) isnt = refl
     by [] (tops.Forked r) isnt = refl
 
 pub problem-some : (b : Branch Stand) (h : Stand) (p : Problem) (x : Bool) → b.frames ≡ h ∷ [] → h.top ≡ tops.Fault p → x ≡ is_empty h.around → x ≡ true → Some p ≡ problem_in (node_of b)
@@ -208,4 +211,5 @@ problem-none b t s isnt = sym (ap problem_in (ended-at b t s) ∙ by (frames_of 
     by [] (tops.Fault p) isnt = absurd (isnt p refl)
     by [] (tops.Waiting r n m) isnt = refl
     by [] (tops.Hearing r bound hs) isnt = refl
+    by [] (tops.Awaiting r a q o) isnt = refl
     by [] (tops.Forked r) isnt = refl

@@ -3,6 +3,7 @@ use Rattle.std.specs.Prelude.{◌≡◌, ◌≤◌, ℕ, List, Bool, true, false
 use Rattle.swf_meaning.specs.Documents.{Loaded}
 use Rattle.swf_meaning.specs.Node.{Node}
 use Rattle.swf_meaning.specs.World.{Instance, step_at}
+use Rattle.swf_stack.specs.Stack.{context_or}
 use Rattle.swf_stack.specs.declared.made.Top.{Top}
 use Rattle.swf_stack.specs.declared.made.Top.TheVariants as tops
 use Rattle.swf_strands.specs.Forks.{stand_node}
@@ -24,7 +25,7 @@ begun_after (strands.One d h) bs n = replaced (take d bs) (made_stand h) n
 begun_after (strands.All f) bs n = root_node f.strands
 
 abbrev pub applied : Prepared → Instance → Instance
-applied p i = record i { node = node_after p.strands p.strand i.node; context = p.context; number = p.number }
+applied p i = record i { node = node_after p.strands p.strand i.node; context = context_or i.context p.context; number = p.number }
 
 -- a task that listens stands innermost
 abbrev pub listens : Top → Bool
@@ -33,6 +34,7 @@ listens (tops.Done w f) = false
 listens (tops.Fault p) = false
 listens (tops.Waiting r n until) = false
 listens (tops.Hearing r bound hs) = true
+listens (tops.Awaiting r a q o) = false
 listens (tops.Forked r) = false
 
 -- a strand may listen that is put anew

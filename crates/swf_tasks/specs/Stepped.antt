@@ -9,7 +9,7 @@ use Rattle.swf_meaning.specs.Local.{local}
 use Rattle.swf_meaning.specs.Node.{Node}
 use Rattle.swf_meaning.specs.Line.{Line, Site}
 use Rattle.swf_stack.specs.Stands.{top_of}
-use Rattle.swf_stack.specs.Stack.{used_by}
+use Rattle.swf_stack.specs.Stack.{context_or}
 use Rattle.swf_stack.specs.declared.made.Frame.{Frame}
 use Rattle.swf_stack.specs.declared.made.Stand.{Stand}
 use Rattle.swf_stack.specs.declared.made.Top.{Top}
@@ -52,19 +52,20 @@ output_on [] t = output_of_top t
 output_on (f ∷ fs) t = None
 
 -- the step that puts that strand anew to which the first branch numbers lead, so many
-abbrev pub change_at : ℕ → Stand → Prepared → List ℕ → Node → Stepped
-change_at d h p bs n = record { node = replaced (take d bs) (made_stand h) n; context = p.context; used = used_by p.emitted; emitted = p.emitted }
+abbrev pub change_at : ℕ → Stand → Value → ℕ → Prepared → List ℕ → Node → Stepped
+change_at d h c used p bs n = record { node = replaced (take d bs) (made_stand h) n; context = context_or c p.context; used = used; emitted = p.emitted }
 
 -- a strand of the node is put anew, which so many branch numbers lead to; others before them lead to the node
 pub record IsChange (s : Site) (l : Line) (way : List ℕ) (above : ℕ) (bs : List ℕ) (n : Node) (p : Prepared) : Type 0 where
   pub depth : ℕ
   pub stand : Stand
+  pub used : ℕ
   pub puts : p.strands ≡ strands.One (above + depth) stand
   pub deep : depth ≤ length bs
   pub there : has_strand (take depth bs) n ≡ true
-  pub step : local s l bs n ≡ Some (change_at depth stand p bs n)
+  pub step : local s l bs n ≡ Some (change_at depth stand l.context used p bs n)
   pub named : p.strand ≡ way
-  pub number : p.number ≡ s.number + used_by p.emitted
+  pub number : p.number ≡ s.number + used
 
 -- the branch of that number of the strand takes the step
 abbrev pub IsChangeOf : Site → Line → List ℕ → ℕ → List ℕ → Branch Stand → ℕ → Prepared → Type 0

@@ -30,4 +30,4 @@ offered_own (Some e) i = offered_one e i
 
 -- the step of a task that heard all
 abbrev pub IsListened : Line → Running → List Heard → Result Made Halt → Type 0
-IsListened l r hs g = (m : Result Stepped Problem) → heard l r hs ≡ Some m → Makes m g
+IsListened l r hs g = (m : Result Stepped Problem) → heard l r hs ≡ Some m → Makes l m g

@@ -11,8 +11,9 @@ ghost use Rattle.swf_scene.specs.Halts.{Makes};
 ghost use Rattle.swf_scene.specs.Setting.{line_of, site_of};
 
 use std::alloc::Global;
+use swf_activities::{calling, calling_http, running};
 use swf_catalog::{Round, TaskRef, Work};
-use swf_document::{Flow, Template};
+use swf_document::{Callee, Flow, Template};
 use swf_rules::{Rule, finished, input_of};
 use swf_scene::{Halt, Scene, within};
 use swf_stack::{Made, Running};
@@ -20,7 +21,7 @@ use swf_value::Json;
 
 // A `set` gives what its template is filled to.
 fn set_value(rule: &Rule, template: &Template) -> Result<Made, Halt>
-    ensures { Makes (begun (site_in rule.now) (line_in rule.now) rule.now.running.now (set template.now)) result }
+    ensures { Makes (line_in rule.now) (begun (site_in rule.now) (line_in rule.now) rule.now.running.now (set template.now)) result }
 {
     let value = rule.filled(template)?;
     rule.complete(value)
@@ -28,36 +29,37 @@ fn set_value(rule: &Rule, template: &Template) -> Result<Made, Halt>
 
 // A task begins on its transformed input.
 fn begun(rule: &Rule) -> Result<Made, Halt>
-    ensures { Makes (begun (site_in rule.now) (line_in rule.now) rule.now.running.now (kind_of rule.now.running.now.task)) result }
+    ensures { Makes (line_in rule.now) (begun (site_in rule.now) (line_in rule.now) rule.now.running.now (kind_of rule.now.running.now.task)) result }
 {
     let input = rule.running.input();
     match rule.running.task().work() {
+        Work::Call(Callee::Http(spec)) => calling_http(rule, spec.get()),
+        Work::Call(Callee::Function { name, with }) => calling(rule, name, with.as_ref()),
         Work::Do(_) => rule.comes_to(Round::Seq, 0, input.copy()?),
         Work::Emit(template) => rule.emitting(template),
         Work::For(spec) => rule.looping(spec),
         Work::Fork(spec) => rule.forking(spec),
         Work::Listen(spec) => rule.listening(spec),
         Work::Raise(reference) => rule.raising(reference),
+        Work::Run(spec) => running(rule, spec),
         Work::Set(template) => set_value(rule, template),
         Work::Switch(cases) => rule.switched(cases.as_slice()),
         Work::Try(_) => rule.comes_to(Round::Try { retries: 0 }, 0, input.copy()?),
         Work::Wait(duration) => rule.waiting(duration),
-        Work::Other => rule.complete(input.copy()?),
     }
 }
 
 // A task whose `if` is not true is done with its raw input.
 fn skipped(rule: &Rule) -> Result<Made, Halt>
-    ensures { Makes (Ok (becomes (line_in rule.now) (Done rule.now.running.now.raw Continue))) result }
+    ensures { Makes (line_in rule.now) (Ok (becomes (line_in rule.now) (Done rule.now.running.now.raw Continue))) result }
 {
     let output = rule.running.raw().copy()?;
-    let context = rule.scene.context.copy()?;
-    Ok(finished(rule.alloc, output, Flow::Continue, context)?)
+    Ok(finished(rule.alloc, output, Flow::Continue)?)
 }
 
 // A task begins, unless its `if` is not true.
 fn guarded(rule: &Rule) -> Result<Made, Halt>
-    ensures { Makes (guarded (site_in rule.now) (line_in rule.now) rule.now.running.now (common_of rule.now.running.now.task).cond) result }
+    ensures { Makes (line_in rule.now) (guarded (site_in rule.now) (line_in rule.now) rule.now.running.now (common_of rule.now.running.now.task).cond) result }
 {
     let running = rule.running;
     let Some(condition) = running.task().cond() else {
@@ -78,13 +80,13 @@ fn asks(task: &TaskRef) -> bool {
     }
     matches!(
         task.work(),
-        Work::Emit(_) | Work::For(_) | Work::Set(_) | Work::Switch(_)
+        Work::Call(_) | Work::Emit(_) | Work::For(_) | Work::Run(_) | Work::Set(_) | Work::Switch(_)
     )
 }
 
 // A task begins, unless its `if` is not true. Its variables are made at most once.
 fn entered<'s>(alloc: Global, scene: &'s Scene<'s>, running: &'s Running) -> Result<Made, Halt>
-    ensures { Makes (guarded (site_of scene.entry.now) (line_of scene.entry.now) running.now (common_of running.now.task).cond) result }
+    ensures { Makes (line_of scene.entry.now) (guarded (site_of scene.entry.now) (line_of scene.entry.now) running.now (common_of running.now.task).cond) result }
 {
     if !asks(running.task()) {
         return guarded(&Rule {
@@ -105,7 +107,7 @@ fn entered<'s>(alloc: Global, scene: &'s Scene<'s>, running: &'s Running) -> Res
 
 /// A task that has not begun takes its step.
 pub fn enter(alloc: Global, scene: &Scene, task: &TaskRef, raw: &Json) -> Result<Made, Halt>
-    ensures { Makes (enter (site_of scene.entry.now) (line_of scene.entry.now) task.now raw.now) result }
+    ensures { Makes (line_of scene.entry.now) (enter (site_of scene.entry.now) (line_of scene.entry.now) task.now raw.now) result }
 {
     let input = input_of(alloc, scene, task, raw)?;
     let running = Running::new(task.copy()?, raw.copy()?, input);

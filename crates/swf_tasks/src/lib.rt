@@ -2,6 +2,7 @@
 #![tactic(auto)]
 
 mod ask;
+mod call;
 mod crossing;
 mod enter;
 mod hear;

@@ -13,8 +13,9 @@ pub struct Prepared {
     /// The strand that takes the step.
     pub strand: Strand,
     pub strands: Strands,
-    pub context: Json,
-    /// The number of the instance's next event.
+    /// The context of the instance, where it changes.
+    pub context: Option<Json>,
+    /// The instance's next number.
     pub number: u64,
     /// The event that goes out, where one does.
     pub emitted: Option<SentEvent>,

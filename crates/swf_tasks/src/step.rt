@@ -7,7 +7,7 @@ ghost use Rattle.swf_meaning.specs.Strands.{can_go};
 ghost use Rattle.swf_rules.specs.Settles.{MakesSome, ending};
 ghost use Rattle.swf_scene.specs.Halts.{Makes};
 ghost use Rattle.swf_stack.specs.Stands.{frames_of};
-ghost use Rattle.swf_stack.specs.Stack.{seen_in, stepped_of, top_node, used_by};
+ghost use Rattle.swf_stack.specs.Stack.{seen_in, top_node};
 ghost use Rattle.swf_scene.specs.Setting.{line_of, site_of};
 ghost use Rattle.swf_stack.specs.declared.made.Stand.{Stand as TheStand};
 ghost use Rattle.swf_tasks.specs.Installed.{IsRuled, IsSeen, IsStep, behind, outer, own_node};
@@ -18,11 +18,12 @@ use crate::enter::enter;
 use crate::hear::listened;
 use crate::prepared::{Prepared, Strands};
 use std::alloc::{AllocError, Global};
+use swf_activities::answered;
 use swf_chain::Chain;
 use swf_frames::{Forest, StrandId};
 use swf_rules::{Rule, failed, moved_on};
 use swf_scene::{Halt, Scene};
-use swf_stack::{Frame, Made, Running, SentEvent, Stand, Top};
+use swf_stack::{Frame, Made, Running, Stand, Top, keep};
 use swf_strands::{child_of, named, stand_of};
 use swf_text::Strand;
 use swf_value::Json;
@@ -69,7 +70,7 @@ fn settle<'s>(
     requires inner { depth < 2 ^ 64 - 1 }
     ensures { IfOk result (λ p. (b : Branch TheStand) (l : Line) (way inner : List ℕ) → find forest.now.strands above ≡ Some b → line_of scene.entry ≡ seen_in l (frames_of b.frames) → IsChangeOf (site_of scene.entry) (line_of scene.entry) way (depth + 1) inner b number prepared → IsChange (site_of scene.entry) l way depth (number ∷ inner) (node_of b) p) }
 {
-    prepared.context = scene.context.copy()?;
+    prepared.context = None;
     let Some(ended) = ended(&prepared.strands, depth + 1) else {
         return Ok(prepared);
     };
@@ -82,11 +83,12 @@ fn settle<'s>(
     let made = match given {
         Ok(None) => return Ok(prepared),
         Ok(Some(made)) => made,
-        Err(halt) => swf_rules::step_of(alloc, &scene, Err(halt))?,
+        Err(halt) => swf_rules::step_of(alloc, Err(halt))?,
     };
-    let stand = Stand::inside(alloc, around, made.frame, made.top)?;
+    let kept = keep(alloc, around, made.context)?;
+    let stand = Stand::inside(alloc, kept.around, made.frame, made.top)?;
     prepared.strands = Strands::One { depth, stand };
-    prepared.context = made.context;
+    prepared.context = kept.context;
     Ok(prepared)
 }
 
@@ -98,7 +100,7 @@ fn settled<'s>(
     ended: &Top,
     all: Option<Json>,
 ) -> Result<Option<Made>, Halt>
-    ensures { MakesSome (ending (line_of scene.entry.now) running.now (competes running.now.task) all ended.now) result }
+    ensures { MakesSome (line_of scene.entry.now) (ending (line_of scene.entry.now) running.now (competes running.now.task) all ended.now) result }
 {
     let rule = Rule {
         alloc,
@@ -198,26 +200,24 @@ fn own_step<'s>(
 {
     let number = scene.setting.number;
     let made = next_of(alloc, scene, stand)?;
-    let number = number_after(number, &made.emitted)?;
+    let number = number_after(number, made.used)?;
     let strand = named(alloc, strand.as_slice())?;
-    let stand = Stand::inside(alloc, outer_of(stand), made.frame, made.top)?;
+    let kept = keep(alloc, outer_of(stand), made.context)?;
+    let stand = Stand::inside(alloc, kept.around, made.frame, made.top)?;
     Ok(Prepared {
         strand,
         strands: Strands::One { depth, stand },
-        context: made.context,
+        context: kept.context,
         number,
         emitted: made.emitted,
     })
 }
 
-// The number of the next event, where this one goes out. There is none behind the greatest.
-fn number_after(number: u64, emitted: &Option<SentEvent>) -> Result<u64, AllocError>
-    ensures { IfOk result (λ n. n ≡ number + used_by emitted.now) }
+// The next number, where so many were used. There is none behind the greatest.
+fn number_after(number: u64, used: u64) -> Result<u64, AllocError>
+    ensures { IfOk result (λ n. n ≡ number + used) }
 {
-    match emitted {
-        None => Ok(number),
-        Some(_) => number.checked_add(1).ok_or(AllocError),
-    }
+    number.checked_add(used).ok_or(AllocError)
 }
 
 // The tasks that still run around what a step puts anew.
@@ -233,11 +233,11 @@ fn outer_of(stand: &Stand) -> &Chain<Frame>
 // What the step makes of what stands innermost.
 fn next_of<'s>(alloc: Global, scene: Scene<'s>, stand: &'s Stand) -> Result<Made, AllocError>
     requires { can_go scene.site.now [] (own_node stand.now) ≡ true }
-    ensures { IfOk result (λ m. IsStep (site_of scene.entry) (line_of scene.entry) stand.now (stepped_of m)) }
+    ensures { IfOk result (λ m. IsStep (site_of scene.entry) (line_of scene.entry) stand.now m) }
 {
     let scene = scene.inside(alloc, outer_of(stand))?;
     let given = ruled(alloc, &scene, stand);
-    swf_rules::step_of(alloc, &scene, given)
+    swf_rules::step_of(alloc, given)
 }
 
 // What the rule gives that applies to what stands innermost.
@@ -268,6 +268,23 @@ fn ruled<'s>(alloc: Global, scene: &'s Scene<'s>, stand: &'s Stand) -> Result<Ma
                 vars: None,
             };
             listened(&rule, heard.as_slice())
+        }
+        Top::Awaiting {
+            running,
+            request,
+            answer,
+            ..
+        } => {
+            let rule = Rule {
+                alloc,
+                scene,
+                running,
+                vars: None,
+            };
+            let Some(reply) = answer else {
+                unreachable!();
+            };
+            answered(&rule, request.get(), reply)
         }
         Top::Forked(_) => unreachable!(),
         Top::Done { output, flow } => moved_on(alloc, scene, innermost(stand), output, flow),

@@ -3,6 +3,7 @@ ghost use Rattle.std.specs.Prelude.{◌≡◌, ◌↔◌, ℕ, Err, IfOk, OnErr,
 ghost use Rattle.swf_meaning.specs.Shared.{advanced};
 ghost use Rattle.swf_meaning.specs.Strands.{can_go};
 ghost use Rattle.swf_meaning.specs.World.{step_at};
+ghost use Rattle.swf_stack.specs.Stack.{context_or};
 ghost use Rattle.swf_strands.specs.Alarm.{alarm_of};
 ghost use Rattle.swf_strands.specs.Strands.{IsGrown, root_node};
 ghost use Rattle.swf_tasks.specs.Prepares.{applied, fits, Fits, node_after};
@@ -17,6 +18,7 @@ use swf_scene::Site;
 use swf_stack::{SentEvent, Stand};
 use swf_strands::{alarm_in, put_kept};
 use swf_text::Strand;
+use swf_value::Json;
 use thiserror::Error;
 
 /// What a step leads to besides the change of the instance.
@@ -51,7 +53,7 @@ impl Machine {
             emitted,
         } = prepared;
         self.alarm = put_strands(&mut self.forest, strand.as_slice(), strands, self.alarm);
-        self.setting.context = context;
+        put_context(&mut self.setting.context, context);
         self.setting.number = number;
         self.last = strand;
         emitted
@@ -101,6 +103,15 @@ impl Machine {
             steps += 1;
         }
         Ok(steps)
+    }
+}
+
+// The context changes where a step changed it.
+fn put_context(place: &mut Json, context: Option<Json>)
+    ensures { place.new ≡ context_or place.old context }
+{
+    if let Some(context) = context {
+        *place = context;
     }
 }
 

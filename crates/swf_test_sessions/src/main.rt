@@ -2,20 +2,23 @@
 //! a whole session in which a call fails, and of a stop.
 //!
 //! A line of documents.txt is a document, and is followed by what `check` prints. The sessions of sessions.txt, events.txt,
-//! events-read.txt and script.txt have empty lines between them; each line is a command, followed by its reply, or begins with
+//! events-read.txt, script.txt, forks.txt and the files on calls have empty lines between them; each line is a command, followed by its reply, or begins with
 //! `!` (`src/session.rt` has the words), and `! reopen` ends the input and opens the store again. A line of faults.txt names a
 //! call that fails or the calls before a stop (`src/faults.rt`). A session of stops.txt is stopped after each call of its store,
 //! and given once more. A line that begins with `#` names what follows, and stands in the transcript as it is.
 #![tactic(auto)]
 
+mod board;
 mod faults;
 mod session;
 mod stops;
 
+use crate::board::{Answerers, Answering, asked};
 use std::alloc::{AllocError, Global};
 use std::fs;
 use std::io::{self, ErrorKind};
 use swf_cli::swf_run;
+use swf_connect::{Connector, Switchboard};
 use swf_host::{Input, MemoryHost, NoWork, Turn};
 use swf_store::{Image, MemoryStore};
 use swf_test_tables::add_line;
@@ -45,11 +48,12 @@ impl Failing {
     }
 }
 
-/// What a run ended with, and its host.
+/// What a run ended with, its host, and how often each of those who answer calls was asked.
 #[derive(Drop)]
 struct Ran {
     status: u8,
     host: TestHost,
+    asked: String,
 }
 
 // The words of a command line, which have commas between them.
@@ -63,13 +67,37 @@ fn words_of(alloc: Global, text: &str) -> Result<Vec<String>, AllocError> {
     Ok(words)
 }
 
-// Runs the program with these words, and answers its status.
-fn status_of(alloc: Global, words: &str, host: &mut TestHost) -> Result<u8, AllocError> {
+// Runs the program with these words over the files of an image, where these answer calls.
+fn run_over(
+    alloc: Global,
+    words: &str,
+    image: Image,
+    failing: Failing,
+    script: Vec<Turn<NoWork>>,
+    answering: Answering<'_>,
+) -> Result<Ran, AllocError> {
     let words = words_of(alloc, words)?;
-    Ok(swf_run(alloc, &words, host))
+    let store = MemoryStore::new(alloc, image, failing.store);
+    let mut host = TestHost::new(alloc, store, script, failing.next, failing.say);
+    let Answerers { http, silent } = answering.connectors(alloc)?;
+    let mut connectors: Vec<Box<dyn Connector + Send>> = Vec::new(alloc);
+    if let Some(http) = http {
+        connectors.push(Box::new(alloc, http)?)?;
+    }
+    for connector in silent {
+        connectors.push(Box::new(alloc, connector)?)?;
+    }
+    let mut board = Switchboard::new(connectors);
+    let status = swf_run(alloc, &words, &mut host, &mut board);
+    let asked = asked(alloc, board)?;
+    Ok(Ran {
+        status,
+        host,
+        asked,
+    })
 }
 
-// Runs the program with these words over the files of an image.
+// Runs the program with these words over the files of an image, where nobody answers calls.
 fn run(
     alloc: Global,
     words: &str,
@@ -77,10 +105,8 @@ fn run(
     failing: Failing,
     script: Vec<Turn<NoWork>>,
 ) -> Result<Ran, AllocError> {
-    let store = MemoryStore::new(alloc, image, failing.store);
-    let mut host = TestHost::new(alloc, store, script, failing.next, failing.say);
-    let status = status_of(alloc, words, &mut host)?;
-    Ok(Ran { status, host })
+    let nobody = Answering::nobody(alloc);
+    run_over(alloc, words, image, failing, script, nobody)
 }
 
 // An input of a connection.
@@ -178,13 +204,18 @@ fn add_file(
 }
 
 /// The files with documents, sessions and rows.
-const FILES: [&str; 8] = [
+const FILES: [&str; 13] = [
     "documents.txt",
     "sessions.txt",
     "events.txt",
     "events-read.txt",
     "script.txt",
     "forks.txt",
+    "calls.txt",
+    "calls-functions.txt",
+    "calls-workflows.txt",
+    "calls-in-tasks.txt",
+    "calls-http.txt",
     "faults.txt",
     "stops.txt",
 ];

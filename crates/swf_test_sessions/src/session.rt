@@ -1,12 +1,16 @@
 // A session: its lines become the inputs of a host in memory, and stand in the transcript with their replies.
 //
 // A line that begins with `!` is no command. Some prepare the run: `! words session,extra` has other words for the program,
-// `! journal A5` a journal of these bytes, and `! fail say 1` a call that fails. Some are inputs: `! too-long`, `! bytes 3 FF`
-// of a line of three such bytes, `! long 9 start i t a 1.0.0 "@"` of a line with nine `a` for the `@`, and
-// `! many 9 start i@ t a 1.0.0 {}` of nine lines with their numbers for it, of which the last three replies are told. The others
-// tell what came of the run: `! inputs`, `! replies`, `! calls`, `! sizes`, `! said`, all that was said, and `! due 7`, the moment
-// that an engine opened over its files tells, and whether 7 is due.
-use crate::{Failing, REOPEN, Ran, add_status, ask, run};
+// `! journal A5` a journal of these bytes, and `! fail say 1` a call that fails. Some say who answers calls (`board.rt`):
+// `! response 200 application/json {"a":1}` has the next link over HTTP give a response of this status, type and body, `! raw 48`
+// these bytes; `! fail dial 1` has a dial fail, and `! also https` puts a connector of a scheme behind the one over HTTP. Some are
+// inputs: `! too-long`, `! bytes 3 FF` of a line of three such bytes, `! long 9 start i t a 1.0.0 "@"` of a line with nine `a` for
+// the `@`, and `! many 9 start i@ t a 1.0.0 {}` of nine lines with their numbers for it, of which the last three replies are told.
+// The others tell what came of the run: `! inputs`, `! replies`, `! calls`, `! sizes`, `! said`, all that was said, `! due 7`, the
+// moment that an engine opened over its files tells, and whether 7 is due, and `! asked`, how often each connector was asked, where
+// `-` stands for one that does not tell it.
+use crate::board::Answering;
+use crate::{Failing, REOPEN, Ran, add_status, ask, run_over};
 use std::alloc::{AllocError, Global};
 use std::io;
 use swf_engine::Engine;
@@ -31,6 +35,7 @@ struct Part<'a> {
     words: &'a str,
     image: Image,
     failing: Failing,
+    answering: Answering<'a>,
     script: Vec<Turn<NoWork>>,
     shown: Vec<Shown<'a>>,
 }
@@ -41,6 +46,7 @@ impl<'a> Part<'a> {
             words: "session",
             image,
             failing: Failing::none(alloc),
+            answering: Answering::nobody(alloc),
             script: Vec::new(alloc),
             shown: Vec::new(alloc),
         }
@@ -69,12 +75,23 @@ impl<'a> Part<'a> {
                 self.image.journal = Bytes::of(bytes_of(alloc, rest)?);
                 Ok(())
             }
-            "fail" => fail(&mut self.failing, rest),
+            "fail" => self.fail(rest),
+            "response" => self.answering.respond(alloc, rest),
+            "raw" => self.answering.give(alloc, rest),
+            "also" => self.answering.also(rest),
             "too-long" => Ok(self.script.push(Turn::In(Input::TooLong(0)))?),
             "bytes" => add_bytes(alloc, &mut self.script, rest),
             "long" => add_long(alloc, &mut self.script, rest),
             "many" => add_many(alloc, &mut self.script, rest),
             _ => Ok(()),
+        }
+    }
+
+    // Has a call fail: one of the dial, or another.
+    fn fail(&mut self, order: &str) -> io::Result<()> {
+        match order.strip_prefix("dial ") {
+            Some(number) => self.answering.fail(number),
+            None => fail(&mut self.failing, order),
         }
     }
 }
@@ -220,6 +237,9 @@ fn add_shown(
         if shown.line == "! said" {
             add_said(transcript, ran)?;
         }
+        if shown.line == "! asked" {
+            add_line(transcript, "", ran.asked.as_str())?;
+        }
         if let Some(told) = told(alloc, ran, shown.line)? {
             add_line(transcript, "", told.as_str())?;
         }
@@ -232,8 +252,16 @@ fn add_shown(
 
 // Adds what comes of one part of a session. Answers the files that it left.
 fn add_part(alloc: Global, transcript: &mut Vec<u8>, part: Part<'_>) -> io::Result<Image> {
-    let ran = run(alloc, part.words, part.image, part.failing, part.script)?;
-    add_shown(alloc, transcript, &ran, &part.shown)?;
+    let Part {
+        words,
+        image,
+        failing,
+        answering,
+        script,
+        shown,
+    } = part;
+    let ran = run_over(alloc, words, image, failing, script, answering)?;
+    add_shown(alloc, transcript, &ran, &shown)?;
     add_status(alloc, transcript, ran.status, 0)?;
     Ok(ran.host.store().image().copy(alloc)?)
 }

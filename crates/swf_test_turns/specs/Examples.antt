@@ -1,5 +1,6 @@
 -- Turns in the mode of these examples.
-use Rattle.std.specs.Prelude.{ℕ, List, [], ◌∷◌, Some, None, codes}
+use Rattle.std.specs.Prelude.{ℕ, List, [], ◌∷◌, Bool, Some, None, codes}
+use Rattle.swf_calls.specs.Request.{Request}
 use Rattle.swf_calls.specs.declared.reply.CallReply.{CallReply}
 use Rattle.swf_store.specs.declared.said.Piece.{Piece}
 use Rattle.swf_host.specs.declared.host.Input.{Input}
@@ -8,7 +9,8 @@ use Rattle.swf_host.specs.declared.script.Turn.TheVariants.{In}
 use Rattle.swf_host.specs.Script.{Play, first_play}
 use Rattle.swf_meaning.specs.declared.label.Label.{Label}
 use Rattle.swf_meaning.specs.declared.label.Label.TheVariants.{Moment, Reply, Step}
-use Rattle.swf_runs.specs.Runs.{world_at, is_quiet}
+use Rattle.swf_runs.specs.Runs.{world_at}
+use Rattle.swf_engine.specs.Settling.{Called, is_settled}
 use Rattle.swf_protocol.specs.Spoken.{spoken}
 use Rattle.swf_protocol.specs.declared.reply.Reply.TheVariants.{Reached}
 use Rattle.swf_cli.specs.Turns.{Turn, settle_reply}
@@ -21,28 +23,32 @@ step = Step (codes "i") []
 abbrev pub go : Input Done
 go = Asks 0 (codes "go")
 
+-- what a board answered to a call
+abbrev pub given : List ℕ → Request → CallReply → Called
+given call request reply = record { activity = call; request = request; reply = Some reply }
+
 -- two steps, and between them what the board answered to a call
 abbrev pub answered_step : List ℕ → CallReply → List Label
 answered_step call reply = step ∷ Reply call reply ∷ step ∷ []
 
 -- `go`, and then `done` twice, once from another connection
-abbrev pub settled_of_three : List ℕ → CallReply → Turn Done
-settled_of_three call reply = record {
+abbrev pub settled_of_three : Bool → List ℕ → Request → CallReply → Turn Done
+settled_of_three http call request reply = record {
   first = go;
   more = Asks 0 (codes "done") ∷ Asks 1 (codes "done") ∷ [];
-  answers = Reply call reply ∷ [];
+  answers = given call request reply ∷ [];
   labels = answered_step call reply;
-  reply = Some (settle_reply (is_quiet (world_at (answered_step call reply))) 2 2);
+  reply = Some (settle_reply (is_settled http (world_at (answered_step call reply))) 2 2);
 }
 
 -- `go`, and then what came of two jobs, and that no more comes
-abbrev pub settled_with_work : Done → Done → Turn Done
-settled_with_work a b = record {
+abbrev pub settled_with_work : Bool → Done → Done → Turn Done
+settled_with_work http a b = record {
   first = go;
   more = Work a ∷ Work b ∷ Idle ∷ [];
   answers = [];
   labels = step ∷ step ∷ [];
-  reply = Some (settle_reply (is_quiet (world_at (step ∷ step ∷ []))) 2 2);
+  reply = Some (settle_reply (is_settled http (world_at (step ∷ step ∷ []))) 2 2);
 }
 
 -- a host in memory before the first turn of its script: `go`, and then what came of a job
@@ -57,13 +63,13 @@ early_work a = record { first = Work a; more = []; answers = []; labels = []; re
 abbrev pub used : List ℕ → List ℕ → CallReply → List Label
 used b c reply = Reply c reply ∷ step ∷ Reply b reply ∷ step ∷ []
 
-abbrev pub both_answers : List ℕ → List ℕ → List ℕ → CallReply → Turn Done
-both_answers a b c reply = record {
+abbrev pub both_answers : Bool → List ℕ → List ℕ → List ℕ → Request → CallReply → Turn Done
+both_answers http a b c request reply = record {
   first = go;
   more = [];
-  answers = Reply a reply ∷ Reply b reply ∷ Reply c reply ∷ [];
+  answers = given a request reply ∷ given b request reply ∷ given c request reply ∷ [];
   labels = used b c reply;
-  reply = Some (settle_reply (is_quiet (world_at (used b c reply))) 2 2);
+  reply = Some (settle_reply (is_settled http (world_at (used b c reply))) 2 2);
 }
 
 -- no line came, and moment 9 was told

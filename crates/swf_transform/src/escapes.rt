@@ -31,7 +31,7 @@ pub(crate) fn escaped(alloc: Global, text: &str) -> Result<Text, AllocError>
 }
 
 /// The digits of a number.
-fn digits(alloc: Global, number: i64) -> Result<Text, AllocError>
+pub fn digits(alloc: Global, number: i64) -> Result<Text, AllocError>
     ensures { IfOk result (λ t. t ≡ signed_decimal number) }
 {
     Text::from_string(alloc, format!(in alloc; "{number}")?)

@@ -12,6 +12,7 @@ mod telling;
 mod uris;
 
 pub use correlation::correlate;
+pub use escapes::digits;
 pub use filling::{fill, first, is_within, transform};
 pub use filter::filter_matches;
 pub use got::Got;

@@ -1,8 +1,9 @@
 -- What is looked up tells why a label is refused, and what a change has to be.
-use Rattle.std.proofs.Common.{◌≡◌, ◌∙◌, ap, sym, refl, subst, cond, ℕ, ◌+◌, ◌<◌, ◌≤◌, ◌||◌, List, ◌++◌, length, nat_le, Bool, true, false, is_some, Option, Some, None, option_map, option_and_then, option_to_list, Result, Ok, Err, IfOk, slice_get, position, arith, append-nil}
+use Rattle.std.proofs.Common.{◌≡◌, ◌∙◌, ap, sym, refl, subst, cond, ℕ, ◌+◌, ◌<◌, ◌≤◌, ◌≢◌, ◌||◌, List, [], ◌∷◌, ◌++◌, length, nat_le, not, Bool, true, false, is_some, Option, Some, None, option_map, option_and_then, option_to_list, Result, Ok, Err, IfOk, slice_get, position, arith, append-nil}
 use Rattle.std.proofs.lemmas.Bool.{le-leb, leb-false, lt-leb}
 use Rattle.std.specs.List.{AllByRecursion}
 use Rattle.std.proofs.lemmas.Option.{same_Some}
+use Rattle.swf_calls.specs.declared.reply.CallReply.{CallReply}
 use Rattle.swf_value.specs.Value.{Value}
 use Rattle.swf_text.specs.Same.{same}
 use Rattle.swf_cloudevents.specs.declared.event.Event.{Event}
@@ -11,14 +12,16 @@ use Rattle.swf_document.specs.declared.document.Document.{Document}
 use Rattle.swf_document.specs.declared.fault.Fault.{Fault}
 use Rattle.swf_meaning.specs.declared.key.Key.TheVariants as keys
 use Rattle.swf_meaning.specs.declared.label.Label.{Label}
-use Rattle.swf_meaning.specs.declared.label.Label.TheVariants.{Load, Start, Event as Told, Moment, Step}
+use Rattle.swf_meaning.specs.declared.label.Label.TheVariants.{Load, Start, Event as Told, Reply, Moment, Step}
 use Rattle.swf_meaning.specs.Complete.{Stepped}
 use Rattle.swf_meaning.specs.Offer.{offered_all}
 use Rattle.swf_meaning.specs.World.{World, Instance, new_instance, step_at, with_step}
 use Rattle.swf_meaning.specs.Answer.{instance_at}
 use Rattle.swf_meaning.specs.Strands.{can_go}
 use Rattle.swf_meaning.specs.Documents.{document_at}
-use Rattle.swf_runs.specs.After.{after, loaded, load_faults, accepted, is_used, counted, most_documents, most_instances, with_document, with_instance, with_event, with_instances, sent, taken_by}
+use Rattle.swf_reader.specs.Reads.{document_of}
+use Rattle.swf_validate.specs.Accepts.{faults}
+use Rattle.swf_runs.specs.After.{after, if_none, loaded, accepted, is_open, is_used, counted, most_documents, most_instances, with_answer, with_document, with_instance, with_event, with_instances, sent, taken_by}
 use Rattle.swf_tasks.specs.Prepares.{applied}
 use Rattle.swf_tasks.specs.Taken.{offered_own}
 use Rattle.swf_tasks.specs.declared.prepared.Prepared.{Prepared}
@@ -27,16 +30,17 @@ use Rattle.swf_world.specs.declared.change.ChangeKind.{ChangeKind}
 use Rattle.swf_world.specs.declared.change.ChangeKind.TheVariants as kinds
 use Rattle.swf_instances.specs.declared.offer.Hearing.{Hearing}
 use Rattle.swf_world.specs.declared.refusal.Refusal.{Refusal}
-use Rattle.swf_world.specs.declared.refusal.Refusal.TheVariants.{Refused as ForFaults, Full, Past, NotEnabled}
+use Rattle.swf_world.specs.declared.refusal.Refusal.TheVariants.{Refused as ForFaults, Stale, Full, Past, NotEnabled}
 use Rattle.swf_world.specs.declared.refusal.PrepareFault.{PrepareFault}
 use Rattle.swf_world.specs.declared.refusal.PrepareFault.TheVariants.{Refused, OutOfMemory}
 use Rattle.swf_registry.specs.UsedKey.{used_at}
 use Rattle.swf_registry.proofs.Lookups.{used_some}
 use Rattle.swf_instances.proofs.Lookups.{instance_numbered}
 use Rattle.swf_instances.specs.Offers.{put_at, put_all, IsHeardFrom}
-use Rattle.swf_world.specs.Refusals.{refusal, refusal_of_load, refusal_of_start, refusal_of_moment, refusal_of_step, duplicate, cause}
+use Rattle.swf_instances.specs.Replies.{IsOpenAt}
+use Rattle.swf_world.specs.Refusals.{refusal, refusal_of_load, refusal_of_reply, refusal_of_start, refusal_of_moment, refusal_of_step, duplicate, cause}
 use Rattle.swf_world.specs.Changes.{IsReady, Suits, SuitsStep, suits, changed, changed_by, after_step, with_moment, with_stepped}
-use Rattle.swf_world.specs.Prepares.{Prepares, IsSent, IsTelling, IsStepping, Steps, StepsFirst, TellsTo, load_of, start_of, untold, or_memory}
+use Rattle.swf_world.specs.Prepares.{Prepares, IsSent, IsTelling, IsStepping, Steps, StepsFirst, TellsTo, load_of, reply_of, start_of, untold, or_memory}
 use Rattle.swf_world.proofs.Lookups.{stepped_there}
 use Rattle.swf_instances.proofs.TakeLemmas.{take_put}
 use Rattle.swf_instances.proofs.OfferLemmas.{offered_apart, offered_past, offered_with}
@@ -81,12 +85,21 @@ no_cause : (b : Bool) (r : Refusal) → cause b r None ≡ None → b ≡ false
 no_cause true r e = cc
 no_cause false r e = refl
 
--- a value that cannot be loaded is refused for its faults
-pub not_loaded : (w : World) (v : Value) (fs : List Fault) → (accepted v ≡ None) × (load_faults v ≡ fs) → refusal w (Load v) ≡ Some (ForFaults fs)
-not_loaded w v fs h = ap (refusal_of_load w (load_faults v)) h.0 ∙ ap (λ fs. Some (ForFaults fs)) h.1
+none_with : (d : Document) (fs : List Fault) → fs ≢ [] → if_none d fs ≡ None
+none_with d [] some = absurd (some refl)
+none_with d (f ∷ fs) some = refl
+
+-- a value that has faults is refused for them
+pub not_loaded : (w : World) (v : Value) (fs : List Fault) → (fs ≡ faults v) × (fs ≢ []) → refusal w (Load v) ≡ Some (ForFaults fs)
+not_loaded w v fs h =
+    ap (refusal_of_load w (faults v)) (ap (if_none (document_of v)) (sym h.0) ∙ none_with (document_of v) fs h.1) ∙ ap (λ fs. Some (ForFaults fs)) (sym h.0)
+
+-- and one that has none can be loaded
+pub is_accepted : (v : Value) (d : Document) → (d ≡ document_of v) × (faults v ≡ []) → accepted v ≡ Some d
+is_accepted v d h = ap (if_none (document_of v)) h.1 ∙ ap (λ d. Some d) (sym h.0)
 
 -- the change of a load that is not refused
-pub load_prepares : {E : Type 0} (w : World) (v : Value) (d : Document) (made : Result Change E) → accepted v ≡ Some d → refusal_of_load w (load_faults v) (Some d) ≡ None → IfOk made (λ c. c ≡ load_of v d) → Prepares w (Load v) (or_memory made)
+pub load_prepares : {E : Type 0} (w : World) (v : Value) (d : Document) (made : Result Change E) → accepted v ≡ Some d → refusal_of_load w (faults v) (Some d) ≡ None → IfOk made (λ c. c ≡ load_of v d) → Prepares w (Load v) (or_memory made)
 load_prepares w v d made e t m =
     let p = no_duplicate (used_at (keys.Document d.key) w.keys) (cause (nat_le most_documents (length w.documents)) Full None) t in
     let new : is_used (keys.Document d.key) w ≡ false = sym (used_some (keys.Document d.key) w.keys) ∙ ap is_some p.0 in
@@ -94,7 +107,7 @@ load_prepares w v d made e t m =
     made_or_not w (Load v) (load_of v d) made m (
       record { named = refl; used_is = refl; new = new },
       ap (option_and_then (loaded w v)) e ∙ (λ i. cond (new i || few i) None (Some (with_document w v d))),
-      ap (refusal_of_load w (load_faults v)) e ∙ t,
+      ap (refusal_of_load w (faults v)) e ∙ t,
       refl,
     )
 
@@ -137,6 +150,18 @@ event_prepares w e (Ok c) t m =
     let p = telling w e c.kind new m.tells in
     (p.0, p.1, t, m.taken)
 event_prepares w e (Err x) t m = tt
+
+-- the change of an answer that is not refused
+pub reply_prepares : {E : Type 0} (w : World) (activity : List ℕ) (r : CallReply) (n : ℕ) (made : Result Change E) → used_at (keys.Activity activity) w.keys ≡ None → is_open activity w ≡ true → IsOpenAt activity w.instances n → IfOk made (λ c. c ≡ reply_of n activity r) →
+    Prepares w (Reply activity r) (or_memory made)
+reply_prepares w activity r n made e awaits there m =
+    let new : is_used (keys.Activity activity) w ≡ false = sym (used_some (keys.Activity activity) w.keys) ∙ ap is_some e in
+    made_or_not w (Reply activity r) (reply_of n activity r) made m (
+      record { new = new; awaits = there },
+      (λ i. cond (new i || not (awaits i)) None (Some (with_answer w activity r))),
+      ap (λ o. duplicate o (refusal_of_reply w activity)) e ∙ ap (λ b. cause (not b) Stale None) awaits,
+      refl,
+    )
 
 -- the instances after an event was offered to them that goes out, where one does
 abbrev offered_by : Option Event → List Instance → List Instance

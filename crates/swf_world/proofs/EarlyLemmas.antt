@@ -1,12 +1,13 @@
 -- The place of a refusal is that of a used key.
-use Rattle.std.proofs.Common.{◌≡◌, subst, cond, ℕ, ◌≤◌, List, [], ◌∷◌, nat_le, Bool, true, false, Option, Some, None, refl}
+use Rattle.std.proofs.Common.{◌≡◌, subst, cond, ℕ, ◌≤◌, List, [], ◌∷◌, nat_le, not, Bool, true, false, Option, Some, None, refl}
 use Rattle.std.specs.List.{AllByRecursion}
 use Rattle.swf_meaning.specs.declared.label.Label.{Label}
 use Rattle.swf_meaning.specs.declared.label.Label.TheVariants.{Load, Start, Event, Reply, Moment, Step}
 use Rattle.swf_document.specs.declared.document.Document.{Document}
 use Rattle.swf_document.specs.declared.fault.Fault.{Fault}
 use Rattle.swf_meaning.specs.Documents.{document_at}
-use Rattle.swf_runs.specs.After.{accepted, load_faults}
+use Rattle.swf_validate.specs.Accepts.{faults}
+use Rattle.swf_runs.specs.After.{accepted, is_open}
 use Rattle.swf_meaning.specs.Answer.{instance_at}
 use Rattle.swf_meaning.specs.declared.key.Key.{Key}
 use Rattle.swf_meaning.specs.declared.key.Key.TheVariants as keys
@@ -70,9 +71,9 @@ step_early now strand (Some i) = by _
 -- a refusal of a world whose keys were used early is early
 pub refusal_early : (w : World) (l : Label) (r : Refusal) → AllByRecursion IsEarly w.keys → refusal w l ≡ Some r → IsEarlyRefusal r
 unfolding Early
-refusal_early w (Load v) r a e = load_early w (load_faults v) (accepted v) a r e
+refusal_early w (Load v) r a e = load_early w (faults v) (accepted v) a r e
 refusal_early w (Start id key input) r a e = duplicate_early (keys.Instance id) w.keys _ a (start_early w (document_at key w.documents)) r e
 refusal_early w (Event x) r a e = duplicate_early (keys.Event x.source x.id) w.keys None a none_early r e
-refusal_early w (Reply x y) r a e = duplicate_early (keys.Activity x) w.keys (refusal_of_reply w x) a (one_early Stale tt) r e
+refusal_early w (Reply x y) r a e = duplicate_early (keys.Activity x) w.keys (refusal_of_reply w x) a (cause_early (not (is_open x w)) Stale None tt none_early) r e
 refusal_early w (Moment moment) r a e = cause_early (nat_le moment w.now) (Past w.now) None tt none_early r e
 refusal_early w (Step id strand) r a e = step_early w.now strand (instance_at id w.instances) r e

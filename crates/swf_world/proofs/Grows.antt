@@ -123,17 +123,25 @@ kept_changed w js kept same_ids = record {
   few = kept.few;
 }
 
--- the key of an event was used
-pub kept_told : (w : World) (used : Key) (source id : List ℕ) → Kept w → used ≡ keys.Event source id → w.count < most_labels → Kept (counted used w)
-kept_told w used source id kept e few = record {
+-- a key was used, which is that of no moment
+kept_used : (w : World) (used : Key) → Kept w → ((m : ℕ) → same_key (keys.Moment m) used ≡ false) → w.count < most_labels → Kept (counted used w)
+kept_used w used kept other few = record {
   new = record {
     document = λ k h. kept.new.document k (not_among (keys.Document k) w.keys used w.count h).0;
     instance = λ k h. kept.new.instance k (not_among (keys.Instance k) w.keys used w.count h).0;
-    moment = λ m later. still_not (keys.Moment m) w.keys used w.count (kept.new.moment m later) (ap (same_key (keys.Moment m)) e);
+    moment = λ m later. still_not (keys.Moment m) w.keys used w.count (kept.new.moment m later) (other m);
   };
   early = early_pushed w.keys used w.count kept.early few;
   few = omega arith;
 }
+
+-- the key of an event was used
+pub kept_told : (w : World) (used : Key) (source id : List ℕ) → Kept w → used ≡ keys.Event source id → w.count < most_labels → Kept (counted used w)
+kept_told w used source id kept e few = kept_used w used kept (λ m. ap (same_key (keys.Moment m)) e) few
+
+-- that of an activity
+pub kept_answered : (w : World) (activity : List ℕ) → Kept w → w.count < most_labels → Kept (counted (keys.Activity activity) w)
+kept_answered w activity kept few = kept_used w (keys.Activity activity) kept (λ m. refl) few
 
 -- a label that uses no key, and lets events out
 pub kept_counted : (w : World) (es : List Event) → Kept w → w.count < most_labels → Kept (record w { outbox = es; count = w.count + 1 })

@@ -12,7 +12,8 @@ use Rattle.swf_meaning.specs.declared.key.Key.TheVariants as keys
 use Rattle.swf_meaning.specs.World.{line_of, site_of, World, Instance, step_at, new_instance}
 use Rattle.swf_meaning.specs.Answer.{instance_at}
 use Rattle.swf_meaning.specs.Documents.{Loaded, document_at}
-use Rattle.swf_runs.specs.After.{after, loaded, load_faults, accepted, most_documents, most_instances, with_document, with_instance, with_event, stepped, with_instances}
+use Rattle.swf_validate.specs.Accepts.{faults}
+use Rattle.swf_runs.specs.After.{after, loaded, accepted, is_open, most_documents, most_instances, with_answer, with_document, with_instance, with_event, stepped, with_instances}
 use Rattle.swf_world.specs.declared.refusal.Refusal.{Refusal}
 use Rattle.swf_world.specs.declared.refusal.Refusal.TheVariants.{Stale, Full, Past, NotEnabled}
 use Rattle.swf_world.specs.Changes.{with_moment}
@@ -71,12 +72,13 @@ event_agrees : (w : World) (e : Event) (o : Option ℕ) → Agree (cond (is_some
 event_agrees w e (Some p) = refl
 event_agrees w e None = refl
 
-reply_agrees : (o : Option ℕ) → false ≡ not (is_some (duplicate o (Some Stale)))
-reply_agrees (Some p) = refl
-reply_agrees None = refl
+reply_agrees : (w : World) (o : Option ℕ) (awaits : Bool) → Agree (cond (is_some o || not awaits) None (Some w)) (duplicate o (cause (not awaits) Stale None))
+reply_agrees w (Some p) awaits = refl
+reply_agrees w None true = refl
+reply_agrees w None false = refl
 
 pub agree : (w : World) (l : Label) → Agree (after w l) (refusal w l)
-agree w (Load v) = by (load_faults v) (accepted v)
+agree w (Load v) = by (faults v) (accepted v)
   where
     by : (fs : List Fault) (o : Option Document) → Agree (option_and_then (loaded w v) o) (refusal_of_load w fs o)
     by fs None = refl
@@ -88,7 +90,9 @@ agree w (Start id key input) =
     ∙ start_agrees w (λ d. with_instance w (new_instance id input w.now d)) (used_at (keys.Instance id) w.keys) (document_at key w.documents)
 agree w (Told e) =
     ap (λ b. is_some (cond b None (Some (with_event w e)))) (sym (used_some (keys.Event e.source e.id) w.keys)) ∙ event_agrees w e (used_at (keys.Event e.source e.id) w.keys)
-agree w (Reply a r) = reply_agrees (used_at (keys.Activity a) w.keys)
+agree w (Reply a r) =
+    ap (λ b. is_some (cond (b || not (is_open a w)) None (Some (with_answer w a r)))) (sym (used_some (keys.Activity a) w.keys))
+    ∙ reply_agrees (with_answer w a r) (used_at (keys.Activity a) w.keys) (is_open a w)
 agree w (Moment moment) = by (nat_le moment w.now)
   where
     by : (b : Bool) → Agree (cond b None (Some (with_moment w moment))) (cause b (Past w.now) None)

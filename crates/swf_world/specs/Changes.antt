@@ -9,7 +9,7 @@ use Rattle.swf_meaning.specs.Complete.{Stepped}
 use Rattle.swf_meaning.specs.Documents.{Loaded as WorldLoaded}
 use Rattle.swf_meaning.specs.Wake.{waits}
 use Rattle.swf_meaning.specs.World.{World, Instance, step_at, with_step}
-use Rattle.swf_runs.specs.After.{is_used, counted, with_document, with_instance}
+use Rattle.swf_runs.specs.After.{is_used, counted, with_answer, with_document, with_instance}
 use Rattle.swf_tasks.specs.Prepares.{applied, Fits}
 use Rattle.swf_tasks.specs.Taken.{offered_own}
 use Rattle.swf_tasks.specs.declared.prepared.Prepared.{Prepared}
@@ -20,6 +20,7 @@ use Rattle.swf_instances.specs.declared.offer.Hearing.{Hearing}
 use Rattle.swf_instances.specs.Takes.{take_at}
 use Rattle.swf_catalog.specs.declared.documents.Loaded.{Loaded}
 use Rattle.swf_instances.specs.Offers.{put_all, IsHeardFrom}
+use Rattle.swf_instances.specs.Replies.{IsOpenAt}
 
 -- a document under its own key, which was not used
 pub record SuitsLoad (w : World) (key : DocKey) (used : Key) (loaded : Loaded) : Type 0 where
@@ -41,6 +42,11 @@ pub record SuitsEvent (w : World) (used : Key) (heard : List Hearing) : Type 0 w
   pub used_is : used ≡ keys.Event source id
   pub new : is_used used w ≡ false
   pub from : AllByRecursion (IsHeardFrom w.instances) heard
+
+-- an activity's key, which was not used, and the number of the instance in which the activity is open
+pub record SuitsReply (w : World) (n : ℕ) (activity : List ℕ) : Type 0 where
+  pub new : is_used (keys.Activity activity) w ≡ false
+  pub awaits : IsOpenAt activity w.instances n
 
 -- a moment above the one that was reached, and no later than the last
 pub record SuitsMoment (w : World) (moment : ℕ) : Type 0 where
@@ -85,6 +91,7 @@ abbrev pub suits : World → ChangeKind → Type 0
 suits w (kinds.Load key used loaded) = SuitsLoad w key used loaded
 suits w (kinds.Start id used instance) = SuitsStart w id used instance
 suits w (kinds.Event used heard) = SuitsEvent w used heard.items
+suits w (kinds.Reply n activity reply) = SuitsReply w n activity
 suits w (kinds.Moment moment) = SuitsMoment w moment
 suits w (kinds.Step n prepared heard) = SuitsStep w n prepared heard.items
 
@@ -92,6 +99,7 @@ abbrev pub changed_by : World → ChangeKind → World
 changed_by w (kinds.Load key used loaded) = with_document w loaded.value loaded.document
 changed_by w (kinds.Start id used instance) = with_instance w instance
 changed_by w (kinds.Event used heard) = with_heard w used heard.items
+changed_by w (kinds.Reply n activity reply) = with_answer w activity reply
 changed_by w (kinds.Moment moment) = with_moment w moment
 changed_by w (kinds.Step n prepared heard) = with_stepped w n prepared heard.items
 

@@ -1,6 +1,7 @@
 -- What preparing a label answers in a world that has room.
 use Rattle.std.specs.Prelude.{◌≡◌, List, [], ℕ, length, slice_get, Option, Some, None, Result, Ok, Err}
 use Rattle.swf_value.specs.Value.{Value}
+use Rattle.swf_calls.specs.declared.reply.CallReply.{CallReply}
 use Rattle.swf_cloudevents.specs.declared.event.Event.{Event}
 use Rattle.swf_document.specs.declared.document.Document.{Document}
 use Rattle.swf_meaning.specs.declared.key.Key.TheVariants as keys
@@ -32,6 +33,10 @@ load_of v d = untold (kinds.Load d.key (keys.Document d.key) (record { value = v
 -- the change that adds an instance which has not begun
 abbrev pub start_of : List ℕ → Document → Value → ℕ → Change
 start_of id d input now = untold (kinds.Start id (keys.Instance id) (new_instance id input now d))
+
+-- the change that answers a call of the instance of that number
+abbrev pub reply_of : ℕ → List ℕ → CallReply → Change
+reply_of n activity reply = untold (kinds.Reply n activity reply)
 
 -- the event is told to all of these instances
 abbrev pub TellsTo : List Instance → Event → ChangeKind → Type 0

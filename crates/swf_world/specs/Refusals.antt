@@ -10,7 +10,8 @@ use Rattle.swf_meaning.specs.World.{World, Instance}
 use Rattle.swf_meaning.specs.Strands.{can_go}
 use Rattle.swf_meaning.specs.Answer.{instance_at}
 use Rattle.swf_meaning.specs.Documents.{document_at}
-use Rattle.swf_runs.specs.After.{most_documents, most_instances, load_faults, accepted, is_open}
+use Rattle.swf_validate.specs.Accepts.{faults}
+use Rattle.swf_runs.specs.After.{most_documents, most_instances, accepted, is_open}
 use Rattle.swf_registry.specs.UsedKey.{used_at}
 use Rattle.swf_world.specs.declared.refusal.Refusal.{Refusal}
 use Rattle.swf_world.specs.declared.refusal.Refusal.TheVariants.{Refused, Duplicate, Stale, UnknownDocument, UnknownInstance, Full, Past, NotEnabled}
@@ -52,7 +53,7 @@ refusal_of_step now strand None = Some UnknownInstance
 refusal_of_step now strand (Some i) = if can_go now strand i.node then None else Some NotEnabled
 
 abbrev pub refusal : World → Label → Option Refusal
-refusal w (Load v) = refusal_of_load w (load_faults v) (accepted v)
+refusal w (Load v) = refusal_of_load w (faults v) (accepted v)
 refusal w (Start id key input) = duplicate (used_at (keys.Instance id) w.keys) (refusal_of_start w (document_at key w.documents))
 refusal w (Event e) = duplicate (used_at (keys.Event e.source e.id) w.keys) None
 refusal w (Reply a r) = duplicate (used_at (keys.Activity a) w.keys) (refusal_of_reply w a)

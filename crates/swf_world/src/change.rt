@@ -4,6 +4,7 @@ ghost use Rattle.swf_world.specs.Prepares.{untold, or_memory};
 
 use crate::refusal::PrepareFault;
 use std::alloc::AllocError;
+use swf_calls::CallReply;
 use swf_catalog::Loaded;
 use swf_document::DocKey;
 use swf_instances::Hearing;
@@ -37,6 +38,12 @@ pub enum ChangeKind {
     Event {
         used: Key,
         heard: Vec<Hearing>,
+    },
+    /// The answer of a call of the instance of that number.
+    Reply {
+        number: usize,
+        activity: Text,
+        reply: CallReply,
     },
     /// The moment that is reached, in milliseconds.
     Moment(u64),

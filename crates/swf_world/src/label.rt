@@ -36,9 +36,7 @@ impl World {
             Label::Load(value) => self.prepare_load(value),
             Label::Start { id, key, input } => self.prepare_start(id, key, input),
             Label::Event(event) => self.prepare_event(event),
-            Label::Reply { activity, .. } => {
-                Err(PrepareFault::Refused(self.reply_refusal(activity)))
-            }
+            Label::Reply { activity, reply } => self.prepare_reply(activity, reply),
             Label::Moment(moment) => self.prepare_moment(*moment),
             Label::Step { id, strand } => self.prepare_step(id, strand),
         }
@@ -59,6 +57,11 @@ impl World {
             ChangeKind::Load { key, used, loaded } => self.install_load(key, used, loaded),
             ChangeKind::Start { id, used, instance } => self.install_start(id, used, instance),
             ChangeKind::Event { used, heard } => self.install_event(used, heard),
+            ChangeKind::Reply {
+                number,
+                activity,
+                reply,
+            } => self.install_reply(number, activity, reply),
             ChangeKind::Moment(moment) => self.install_moment(moment),
             ChangeKind::Step {
                 number,

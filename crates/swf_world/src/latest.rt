@@ -1,13 +1,10 @@
 // The label of an outcome.
 ghost use Rattle.std.specs.Prelude.{◌≡◌, IfOk};
-ghost use Rattle.swf_meaning.specs.Documents.{resolved};
 ghost use Rattle.swf_world.specs.Latest.{label_of};
 
 use crate::world::World;
 use std::alloc::AllocError;
-use swf_document::DocKey;
 use swf_meaning::{Label, Outcome};
-use swf_text::is_word;
 
 impl World {
     /// The label of an outcome: a start of the version `latest` gets the last one that was loaded of its namespace
@@ -18,23 +15,12 @@ impl World {
         match outcome {
             Outcome::Load(value) => Ok(Label::Load(value)),
             Outcome::Start { id, key, input } => {
-                let key = self.resolved(key)?;
+                let key = self.documents.resolved(key)?;
                 Ok(Label::Start { id, key, input })
             }
             Outcome::Event(event) => Ok(Label::Event(event)),
             Outcome::Reply { activity, reply } => Ok(Label::Reply { activity, reply }),
             Outcome::Moment(moment) => Ok(Label::Moment(moment)),
         }
-    }
-
-    // A key with the last loaded version in place of `latest`.
-    fn resolved(&self, key: DocKey) -> Result<DocKey, AllocError>
-        ensures { IfOk result (λ k. k ≡ resolved self.now.world.documents key) }
-    {
-        if !is_word(&key.version, "latest") {
-            return Ok(key);
-        }
-        let version = self.documents.last_version(&key).copy()?;
-        Ok(DocKey { version, ..key })
     }
 }

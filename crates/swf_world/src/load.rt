@@ -16,8 +16,8 @@ use swf_catalog::Loaded;
 use swf_document::DocKey;
 use swf_meaning::Key;
 use swf_reader::ReadFault;
-use swf_registry::{Sought, loadable_document};
-use swf_validate::Accepted;
+use swf_registry::Sought;
+use swf_validate::{Accepted, accept};
 use swf_value::Json;
 
 /// How many documents may be loaded.
@@ -40,7 +40,7 @@ impl World {
     pub(crate) fn prepare_load(&self, value: &Json) -> Result<Change, PrepareFault>
         ensures { Prepares self.now.world (Label.Load value.now) result }
     {
-        let accepted = match loadable_document(self.alloc, value) {
+        let accepted = match accept(self.alloc, value) {
             Ok(document) => document,
             Err(ReadFault::Faults(faults)) => {
                 return Err(PrepareFault::Refused(Refusal::Refused(faults)));

@@ -1,12 +1,15 @@
 // Queries, which change nothing.
-ghost use Rattle.std.specs.Prelude.{◌≡◌, ◌⊎◌, List, Err};
+ghost use Rattle.std.specs.Prelude.{◌≡◌, ◌⊎◌, List, Err, IfOk, flat_map};
 ghost use Rattle.swf_world.specs.Answers.{answer, found, IsOfWorld};
 ghost use Rattle.swf_meaning.specs.declared.label.Label.{Label};
 ghost use Rattle.swf_meaning.specs.Answer.{status};
+ghost use Rattle.swf_meaning.specs.Pending.{open_calls};
 
 use crate::world::World;
+use std::alloc::AllocError;
+use swf_calls::CallRequest;
 use swf_meaning::{Answer, Query};
-use swf_reports::{outbox, pending, report};
+use swf_reports::{open_calls, outbox, pending, report};
 use swf_text::Text;
 use thiserror::Error;
 
@@ -37,6 +40,13 @@ impl World {
             },
             Query::History(_) => unreachable!(),
         }
+    }
+
+    /// The calls that await an answer, each with its activity: in start order, then by strand.
+    pub fn open_calls(&self) -> Result<Vec<(Text, CallRequest)>, AllocError>
+        ensures { IfOk result (λ calls. calls.items ≡ flat_map (λ i. open_calls i.node) self.now.world.instances) }
+    {
+        open_calls(self.alloc, &self.instances)
     }
 
     // The report of an instance.

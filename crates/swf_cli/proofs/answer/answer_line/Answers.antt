@@ -3,6 +3,7 @@ use Rattle.swf_protocol.specs.Line.{command_of}
 use Rattle.swf_protocol.specs.declared.reply.Reply.{Reply}
 use Rattle.swf_cli.specs.Turns.{CommandTurn}
 use Rattle.swf_cli.proofs.AnswerLemmas.{line_as, line_stays, read_line_is, unread_turn}
+use Rattle.swf_cli.proofs.SettlingLemmas.{asks_none}
 use Rattle.swf_protocol.specs.declared.command.Command.{Command}
 use Rattle.swf_protocol.specs.declared.command.CommandFault.{CommandFault}
 use Rattle.swf_cli.specs.StoreCalls.{CommandCalls}
@@ -14,26 +15,35 @@ pub returns-in-Ok-obey-clause-done : goal.returns-in-Ok-obey-clause-done
 returns-in-Ok-obey-clause-done g c =
     let H = g.S.Store in
     let line = command_of c.args.line.now in
-    let reads = read_line_is c.read_command.result line c.in-Ok.command c.in-Ok.is c.read_command.ensures.reads in
-    line_as c.args.words.now H.moment H.left_since H.said H.may_leave H.seen g.met.S.Store.only_now line (Ok c.in-Ok.command) c.args.store.now c.obey.new.store c.args.engine.now c.obey.new.engine c.obey.result (Ok c.in-Ok-obey.reply)
-    reads c.in-Ok-obey.is c.obey.ensures.done
+    let reads = read_line_is c.read_command.result line c.in-Ok.command c.in-Ok.is c.read_command.ensures.reads in (
+      c.obey.ensures.done.0,
+      c.obey.ensures.done.1,
+      line_as c.args.words.now c.obey.ensures.done.0 H.moment H.left_since H.said H.may_leave H.seen g.met.S.Store.only_now line (Ok c.in-Ok.command) c.args.store.now c.obey.new.store c.args.engine.now c.obey.new.engine c.obey.result (Ok c.in-Ok-obey.reply)
+          reads c.in-Ok-obey.is c.obey.ensures.done.2,
+    )
 
 pub returns-in-Err-obey-clause-done : goal.returns-in-Err-obey-clause-done
 returns-in-Err-obey-clause-done g c =
     let H = g.S.Store in
     let line = command_of c.args.line.now in
-    let reads = read_line_is c.read_command.result line c.in-Ok.command c.in-Ok.is c.read_command.ensures.reads in
-    line_as c.args.words.now H.moment H.left_since H.said H.may_leave H.seen g.met.S.Store.only_now line (Ok c.in-Ok.command) c.args.store.now c.obey.new.store c.args.engine.now c.obey.new.engine c.obey.result (Err c.in-Err-obey.fault)
-    reads c.in-Err-obey.is c.obey.ensures.done
+    let reads = read_line_is c.read_command.result line c.in-Ok.command c.in-Ok.is c.read_command.ensures.reads in (
+      c.obey.ensures.done.0,
+      c.obey.ensures.done.1,
+      line_as c.args.words.now c.obey.ensures.done.0 H.moment H.left_since H.said H.may_leave H.seen g.met.S.Store.only_now line (Ok c.in-Ok.command) c.args.store.now c.obey.new.store c.args.engine.now c.obey.new.engine c.obey.result (Err c.in-Err-obey.fault)
+          reads c.in-Err-obey.is c.obey.ensures.done.2,
+    )
 
 pub returns-in-Err-clause-done : goal.returns-in-Err-clause-done
 returns-in-Err-clause-done g c =
     let H = g.S.Store in
     let words = c.args.words.now in
-    let line = command_of c.args.line.now in
-    line_stays words H.moment H.left_since H.said H.may_leave H.seen g.met.S.Store.only_now line c.args.store.now c.args.engine.now c.unread.result
-    (λ history is. subst (λ (r : Reply). CommandTurn words None [] history line [] r) (sym c.unread.ensures.reply)
-    (unread_turn words history line c.read_command.result c.in-Err.fault c.in-Err.is c.read_command.ensures.reads c.read_command.ensures.memory))
+    let line = command_of c.args.line.now in (
+      [],
+      asks_none _ _,
+      line_stays words [] H.moment H.left_since H.said H.may_leave H.seen g.met.S.Store.only_now line c.args.store.now c.args.engine.now c.unread.result
+          (λ history is. subst (λ (r : Reply). CommandTurn words None [] history line [] r) (sym c.unread.ensures.reply)
+          (unread_turn words [] history line c.read_command.result c.in-Err.fault c.in-Err.is c.read_command.ensures.reads c.read_command.ensures.memory)),
+    )
 
 pub returns-in-Ok-obey-clause-calls : goal.returns-in-Ok-obey-clause-calls
 returns-in-Ok-obey-clause-calls g c =

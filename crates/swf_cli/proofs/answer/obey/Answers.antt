@@ -1,7 +1,8 @@
-use Rattle.std.proofs.Common.{Ok, Result, ap, refl, inl, inr, subst, sym}
+use Rattle.std.proofs.Common.{[], Ok, Result, ap, refl, inl, inr, subst, sym}
 use Rattle.swf_protocol.specs.declared.command.Command.TheVariants.{Do, Ask, Settle, Quit}
 use Rattle.swf_protocol.specs.declared.reply.Reply.TheVariants.{Quit as Bye}
 use Rattle.swf_cli.proofs.AnswerLemmas.{line_as, line_stays}
+use Rattle.swf_cli.proofs.SettlingLemmas.{asks_none}
 use Rattle.swf_protocol.specs.declared.command.Command.{Command}
 use Rattle.swf_protocol.specs.declared.command.CommandFault.{CommandFault}
 use Rattle.swf_cli.specs.StoreCalls.{CommandCalls}
@@ -10,28 +11,40 @@ use Rattle.swf_cli.proofs.answer.obey.Goals as goal
 
 pub returns-in-Do-clause-done : goal.returns-in-Do-clause-done
 returns-in-Do-clause-done g c =
-    let H = g.S.Store in
-    line_as c.args.words.now H.moment H.left_since H.said H.may_leave H.seen g.met.S.Store.only_now (Ok c.args.command) (Ok (Do c.in-Do.outcome)) c.args.store.now c.submit.new.store c.args.engine.now c.submit.new.engine c.submit.result c.submit.result
-    (ap Ok c.in-Do.is) refl (c.submit.ensures.done c.args.words.now)
+    let H = g.S.Store in (
+      [],
+      asks_none _ _,
+      line_as c.args.words.now [] H.moment H.left_since H.said H.may_leave H.seen g.met.S.Store.only_now (Ok c.args.command) (Ok (Do c.in-Do.outcome)) c.args.store.now c.submit.new.store c.args.engine.now c.submit.new.engine c.submit.result c.submit.result
+          (ap Ok c.in-Do.is) refl (c.submit.ensures.done c.args.words.now),
+    )
 
 pub returns-in-Ask-clause-done : goal.returns-in-Ask-clause-done
 returns-in-Ask-clause-done g c =
-    let H = g.S.Store in
-    line_as c.args.words.now H.moment H.left_since H.said H.may_leave H.seen g.met.S.Store.only_now (Ok c.args.command) (Ok (Ask c.in-Ask.query)) c.args.store.now c.ask.new.store c.args.engine.now c.ask.new.engine c.ask.result c.ask.result
-    (ap Ok c.in-Ask.is) refl (c.ask.ensures.done c.args.words.now)
+    let H = g.S.Store in (
+      [],
+      asks_none _ _,
+      line_as c.args.words.now [] H.moment H.left_since H.said H.may_leave H.seen g.met.S.Store.only_now (Ok c.args.command) (Ok (Ask c.in-Ask.query)) c.args.store.now c.ask.new.store c.args.engine.now c.ask.new.engine c.ask.result c.ask.result
+          (ap Ok c.in-Ask.is) refl (c.ask.ensures.done c.args.words.now),
+    )
 
 pub returns-in-Settle-clause-done : goal.returns-in-Settle-clause-done
 returns-in-Settle-clause-done g c =
-    let H = g.S.Store in
-    line_as c.args.words.now H.moment H.left_since H.said H.may_leave H.seen g.met.S.Store.only_now (Ok c.args.command) (Ok (Settle c.in-Settle.limit)) c.args.store.now c.settle.new.store c.args.engine.now c.settle.new.engine c.settle.result c.settle.result
-    (ap Ok c.in-Settle.is) refl c.settle.ensures.done
+    let H = g.S.Store in (
+      c.settle.ensures.done.0,
+      c.settle.ensures.done.1,
+      line_as c.args.words.now c.settle.ensures.done.0 H.moment H.left_since H.said H.may_leave H.seen g.met.S.Store.only_now (Ok c.args.command) (Ok (Settle c.in-Settle.limit)) c.args.store.now c.settle.new.store c.args.engine.now c.settle.new.engine c.settle.result c.settle.result
+          (ap Ok c.in-Settle.is) refl c.settle.ensures.done.2,
+    )
 
 pub returns-in-Quit-clause-done : goal.returns-in-Quit-clause-done
 returns-in-Quit-clause-done g c =
-    let H = g.S.Store in
-    line_as c.args.words.now H.moment H.left_since H.said H.may_leave H.seen g.met.S.Store.only_now (Ok c.args.command) (Ok Quit) c.args.store.now c.args.store.now c.args.engine.now c.args.engine.now (Ok Bye) (Ok Bye)
-    (ap Ok c.in-Quit.is) refl
-    (line_stays c.args.words.now H.moment H.left_since H.said H.may_leave H.seen g.met.S.Store.only_now (Ok Quit) c.args.store.now c.args.engine.now Bye (λ history is. inl (refl, refl)))
+    let H = g.S.Store in (
+      [],
+      asks_none _ _,
+      line_as c.args.words.now [] H.moment H.left_since H.said H.may_leave H.seen g.met.S.Store.only_now (Ok c.args.command) (Ok Quit) c.args.store.now c.args.store.now c.args.engine.now c.args.engine.now (Ok Bye) (Ok Bye)
+          (ap Ok c.in-Quit.is) refl
+          (line_stays c.args.words.now [] H.moment H.left_since H.said H.may_leave H.seen g.met.S.Store.only_now (Ok Quit) c.args.store.now c.args.engine.now Bye (λ history is. inl (refl, refl))),
+    )
 
 pub returns-in-Do-clause-calls : goal.returns-in-Do-clause-calls
 returns-in-Do-clause-calls g c =

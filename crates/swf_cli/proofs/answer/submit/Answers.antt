@@ -1,4 +1,4 @@
-use Rattle.std.proofs.Common.{inl, sym, subst, ◌∙◌, Ok, Result, ap}
+use Rattle.std.proofs.Common.{[], inl, sym, subst, ◌∙◌, Ok, Result, ap}
 use Rattle.std.specs.Result.{IfOk}
 use Rattle.swf_engine.specs.declared.engine.Submitted.{Submitted}
 use Rattle.swf_engine.specs.declared.fault.EngineFault.{EngineFault}
@@ -17,7 +17,7 @@ pub returns-in-Ok-Accepted-clause-done : goal.returns-in-Ok-Accepted-clause-done
 returns-in-Ok-Accepted-clause-done g c = λ words.
     let H = g.S.Store in
     let o = c.args.outcome in
-    submit_done_as words H.moment H.left_since H.said H.may_leave H.seen g.met.S.Store.only_now o c.args.store.now c.submit.new.store c.args.engine.now c.submit.new.self c.submit.result (Ok c.accepted.result)
+    submit_done_as words [] H.moment H.left_since H.said H.may_leave H.seen g.met.S.Store.only_now o c.args.store.now c.submit.new.store c.args.engine.now c.submit.new.self c.submit.result (Ok c.accepted.result)
     c.submit.ensures.submits
     (ap (submit_reply o) (c.in-Ok-Accepted.is ∙ ap Ok c.in-Ok-Accepted.field-0-is) ∙ ap Ok (accepted_so o c.in-Ok-Accepted.installed.place c.in-Ok-Accepted.installed.taken c.sort_of-sort.result c.accepted.result c.sort_of-sort.ensures c.accepted.ensures))
 
@@ -31,7 +31,7 @@ pub returns-in-Ok-Refused-clause-done : goal.returns-in-Ok-Refused-clause-done
 returns-in-Ok-Refused-clause-done g c = λ words.
     let H = g.S.Store in
     let o = c.args.outcome in
-    submit_done_as words H.moment H.left_since H.said H.may_leave H.seen g.met.S.Store.only_now o c.args.store.now c.submit.new.store c.args.engine.now c.submit.new.self c.submit.result (Ok c.refused.result)
+    submit_done_as words [] H.moment H.left_since H.said H.may_leave H.seen g.met.S.Store.only_now o c.args.store.now c.submit.new.store c.args.engine.now c.submit.new.self c.submit.result (Ok c.refused.result)
     c.submit.ensures.submits
     (ap (submit_reply o) (c.in-Ok-Refused.is ∙ ap Ok c.in-Ok-Refused.field-0-is) ∙ ap Ok (sym c.refused.ensures))
 
@@ -48,7 +48,7 @@ returns-in-Err g c =
       faults = subst MayAddFault (sym c.or_memory.ensures)
           (submit_faults H.moment H.left_since H.said H.may_leave H.seen g.met.S.Store.only_now o c.args.store.now c.submit.new.store c.args.engine.now c.submit.new.self c.in-Err.fault submits);
       place = or_memory_usable Submitted c.in-Err.fault c.or_memory.result (IsEngineOf (H.seen c.submit.new.store) c.submit.new.self) c.or_memory.ensures usable;
-      done = λ words. submit_done_as words H.moment H.left_since H.said H.may_leave H.seen g.met.S.Store.only_now o c.args.store.now c.submit.new.store c.args.engine.now c.submit.new.self c.submit.result c.or_memory.result
+      done = λ words. submit_done_as words [] H.moment H.left_since H.said H.may_leave H.seen g.met.S.Store.only_now o c.args.store.now c.submit.new.store c.args.engine.now c.submit.new.self c.submit.result c.or_memory.result
           c.submit.ensures.submits (ap (submit_reply o) c.in-Err.is ∙ sym c.or_memory.ensures);
       calls = λ words. inl (c.submit.result, c.submit.ensures.calls);
       sayable = subst (λ (r : Result Reply EngineFault). IfOk r IsSayable) (sym c.or_memory.ensures) (sayable_or_memory c.in-Err.fault);

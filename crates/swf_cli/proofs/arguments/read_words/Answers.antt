@@ -4,7 +4,7 @@ use Rattle.swf_cli.proofs.WordLemmas.{meant_first, meant_next}
 use Rattle.swf_cli.proofs.arguments.read_words.Goals as goal
 
 pub loop-word-init : goal.loop-word-init
-loop-word-init c = meant_first _ (texts c.args.words.now) refl refl refl
+loop-word-init c = meant_first _ (texts c.args.words.now) refl refl refl refl
 
 pub loop-word-preserved : goal.loop-word-preserved
 loop-word-preserved c =

@@ -1,9 +1,10 @@
-use Rattle.std.proofs.Common.{false, inr, rules, refl, ◌≡◌, suc, [], ◌++◌, arith}
+use Rattle.std.proofs.Common.{false, inr, rules, refl, ◌∙◌, ◌≡◌, suc, [], ◌++◌, arith}
 use Rattle.swf_cli.specs.Dialect.{session}
 use Rattle.swf_cli.specs.Finish.{most_turns}
 use Rattle.swf_cli.specs.Owed.{pieces_of}
 use Rattle.swf_cli.specs.Turns.{labels_of, inputs_of}
 use Rattle.swf_cli.proofs.HeardLemmas.{heard_none, heard_more, tells_ends, tells_stops, tells_all}
+use Rattle.swf_cli.proofs.SettlingLemmas.{asks_none, asks_join}
 use Rattle.swf_cli.proofs.SessionLemmas.{begins, turn_goes_on, turn_ends, turn_stops, all_made}
 use Rattle.std.specs.Prelude.{length}
 use Rattle.swf_cli.proofs.session.take_turns.Goals as goal
@@ -11,8 +12,13 @@ use Rattle.swf_cli.proofs.session.take_turns.Goals as goal
 pub loop-init : goal.loop-init
 loop-init g c = record {
   place = search rules;
-  so_far = λ start before first told took is stands leaves.
-      begins c.args.words.now g.H.Store.moment g.H.Store.left_since g.H.Store.said g.H.Store.may_leave g.H.Store.seen g.H.Host.taken start c.args.host.now c.args.engine.now before first told took is stands leaves;
+  asked = (
+    [],
+    asks_none _ _,
+    λ start before first told took is stands leaves.
+        begins c.args.words.now g.H.Store.moment g.H.Store.left_since g.H.Store.said g.H.Store.may_leave g.H.Store.seen g.H.Host.taken start c.args.host.now c.args.engine.now before first told took is stands leaves,
+  );
+  by_hand = λ e. refl;
   heard = λ first told took is. ([], heard_none g.H.Store.moment g.H.Store.left_since g.H.Store.said g.H.Store.may_leave g.H.Store.seen g.H.Host.taken c.args.host.now first told took is);
   sound = λ s. s;
   calls = (0, refl);
@@ -21,28 +27,41 @@ loop-init g c = record {
 }
 
 pub returns-in-Ends-clause-ran : goal.returns-in-Ends-clause-ran
-returns-in-Ends-clause-ran g c = λ start before first told took is stands leaves.
-    let H = g.H.Store in
-    let s = c.loop.invariant.so_far start before first told took is stands leaves in
-    turn_ends c.args.words.now H.moment H.left_since H.said H.may_leave H.seen g.H.Host.taken start c.loop.host c.take_turn.new.host c.loop.engine c.take_turn.new.engine before first told c.loop.counter s
-    (c.in-Ends.ensures.turn s.stands.0 s.stands.1 (first ++ inputs_of s.turns) s.took (told ++ pieces_of session (length first) s.turns) s.said_all (before ++ labels_of s.turns) s.stands.2)
+returns-in-Ends-clause-ran g c = (
+  c.loop.invariant.asked.0 ++ c.in-Ends.ensures.turn.0,
+  asks_join _ _ _ _ _ _ c.loop.invariant.asked.1 c.in-Ends.ensures.turn.1,
+  λ start before first told took is stands leaves.
+      let H = g.H.Store in
+      let s = c.loop.invariant.asked.2 start before first told took is stands leaves in
+      turn_ends c.args.words.now H.moment H.left_since H.said H.may_leave H.seen g.H.Host.taken start c.loop.host c.take_turn.new.host c.loop.engine c.take_turn.new.engine before first told c.loop.invariant.asked.0 c.loop.counter s c.in-Ends.ensures.turn.0
+      (c.in-Ends.ensures.turn.2 s.stands.0 s.stands.1 (first ++ inputs_of s.turns) s.took (told ++ pieces_of session (length first) s.turns) s.said_all (before ++ labels_of s.turns) s.stands.2),
+)
 
 pub returns-in-Stops-clause-ran : goal.returns-in-Stops-clause-ran
-returns-in-Stops-clause-ran g c = λ start before first told took is stands leaves.
-    let H = g.H.Store in
-    let s = c.loop.invariant.so_far start before first told took is stands leaves in
-    turn_stops c.args.words.now H.moment H.left_since H.said H.may_leave H.seen g.H.Host.taken start c.loop.host c.take_turn.new.host c.loop.engine c.take_turn.new.engine before first told c.loop.counter s c.in-Stops.status
-    (c.in-Stops.ensures.turn s.stands.0 s.stands.1 (first ++ inputs_of s.turns) s.took (told ++ pieces_of session (length first) s.turns) s.said_all (before ++ labels_of s.turns) s.stands.2)
+returns-in-Stops-clause-ran g c = (
+  c.loop.invariant.asked.0 ++ c.in-Stops.ensures.turn.0,
+  asks_join _ _ _ _ _ _ c.loop.invariant.asked.1 c.in-Stops.ensures.turn.1,
+  λ start before first told took is stands leaves.
+      let H = g.H.Store in
+      let s = c.loop.invariant.asked.2 start before first told took is stands leaves in
+      turn_stops c.args.words.now H.moment H.left_since H.said H.may_leave H.seen g.H.Host.taken start c.loop.host c.take_turn.new.host c.loop.engine c.take_turn.new.engine before first told c.loop.invariant.asked.0 c.loop.counter s c.in-Stops.ensures.turn.0 c.in-Stops.status
+      (c.in-Stops.ensures.turn.2 s.stands.0 s.stands.1 (first ++ inputs_of s.turns) s.took (told ++ pieces_of session (length first) s.turns) s.said_all (before ++ labels_of s.turns) s.stands.2),
+)
 
 pub loop-preserved : goal.loop-preserved
 loop-preserved g c =
     let H = g.H.Store in
     record {
       place = search rules;
-      so_far = λ start before first told took is stands leaves.
-          let s = c.loop.invariant.so_far start before first told took is stands leaves in
-          turn_goes_on c.args.words.now H.moment H.left_since H.said H.may_leave H.seen g.H.Host.taken start c.loop.host c.take_turn.new.host c.loop.engine c.take_turn.new.engine before first told c.loop.counter s
-          (c.in-GoesOn.ensures.turn s.stands.0 s.stands.1 (first ++ inputs_of s.turns) s.took (told ++ pieces_of session (length first) s.turns) s.said_all (before ++ labels_of s.turns) s.stands.2);
+      asked = (
+        c.loop.invariant.asked.0 ++ c.in-GoesOn.ensures.turn.0,
+        asks_join _ _ _ _ _ _ c.loop.invariant.asked.1 c.in-GoesOn.ensures.turn.1,
+        λ start before first told took is stands leaves.
+            let s = c.loop.invariant.asked.2 start before first told took is stands leaves in
+            turn_goes_on c.args.words.now H.moment H.left_since H.said H.may_leave H.seen g.H.Host.taken start c.loop.host c.take_turn.new.host c.loop.engine c.take_turn.new.engine before first told c.loop.invariant.asked.0 c.loop.counter s c.in-GoesOn.ensures.turn.0
+            (c.in-GoesOn.ensures.turn.2 s.stands.0 s.stands.1 (first ++ inputs_of s.turns) s.took (told ++ pieces_of session (length first) s.turns) s.said_all (before ++ labels_of s.turns) s.stands.2),
+      );
+      by_hand = λ e. c.take_turn.ensures.by_hand e ∙ c.loop.invariant.by_hand e;
       heard = λ first told took is.
           let h = c.loop.invariant.heard first told took is in
           heard_more H.moment H.left_since H.said H.may_leave H.seen g.H.Host.taken c.take_turn.new.host first told h.0 h.1.replied false
@@ -54,11 +73,15 @@ loop-preserved g c =
     }
 
 pub returns-clause-ran : goal.returns-clause-ran
-returns-clause-ran g c = λ start before first told took is stands leaves.
-    let H = g.H.Store in
-    let s = c.loop.invariant.so_far start before first told took is stands leaves in
-    let all : c.loop.counter ≡ most_turns = omega arith in
-    all_made c.args.words.now H.moment H.left_since H.said H.may_leave H.seen g.H.Host.taken start c.loop.host c.loop.engine before first told c.loop.counter s all
+returns-clause-ran g c = (
+  c.loop.invariant.asked.0,
+  c.loop.invariant.asked.1,
+  λ start before first told took is stands leaves.
+      let H = g.H.Store in
+      let s = c.loop.invariant.asked.2 start before first told took is stands leaves in
+      let all : c.loop.counter ≡ most_turns = omega arith in
+      all_made c.args.words.now H.moment H.left_since H.said H.may_leave H.seen g.H.Host.taken start c.loop.host c.loop.engine before first told c.loop.invariant.asked.0 c.loop.counter s all,
+)
 
 pub returns-in-Stops-clause-sound : goal.returns-in-Stops-clause-sound
 returns-in-Stops-clause-sound g c = λ s. c.in-Stops.ensures.sound (c.loop.invariant.sound s)

@@ -1,10 +1,12 @@
-use Rattle.std.proofs.Common.{◌≡◌, ℕ, List, [], Some}
+use Rattle.std.proofs.Common.{◌≡◌, ℕ, List, [], Some, false}
 use Rattle.swf_store.specs.declared.said.Piece.{Piece}
 use Rattle.swf_store.specs.Stops.{Leaves}
 use Rattle.swf_meaning.specs.declared.label.Label.{Label}
 use Rattle.swf_host.specs.declared.host.Input.{Input}
 use Rattle.swf_host.specs.declared.host.NoWork.{NoWork}
+use Rattle.swf_connect.specs.contracts.switchboard.SwitchboardParties.TheImpl.{ghosts}
 use Rattle.swf_engine.specs.Core.{IsEngineOf}
+use Rattle.swf_engine.specs.Settling.{Called, AsksBoard}
 use Rattle.swf_cli.specs.Dialect.{session}
 use Rattle.swf_cli.proofs.HeardLemmas.{IsHeard}
 use Rattle.swf_cli.specs.Turns.{Turn}
@@ -14,14 +16,16 @@ use Rattle.swf_cli.specs.StoreCalls.{TurnsCalls}
 use Rattle.swf_cli.proofs.SessionLemmas.{SoFar}
 use Rattle.swf_cli.proofs.session.take_turns.Given as goal
 
--- the engine's place, the turns so far since whatever state, what was replied to, the calls of these turns, and the counts
+-- the engine's place, the turns so far since whatever state and what the board was asked in them, what was replied to, the calls of these turns, and the counts
 abbrev pub invariant-loop : goal.invariant-loop
 invariant-loop g l = record {
   place : IsEngineOf (g.H.Store.seen l.host) l.engine;
-  so_far : (start : g.row.H.Denot) (before : List Label) (first : List (Input NoWork)) (told : List Piece) → g.H.Host.taken l.fn.host ≡ Some first → g.H.Store.said l.fn.host ≡ Some told
+  asked : (called : List Called) × AsksBoard l.words.http called ((ghosts g.dyn-1).parties l.fn.board) ((ghosts g.dyn-1).parties l.board)
+      × ((start : g.row.H.Denot) (before : List Label) (first : List (Input NoWork)) (told : List Piece) → g.H.Host.taken l.fn.host ≡ Some first → g.H.Store.said l.fn.host ≡ Some told
       → Stand g.H.Store.moment g.H.Store.left_since g.H.Store.said g.H.Store.may_leave g.H.Store.seen l.fn.host l.fn.engine before
       → Leaves g.H.Store.moment g.H.Store.left_since start l.fn.host (IsMoment session l.words before first told first [])
-      → SoFar l.words g.H.Store.moment g.H.Store.left_since g.H.Store.said g.H.Store.may_leave g.H.Store.seen g.H.Host.taken start l.host l.engine before first told l.counter;
+      → SoFar l.words g.H.Store.moment g.H.Store.left_since g.H.Store.said g.H.Store.may_leave g.H.Store.seen g.H.Host.taken start l.host l.engine before first told called l.counter);
+  by_hand : l.words.http ≡ false → l.board ≡ l.fn.board;
   heard : (first : List (Input NoWork)) (told : List Piece) → g.H.Host.taken l.fn.host ≡ Some first → g.H.Store.said l.fn.host ≡ Some told
       → (ts : List (Turn NoWork)) × IsHeard g.H.Store.moment g.H.Store.left_since g.H.Store.said g.H.Store.may_leave g.H.Store.seen g.H.Host.taken l.host first told ts;
   sound : IsSound g.H.Store.moment g.H.Store.left_since g.H.Store.said g.H.Store.may_leave g.H.Store.seen l.fn.host l.fn.engine → IsSound g.H.Store.moment g.H.Store.left_since g.H.Store.said g.H.Store.may_leave g.H.Store.seen l.host l.engine;

@@ -1,7 +1,8 @@
-use Rattle.std.proofs.Common.{rules, ◌≡◌, ap, sym, refl, subst, Bool, true, false, Option, Some, None, Result, Ok, if◌then◌else◌}
+use Rattle.std.proofs.Common.{rules, [], ◌≡◌, ap, sym, refl, subst, Bool, true, false, Option, Some, None, Result, Ok, if◌then◌else◌}
 use Rattle.swf_protocol.specs.Line.{command_of}
 use Rattle.swf_cli.specs.Dialect.{is_long, line_read}
 use Rattle.swf_cli.specs.Steps.{reply_of}
+use Rattle.swf_cli.proofs.SettlingLemmas.{asks_none}
 use Rattle.swf_cli.proofs.TurnLemmas.{asked_short, asked_long}
 use Rattle.swf_protocol.specs.declared.command.Command.{Command}
 use Rattle.swf_protocol.specs.declared.command.CommandFault.{CommandFault}
@@ -14,14 +15,17 @@ pub returns-then-line-gt-MOST_LINE-clause-done : goal.returns-then-line-gt-MOST_
 returns-then-line-gt-MOST_LINE-clause-done g c =
     let H = g.H.Store in
     let long : is_long c.args.line.now ≡ true = search rules in
-    asked_long c.args.words.now H.moment H.left_since H.said H.may_leave H.seen g.met.H.Store.only_now (line_read c.args.line.now) c.args.host.now c.args.engine.now (ap (λ (b : Bool). if b then None else Some (command_of c.args.line.now)) long)
+    ([], asks_none _ _, asked_long c.args.words.now [] H.moment H.left_since H.said H.may_leave H.seen g.met.H.Store.only_now (line_read c.args.line.now) c.args.host.now c.args.engine.now (ap (λ (b : Bool). if b then None else Some (command_of c.args.line.now)) long))
 
 pub returns-clause-done : goal.returns-clause-done
 returns-clause-done g c =
     let H = g.H.Store in
-    let short : is_long c.args.line.now ≡ false = search rules in
-    asked_short c.args.words.now H.moment H.left_since H.said H.may_leave H.seen g.met.H.Store.only_now (command_of c.args.line.now) (line_read c.args.line.now) c.args.host.now c.answer_line.new.store c.args.engine.now c.answer_line.new.engine (reply_of c.answer_line.result)
-    (ap (λ (b : Bool). if b then None else Some (command_of c.args.line.now)) short) c.answer_line.ensures.done
+    let short : is_long c.args.line.now ≡ false = search rules in (
+      c.answer_line.ensures.done.0,
+      c.answer_line.ensures.done.1,
+      asked_short c.args.words.now c.answer_line.ensures.done.0 H.moment H.left_since H.said H.may_leave H.seen g.met.H.Store.only_now (command_of c.args.line.now) (line_read c.args.line.now) c.args.host.now c.answer_line.new.store c.args.engine.now c.answer_line.new.engine (reply_of c.answer_line.result)
+          (ap (λ (b : Bool). if b then None else Some (command_of c.args.line.now)) short) c.answer_line.ensures.done.2,
+    )
 
 pub returns-then-line-gt-MOST_LINE-clause-calls : goal.returns-then-line-gt-MOST_LINE-clause-calls
 returns-then-line-gt-MOST_LINE-clause-calls g c =

@@ -1,7 +1,7 @@
 use Rattle.std.proofs.Common.{◌∙◌, ap, nat_le, refl, sym}
 use Rattle.swf_meaning.specs.Listen.{is_heard}
 use Rattle.swf_stack.specs.Stands.{inward}
-use Rattle.swf_strands.proofs.AskLemmas.{goes-fresh, goes-done, goes-fault, goes-waiting, goes-hearing, goes-forked}
+use Rattle.swf_strands.proofs.AskLemmas.{goes-fresh, goes-done, goes-fault, goes-waiting, goes-hearing, goes-awaiting, goes-forked}
 use Rattle.swf_strands.proofs.StrandLemmas.{empty-inward}
 use Rattle.swf_strands.proofs.ask.can_go.Goals as goal
 
@@ -22,6 +22,10 @@ returns-in-Waiting c = λ ns.
 pub returns-in-Hearing : goal.returns-in-Hearing
 returns-in-Hearing c = λ ns.
     c.is_heard.ensures ∙ (λ i. is_heard (c.task.ensures i) (c.as_slice.ensures i)) ∙ goes-hearing c.args.now (inward c.args.stand.now.around) c.args.stand.now.top ns c.in-Hearing.running _ c.in-Hearing.heard (sym c.get.ensures ∙ c.in-Hearing.is)
+
+pub returns-in-Awaiting : goal.returns-in-Awaiting
+returns-in-Awaiting c = λ ns.
+    c.is_some.ensures ∙ goes-awaiting c.args.now (inward c.args.stand.now.around) c.args.stand.now.top ns c.in-Awaiting.running c.in-Awaiting.activity c.in-Awaiting.request c.in-Awaiting.answer (sym c.get.ensures ∙ c.in-Awaiting.is)
 
 pub returns-in-Forked : goal.returns-in-Forked
 returns-in-Forked c = λ ns. goes-forked c.args.now (inward c.args.stand.now.around) c.args.stand.now.top ns _ (sym c.get.ensures ∙ c.in-Forked.is)

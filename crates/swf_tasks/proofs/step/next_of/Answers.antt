@@ -18,4 +18,4 @@ returns c =
     let z = line_of c.in_ok-scene.scene in
     let h = c.args.stand.now in
     let seen : IsSeen l z h = c.in_ok-scene.ensures.line ∙ ap (λ fs. seen_in l (inward fs)) c.outer_of.ensures in
-    made-step s l z h c.ruled-given.result c.step_of.result (subst (λ (x : Site). IsRuled x l z h c.ruled-given.result) c.in_ok-scene.ensures.site (c.ruled-given.ensures l seen)) c.step_of.ensures
+    made-step s l z h c.ruled-given.result c.step_of.result seen (subst (λ (x : Site). IsRuled x l z h c.ruled-given.result) c.in_ok-scene.ensures.site (c.ruled-given.ensures l seen)) c.step_of.ensures

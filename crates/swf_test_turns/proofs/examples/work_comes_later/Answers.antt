@@ -6,7 +6,7 @@ pub returns : goal.returns
 returns c = record {
   turn = λ words a b. (
     inl (record {
-      settling = record { unused = []; taken = IsPermutation-refl []; most = omega arith };
+      settling = record { used = []; unused = []; among = IsPermutation-refl []; taken = ([], refl, ([], refl, refl)); most = omega arith };
       enough = λ e. refl;
       told = refl;
     }),

@@ -12,4 +12,4 @@ overflow_add-result c =
     let n = c.args.begin + c.args.place in
     let d = arc_value c.self.inside.document in
     let some : is_some (numbered d n) ≡ true = subst (λ (x : Document). is_some (numbered x n) ≡ true) (sym c.self.view_is) c.requires in
-    omega (arith, numbered-within d rs.items n c.self.invariant.1 some, rs.ok.0, rs.ok.1, rs.small)
+    omega (arith, numbered-within d rs.items n c.self.invariant.2 some, rs.ok.0, rs.ok.1, rs.small)

@@ -13,6 +13,6 @@ returns c =
     let n = c.args.number in
     let d = arc_value c.self.inside.document in
     let some : is_some (numbered d n) ≡ true = subst (λ (x : Document). is_some (numbered x n) ≡ true) (sym c.self.view_is) c.requires in
-    let most : n ≤ length rs = numbered-within d rs n c.self.invariant.1 some in
+    let most : n ≤ length rs = numbered-within d rs n c.self.invariant.2 some in
     ap (λ x. slice_get (entries x) n) (sym c.self.view_is)
-    ∙ row-entry d rs n c.index.result.now c.self.invariant.1 c.if-number-eq0.false (slice_get_read rs (length rs) (n - 1) c.index.result.now refl (omega (arith, most, c.if-number-eq0.false)) c.index.ensures)
+    ∙ row-entry d rs n c.index.result.now c.self.invariant.2 c.if-number-eq0.false (slice_get_read rs (length rs) (n - 1) c.index.result.now refl (omega (arith, most, c.if-number-eq0.false)) c.index.ensures)

@@ -7,7 +7,8 @@ use Rattle.swf_rules.proofs.rule.Rule.emits.Goals as goal
 pub returns-in-Ok : goal.returns-in-Ok
 returns-in-Ok c =
     let r = c.args.self.now in
-    ap (emits (line_in r) r.running.now) c.in-Ok.ensures.event
-    ∙ ap Ok (ap (λ e. sending e (step_of (line_in r) (complete (line_in r) r.running.now r.running.now.input))) (sym c.in_ok-event-in-Ok.ensures)
-    ∙ ap (sending c.in_ok-event-in-Ok.event) (ap (λ v. step_of (line_in r) (complete (line_in r) r.running.now v)) (sym (c.in_ok-copy-in-Ok.ensures ∙ c.input.ensures)) ∙ sym (c.in_ok-step_of-in-Ok.ensures _ c.complete-given.ensures))
-    ∙ sym c.with_event.ensures)
+    let l = line_in r in
+    ap (emits l r.running.now) c.in-Ok.ensures.event
+    ∙ ap Ok (ap (λ e. sending e (step_of l (complete l r.running.now r.running.now.input))) (sym c.in_ok-event-in-Ok.ensures)
+    ∙ ap (λ v. sending c.in_ok-event-in-Ok.event (step_of l (complete l r.running.now v))) (sym (c.in_ok-copy-in-Ok.ensures ∙ c.input.ensures))
+    ∙ sym (c.in_ok-with_event-in-Ok.ensures _ c.complete-given.ensures))

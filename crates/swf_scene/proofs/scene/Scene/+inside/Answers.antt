@@ -1,10 +1,11 @@
-use Rattle.std.proofs.Common.{◌∙◌, [], ◌∷◌, ap, sym}
+use Rattle.std.proofs.Common.{◌≡◌, ◌∙◌, [], ◌∷◌, ap, subst, sym}
+use Rattle.std.specs.Prelude.{IfOk}
 use Rattle.swf_chain.proofs.EndLemmas.{first-of}
 use Rattle.swf_document.specs.Task.{Task}
 use Rattle.swf_meaning.specs.Around.{seen}
 use Rattle.swf_meaning.specs.Line.{Line}
 use Rattle.swf_scene.specs.Setting.{line_of}
-use Rattle.swf_stack.proofs.RoundLemmas.{seen_in-append, seen_of}
+use Rattle.swf_stack.proofs.RoundLemmas.{seen_in-append}
 use Rattle.swf_catalog.specs.Rounds.{round_of}
 use Rattle.swf_stack.specs.Stack.{seen_in}
 use Rattle.swf_stack.specs.Stands.{inward}
@@ -16,9 +17,9 @@ returns-clause-line t c =
     let z = line_of c.in_ok-scene.scene in
     let f = c.in-Some.frame.now in
     let outer = c.in-Some.outer.now in
-    ap (λ xs. record z { around = xs }) c.in_ok-push_seen.ensures
-    ∙ sym (seen_of z c.task-task.result.now f.round)
-    ∙ ap (λ (k : Task). seen z k (round_of f.round)) c.task-task.ensures
+    let all : seen z c.task.result.now (round_of f.round) ≡ seen_in l (inward c.args.around.now) =
+    ap (λ (k : Task). seen z k (round_of f.round)) c.task.ensures
     ∙ ap (λ (x : Line). seen x f.running.task (round_of f.round)) c.in_ok-scene.ensures.line
     ∙ sym (seen_in-append l (inward outer) (f ∷ []))
-    ∙ ap (λ fs. seen_in l (inward fs)) (sym (first-of c.args.around.now f outer c.in-Some.ensures))
+    ∙ ap (λ fs. seen_in l (inward fs)) (sym (first-of c.args.around.now f outer c.in-Some.ensures)) in
+    subst (λ (y : Line). IfOk c.within.result (λ s. line_of s ≡ y)) all c.within.ensures.line

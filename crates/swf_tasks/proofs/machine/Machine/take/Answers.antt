@@ -1,3 +1,6 @@
+use Rattle.std.proofs.Common.{◌∙◌}
+use Rattle.swf_scene.specs.Setting.{instance_of}
+use Rattle.swf_strands.specs.Strands.{root_node}
 use Rattle.swf_tasks.proofs.PrepareLemmas.{applied-by, fits-root}
 use Rattle.swf_tasks.proofs.machine.Machine.take.Goals as goal
 
@@ -13,4 +16,5 @@ invariant_of-self c = (c.put_strands-self-inside.ensures.grown, c.put_strands-se
 
 pub returns-clause-changed : goal.returns-clause-changed
 returns-clause-changed c =
-    applied-by c.self.inside.setting c.self.inside.forest.strands c.put_strands-self-inside.new.forest.strands c.args.prepared c.args.self.now c.as_slice.result.now c.self.view_is c.as_slice.ensures c.put_strands-self-inside.ensures.node
+    (λ i. record (instance_of c.self.inside.setting (root_node c.put_strands-self-inside.new.forest.strands)) { context = c.put_context.ensures i; number = c.args.prepared.number })
+    ∙ applied-by c.self.inside.setting c.self.inside.forest.strands c.put_strands-self-inside.new.forest.strands c.args.prepared c.args.self.now c.as_slice.result.now c.self.view_is c.as_slice.ensures c.put_strands-self-inside.ensures.node

@@ -1,6 +1,5 @@
-use Rattle.std.proofs.Common.{subst, Err}
+use Rattle.std.proofs.Common.{subst}
 use Rattle.swf_meaning.specs.declared.label.Label.TheVariants.{Load, Start, Event, Reply, Moment, Step}
-use Rattle.swf_world.specs.declared.refusal.PrepareFault.TheVariants.{Refused}
 use Rattle.swf_world.specs.Prepares.{Prepares}
 use Rattle.swf_world.proofs.Checks.{refused_from}
 use Rattle.swf_world.proofs.EarlyLemmas.{refusal_early}
@@ -51,11 +50,10 @@ returns-in-Event-clause-early c = λ r is.
 
 pub returns-in-Reply-clause-refused : goal.returns-in-Reply-clause-refused
 returns-in-Reply-clause-refused c =
-    refused_from c.make_room.new.self.world c.args.self.now.world (Reply c.in-Reply.activity c.in-Reply.reply) c.args.label.now (Err (Refused c.reply_refusal.result)) c.make_room.ensures.same c.in-Reply.is
-    (c.reply_refusal.ensures c.in-Reply.reply)
+    refused_from c.make_room.new.self.world c.args.self.now.world (Reply c.in-Reply.activity c.in-Reply.reply) c.args.label.now c.prepare_reply.result c.make_room.ensures.same c.in-Reply.is c.prepare_reply.ensures
 
 pub returns-in-Reply-clause-early : goal.returns-in-Reply-clause-early
 returns-in-Reply-clause-early c = λ r is.
     let w = c.make_room.new.self.world in
     let label = Reply c.in-Reply.activity c.in-Reply.reply in
-    refusal_early w label r c.make_room.ensures.early (subst (Prepares w label) is (c.reply_refusal.ensures c.in-Reply.reply))
+    refusal_early w label r c.make_room.ensures.early (subst (Prepares w label) is c.prepare_reply.ensures)

@@ -1,0 +1,9 @@
+pub mod AnswerLemmas
+pub mod ContentLemmas
+pub mod DialLemmas
+pub mod ExchangeLemmas
+pub mod MemoryLemmas
+pub mod PartyLemmas
+pub mod SendLemmas
+pub mod Sends
+pub mod TargetLemmas

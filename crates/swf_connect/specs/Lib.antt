@@ -1,0 +1,16 @@
+pub mod Answers
+pub mod Asked
+pub mod Content
+pub mod Dialed
+pub mod DialedLaws
+pub mod Exchanges
+pub mod Http
+pub mod Memory
+pub mod MemoryCode
+pub mod Parties
+pub mod Reaching
+pub mod Sending
+pub mod Spoken
+pub mod TalkList
+pub mod Talks
+pub mod Uris
