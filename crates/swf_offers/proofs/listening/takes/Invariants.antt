@@ -1,6 +1,6 @@
 use Rattle.std.proofs.Common.{◌≡◌, drop}
 use Rattle.swf_meaning.specs.Listen.{taken_from}
-use Rattle.swf_stack.proofs.heard.takes.Given as goal
+use Rattle.swf_offers.proofs.listening.takes.Given as goal
 
 -- no filter before this one takes the event
 abbrev pub invariant-loop-place : goal.invariant-loop-place

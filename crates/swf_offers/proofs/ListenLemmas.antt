@@ -5,7 +5,7 @@ use Rattle.std.specs.Prelude.{if◌then◌else◌}
 use Rattle.swf_value.specs.Value.{Members}
 use Rattle.swf_cloudevents.specs.declared.event.Event.{Event}
 use Rattle.swf_document.specs.declared.event.Filter.{Filter}
-use Rattle.swf_transform.specs.Filter.{correlated}
+use Rattle.swf_templates.specs.Filter.{correlated}
 use Rattle.swf_meaning.specs.Listen.{is_met, or_else, hears, taken_from}
 use Rattle.swf_meaning.specs.declared.heard.Heard.{Heard}
 

@@ -21,8 +21,8 @@ pub struct Vars {
 impl Model for Vars {
     ghost use Rattle.std.specs.Prelude.{List};
     ghost use Rattle.std.specs.Coded.{coded_list};
-    ghost use Rattle.swf_jq_eval.specs.declared.vars.Variable.{Variable};
-    ghost use Rattle.swf_jq_eval.specs.VariableCode.{variable_code};
+    ghost use Rattle.swf_evaluation.specs.declared.vars.Variable.{Variable};
+    ghost use Rattle.swf_evaluation.specs.VariableCode.{variable_code};
 
     ghost Value = { List Variable };
 

@@ -6,10 +6,10 @@ use Rattle.std.specs.Fmt.{signed_decimal}
 use Rattle.std.specs.List.{list_any}
 use Rattle.std.specs.Str.{encode_utf8_all}
 use Rattle.swf_value.specs.Value.{Value, null, boolean, int, text, list, object, Members, no_members, member}
-use Rattle.swf_jq_builtins.specs.Operations.{index_of}
-use Rattle.swf_transform.specs.Fill.{and_then, is_within}
-use Rattle.swf_transform.specs.declared.got.Got.{Got}
-use Rattle.swf_transform.specs.declared.got.Got.TheVariants as gots
+use Rattle.swf_evaluation.specs.Operations.{index_of}
+use Rattle.swf_templates.specs.Fill.{and_then, is_within}
+use Rattle.swf_templates.specs.declared.got.Got.{Got}
+use Rattle.swf_templates.specs.declared.got.Got.TheVariants as gots
 
 -- a byte that stands for itself: a letter, a digit, `-`, `.`, `_` or `~`
 abbrev pub is_unreserved : ℕ → Bool

@@ -4,15 +4,15 @@ use Rattle.std.specs.Prelude.{ℕ, List, [], ◌∷◌, Bool, false, Option, Som
 use Rattle.std.specs.List.{list_all}
 use Rattle.swf_value.specs.Members.{at, member_at, put}
 use Rattle.swf_value.specs.Value.{Value, null, Members}
-use Rattle.swf_jq_builtins.specs.Operations.{is_same, is_true}
+use Rattle.swf_evaluation.specs.Operations.{is_same, is_true}
 use Rattle.swf_document.specs.Template.{Template, constant, run}
 use Rattle.swf_document.specs.declared.event.Correlation.{Correlation}
 use Rattle.swf_document.specs.declared.event.Filter.{Filter}
 use Rattle.swf_cloudevents.specs.Event.{event_value}
 use Rattle.swf_cloudevents.specs.declared.event.Event.{Event}
-use Rattle.swf_transform.specs.Fill.{first_of, fill}
-use Rattle.swf_transform.specs.declared.got.Got.{Got}
-use Rattle.swf_transform.specs.declared.got.Got.TheVariants as gots
+use Rattle.swf_templates.specs.Fill.{first_of, fill}
+use Rattle.swf_templates.specs.declared.got.Got.{Got}
+use Rattle.swf_templates.specs.declared.got.Got.TheVariants as gots
 
 -- got is a true value
 abbrev pub is_true_got : Got Value → Bool

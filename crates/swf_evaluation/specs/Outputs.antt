@@ -5,10 +5,10 @@ use Rattle.swf_expr.specs.declared.builtin.Builtin.TheVariants as builtins
 use Rattle.swf_expr.specs.Expr.{Tree, here, lit, var, index, iterate, maybe, pipe, both, alt, or, and, binary, neg, empty_list, list_of, object_of, if_then, if_else, bind, apply, Trees, no_trees, tree, Pairs, no_pairs, pair}
 use Rattle.swf_text.specs.Same.{same}
 use Rattle.swf_value.specs.Value.{Value, null, boolean, int, text, list, object, no_items, no_members}
-use Rattle.swf_jq_builtins.specs.Operations.{Answer, fails, is_true, index_of, parts_of, operate, negated}
+use Rattle.swf_evaluation.specs.Operations.{Answer, fails, is_true, index_of, parts_of, operate, negated}
 use Rattle.swf_value.specs.Members.{put, values_of}
-use Rattle.swf_jq_builtins.specs.Builtins.{plain, with_one, range_of, by_keys}
-use Rattle.swf_jq_eval.specs.Run.{Run, clean, gave, gives, none, raises, spend, turn, too_deep, is_shallow, made, followed_by, over, caught, alternative, gathered, list_with, firsts, answered, made_of, spread, onward, across, until}
+use Rattle.swf_evaluation.specs.Builtins.{plain, with_one, range_of, by_keys}
+use Rattle.swf_evaluation.specs.Run.{Run, clean, gave, gives, none, raises, spend, turn, too_deep, is_shallow, made, followed_by, over, caught, alternative, gathered, list_with, firsts, answered, made_of, spread, onward, across, until}
 
 -- names and their values, the innermost first
 abbrev pub Scope : Type 0

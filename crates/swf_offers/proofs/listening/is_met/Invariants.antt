@@ -1,6 +1,6 @@
 use Rattle.std.proofs.Common.{◌≡◌, drop}
 use Rattle.swf_meaning.specs.Listen.{is_met}
-use Rattle.swf_stack.proofs.heard.is_met.Given as goal
+use Rattle.swf_offers.proofs.listening.is_met.Given as goal
 
 -- those from this one on decide
 abbrev pub invariant-loop-one : goal.invariant-loop-one

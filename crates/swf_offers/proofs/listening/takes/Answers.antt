@@ -1,6 +1,6 @@
 use Rattle.std.proofs.Common.{◌∙◌, sym}
-use Rattle.swf_stack.proofs.HeardLemmas.{met-passed}
-use Rattle.swf_stack.proofs.heard.takes.Goals as goal
+use Rattle.swf_offers.proofs.ListenLemmas.{met-passed}
+use Rattle.swf_offers.proofs.listening.takes.Goals as goal
 
 pub loop-place-preserved-then-is_met : goal.loop-place-preserved-then-is_met
 loop-place-preserved-then-is_met c =

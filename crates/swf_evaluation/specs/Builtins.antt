@@ -13,7 +13,7 @@ use Rattle.swf_value.specs.Value.{Value, null, boolean, int, text, list, object,
 use Rattle.swf_value.specs.Written.{written}
 use Rattle.swf_expr.specs.declared.builtin.Builtin.{Builtin}
 use Rattle.swf_expr.specs.declared.builtin.Builtin.TheVariants as builtins
-use Rattle.swf_jq_builtins.specs.Operations.{Answer, fails, is_true, is_same, whole, index_of, sum_of}
+use Rattle.swf_evaluation.specs.Operations.{Answer, fails, is_true, is_same, whole, index_of, sum_of}
 
 -- the error of a value that a built-in doesn't take
 abbrev pub cannot : Builtin → Answer

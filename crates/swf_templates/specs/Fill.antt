@@ -6,15 +6,15 @@ use Rattle.swf_value.specs.Size.{size}
 use Rattle.swf_value.specs.Value.{Value, text, list, object, Members, no_members, depth}
 use Rattle.swf_value.specs.Written.{written}
 use Rattle.swf_expr.specs.Expr.{Tree}
-use Rattle.swf_jq_eval.specs.Evaluate.{first_shown}
-use Rattle.swf_jq_eval.specs.Names.{scope_from}
-use Rattle.swf_jq_eval.specs.Outputs.{run as outputs}
-use Rattle.swf_jq_eval.specs.declared.answer.First.{First}
-use Rattle.swf_jq_eval.specs.declared.answer.First.TheVariants as firsts
-use Rattle.swf_jq_eval.specs.declared.vars.Variable.{Variable}
+use Rattle.swf_evaluation.specs.Evaluate.{first_shown}
+use Rattle.swf_evaluation.specs.Scopes.{scope_from}
+use Rattle.swf_evaluation.specs.Outputs.{run as outputs}
+use Rattle.swf_evaluation.specs.declared.answer.First.{First}
+use Rattle.swf_evaluation.specs.declared.answer.First.TheVariants as firsts
+use Rattle.swf_evaluation.specs.declared.vars.Variable.{Variable}
 use Rattle.swf_document.specs.Template.{Template, constant, run, list as list_of, object as object_of, Templates, no_templates, template, Fields, no_fields, field}
-use Rattle.swf_transform.specs.declared.got.Got.{Got}
-use Rattle.swf_transform.specs.declared.got.Got.TheVariants as gots
+use Rattle.swf_templates.specs.declared.got.Got.{Got}
+use Rattle.swf_templates.specs.declared.got.Got.TheVariants as gots
 
 -- the greatest size of a value that a task gives
 abbrev pub most_size : ℕ

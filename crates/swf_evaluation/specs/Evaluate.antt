@@ -1,12 +1,12 @@
 -- What an evaluation shows: nothing but the limit where it takes more turns than are allowed.
 use Rattle.std.specs.Prelude.{List, [], ◌∷◌, nat_lt, if◌then◌else◌}
 use Rattle.swf_value.specs.Value.{Value, null}
-use Rattle.swf_jq_eval.specs.declared.answer.End.{End}
-use Rattle.swf_jq_eval.specs.declared.answer.End.TheVariants as ends
-use Rattle.swf_jq_eval.specs.declared.answer.First.{First}
-use Rattle.swf_jq_eval.specs.declared.answer.First.TheVariants as firsts
-use Rattle.swf_jq_eval.specs.Run.{Ending, clean, raised, Run}
-use Rattle.swf_jq_eval.specs.Goes.{limit}
+use Rattle.swf_evaluation.specs.declared.answer.End.{End}
+use Rattle.swf_evaluation.specs.declared.answer.End.TheVariants as ends
+use Rattle.swf_evaluation.specs.declared.answer.First.{First}
+use Rattle.swf_evaluation.specs.declared.answer.First.TheVariants as firsts
+use Rattle.swf_evaluation.specs.Run.{Ending, clean, raised, Run}
+use Rattle.swf_evaluation.specs.Turns.{limit}
 
 abbrev pub end_for : Ending → End
 end_for clean = ends.Clean

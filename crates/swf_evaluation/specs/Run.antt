@@ -4,7 +4,7 @@ use Rattle.std.specs.List.{list_any}
 use Rattle.swf_value.specs.Node.{items_of}
 use Rattle.swf_value.specs.Size.{size}
 use Rattle.swf_value.specs.Value.{Value, boolean, text, list, depth}
-use Rattle.swf_jq_builtins.specs.Operations.{Answer, is_true}
+use Rattle.swf_evaluation.specs.Operations.{Answer, is_true}
 
 -- how outputs end: with no error, or with a value that is raised
 pub data Ending : Type 0 where
