@@ -59,7 +59,7 @@ use Rattle.swf_cli.proofs.SettlingLemmas.{settling_begin, settling_of_group, set
 use Rattle.swf_cli.specs.Turns.{Outcomes, Settled, Lacks, CommandTurn, accepted, refused, fault_reply, settle_reply, query_reply}
 use Rattle.swf_cli.specs.Sorts.{sort_of, accepted_as}
 use Rattle.swf_cli.specs.declared.answer.Sort.{Sort}
-use Rattle.swf_cli.specs.declared.words.Words.{Words}
+use Rattle.swf_words.specs.declared.words.Words.{Words}
 
 -- the label of an outcome has its value
 pub shallow_nests : (w : World) (o : Outcome) → IsModest (Do o) → Nests (label_of w o)

@@ -1,4 +1,3 @@
-pub mod WordLemmas
 pub mod SettlingLemmas
 pub mod AnswerLemmas
 pub mod FaultLemmas

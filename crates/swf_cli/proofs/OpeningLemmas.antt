@@ -23,7 +23,7 @@ use Rattle.swf_cli.specs.Dialect.{session}
 use Rattle.swf_cli.specs.Finish.{Ran, RunsOn, Tells, TellsDamage, ClosesWith}
 use Rattle.swf_cli.specs.Running.{KeepsDamaged, SessionRun, TellsOfDamage}
 use Rattle.swf_cli.specs.Steps.{IsSound, Stand}
-use Rattle.swf_cli.specs.declared.words.Words.{Words}
+use Rattle.swf_words.specs.declared.words.Words.{Words}
 use Rattle.swf_cli.specs.Moments.{IsMoment, Runs}
 use Rattle.swf_cli.specs.Heard.{TurnsTell}
 use Rattle.swf_cli.proofs.HeardLemmas.{tells_closed}

@@ -22,7 +22,7 @@ use Rattle.swf_cli.specs.Steps.{Stand, TurnLeft, Turned, Whole, Unsaid, Broken, 
 use Rattle.swf_cli.specs.declared.turn.After.TheVariants.{Stops}
 use Rattle.swf_cli.specs.Turns.{Turn, AreMore, IsAnswered, AreTurns, labels_of, inputs_in, inputs_of, answers_of, last_told}
 use Rattle.swf_cli.proofs.TurnListLemmas.{flat_map-snoc, allowed-snoc, open-snoc, over-snoc, heard_all, inputs_join, pieces_join, said_at_once, session_last}
-use Rattle.swf_cli.specs.declared.words.Words.{Words}
+use Rattle.swf_words.specs.declared.words.Words.{Words}
 
 module _ (words : Words) where
   module _ {W : Type 0} (before : List Label) (first : List (Input W)) (told : List Piece) where

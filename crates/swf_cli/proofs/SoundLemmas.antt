@@ -13,7 +13,7 @@ use Rattle.swf_protocol.specs.declared.command.CommandFault.{CommandFault}
 use Rattle.swf_cli.specs.declared.answer.Answered.{Answered}
 use Rattle.swf_cli.specs.declared.turn.After.{After}
 use Rattle.swf_cli.specs.declared.turn.After.TheVariants.{GoesOn, Ends, Stops}
-use Rattle.swf_cli.specs.declared.words.Words.{Words}
+use Rattle.swf_words.specs.declared.words.Words.{Words}
 use Rattle.swf_cli.specs.Steps.{AskDone, IsSound, Says, StaysSound, reply_of, follows_end}
 use Rattle.swf_cli.proofs.TurnLemmas.{still_stands}
 

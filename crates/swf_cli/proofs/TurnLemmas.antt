@@ -38,7 +38,7 @@ use Rattle.swf_cli.specs.Steps.{CommandDone, LineDone, AskDone, Passes, Stand, I
 use Rattle.swf_cli.specs.Turns.{Outcomes, CommandTurn, AskTurn, IsAnswered}
 use Rattle.swf_cli.proofs.AnswerLemmas.{begins_none, may_outcome, done_by}
 use Rattle.swf_cli.proofs.SettlingLemmas.{settling_begin}
-use Rattle.swf_cli.specs.declared.words.Words.{Words}
+use Rattle.swf_words.specs.declared.words.Words.{Words}
 
 module _ (words : Words) (answers : List Called) where
   -- of nothing only nothing is a beginning

@@ -12,7 +12,7 @@ use Rattle.swf_cli.specs.Follows.{AreOpen, IsOneTurn}
 use Rattle.swf_cli.specs.Moments.{heard_of}
 use Rattle.swf_cli.specs.Owed.{Heard, AreLater, owed, piece_of, pieces_of, replies_of}
 use Rattle.swf_cli.specs.Turns.{Turn, AreMore, AreTurns, IsAnswered, IsLast, inputs_in, inputs_of, labels_of, last_told, told_by}
-use Rattle.swf_cli.specs.declared.words.Words.{Words}
+use Rattle.swf_words.specs.declared.words.Words.{Words}
 
 pub flat_map-snoc : {A W : Type 0} (f : Turn W → List A) (ts : List (Turn W)) (t : Turn W) → flat_map f (ts ++ t ∷ []) ≡ flat_map f ts ++ f t
 flat_map-snoc {A} f ts t = flat_map-append f ts (t ∷ []) ∙ ap (λ (l : List A). flat_map f ts ++ l) (append-nil (f t))

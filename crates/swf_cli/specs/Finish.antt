@@ -20,7 +20,7 @@ use Rattle.swf_cli.specs.Follows.{IsOneTurn}
 use Rattle.swf_cli.specs.Moments.{IsMoment}
 use Rattle.swf_cli.specs.Steps.{Stand, IsTold, Says}
 use Rattle.swf_cli.specs.declared.turn.After.TheVariants.{Stops}
-use Rattle.swf_cli.specs.declared.words.Words.{Words}
+use Rattle.swf_words.specs.declared.words.Words.{Words}
 
 -- the last turn ends the input
 abbrev pub IsOver : {W : Type 0} → Dialect W → List (Turn W) → Type 0

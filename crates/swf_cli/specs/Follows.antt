@@ -15,7 +15,7 @@ use Rattle.swf_cli.specs.Dialect.{Dialect}
 use Rattle.swf_cli.specs.Owed.{Heard, replies_of}
 use Rattle.swf_cli.specs.Settling.{AreSettling}
 use Rattle.swf_cli.specs.Turns.{Turn, AreMore, AreTurns, last_told, labels_of, inputs_of, answers_of}
-use Rattle.swf_cli.specs.declared.words.Words.{Words}
+use Rattle.swf_words.specs.declared.words.Words.{Words}
 
 -- by the words of the program, the last moment that was told, and what the board answered in the turn
 module _ (words : Words) (last : Option ℕ) (answers : List Called) where

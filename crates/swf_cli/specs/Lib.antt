@@ -1,5 +1,3 @@
-pub mod Words
-pub mod Arguments
 pub mod Statuses
 pub mod Dialect
 pub mod Settling

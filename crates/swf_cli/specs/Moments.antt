@@ -12,7 +12,7 @@ use Rattle.swf_cli.specs.Dialect.{Dialect}
 use Rattle.swf_cli.specs.Turns.{Turn}
 use Rattle.swf_cli.specs.Owed.{Heard, AreSaid, ArePrompt, conn_of, replies_of}
 use Rattle.swf_cli.specs.Follows.{Follows}
-use Rattle.swf_cli.specs.declared.words.Words.{Words}
+use Rattle.swf_words.specs.declared.words.Words.{Words}
 
 -- what was heard of a piece
 abbrev pub heard_of : Piece → Heard

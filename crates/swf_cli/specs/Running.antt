@@ -14,9 +14,9 @@ use Rattle.swf_engine.specs.History.{IsHistory}
 use Rattle.swf_engine.specs.Settling.{Called}
 use Rattle.swf_protocol.specs.Spoken.{damaged_bytes}
 use Rattle.swf_check.specs.Checking.{CheckRun}
-use Rattle.swf_cli.specs.declared.words.Mode.{Mode}
-use Rattle.swf_cli.specs.declared.words.Mode.TheVariants.{Check, Session, Show}
-use Rattle.swf_cli.specs.declared.words.Words.{Words}
+use Rattle.swf_words.specs.declared.words.Mode.{Mode}
+use Rattle.swf_words.specs.declared.words.Mode.TheVariants.{Check, Session, Show}
+use Rattle.swf_words.specs.declared.words.Words.{Words}
 use Rattle.swf_cli.specs.Dialect.{session}
 use Rattle.swf_cli.specs.Finish.{Finished, IsShort, TellsFull, TellsDamage}
 use Rattle.swf_cli.specs.Heard.{TurnsTell}

@@ -1,8 +1,8 @@
 -- The statuses of each mode, and what each blames.
 use Rattle.std.specs.Prelude.{◌≡◌, ◌≢◌, ◌⊎◌, ℕ}
 use Rattle.swf_store.specs.Faults.{RoseOnce}
-use Rattle.swf_cli.specs.declared.words.Mode.{Mode}
-use Rattle.swf_cli.specs.declared.words.Mode.TheVariants.{Check, Session, Show}
+use Rattle.swf_words.specs.declared.words.Mode.{Mode}
+use Rattle.swf_words.specs.declared.words.Mode.TheVariants.{Check, Session, Show}
 
 -- In a session: read to the end, the store failed, the host failed, damage, want of memory, or a full journal. `show` fills no
 -- journal. `check` has no store: the document is accepted or refused, the host failed, or want of memory.

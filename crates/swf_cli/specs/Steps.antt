@@ -31,7 +31,7 @@ use Rattle.swf_cli.specs.Dialect.{Dialect}
 use Rattle.swf_cli.specs.Turns.{Turn, AreMore, CommandTurn, AskTurn, IsAnswered, inputs_in}
 use Rattle.swf_cli.specs.Owed.{Heard, conn_of, owed, piece_of}
 use Rattle.swf_cli.specs.Follows.{AddsNext, AsksNext, MayAdd, MayAsk, MayBegin}
-use Rattle.swf_cli.specs.declared.words.Words.{Words}
+use Rattle.swf_words.specs.declared.words.Words.{Words}
 
 -- a label that comes next and would be taken, and whose frame would end past the most bytes of a journal
 pub record IsFilled (Next : Label → Type 0) (engine : Core) (size : ℕ) : Type 0 where

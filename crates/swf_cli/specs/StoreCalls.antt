@@ -21,7 +21,7 @@ use Rattle.swf_protocol.specs.declared.command.Command.{Command}
 use Rattle.swf_protocol.specs.declared.command.Command.TheVariants.{Do, Ask, Settle, Quit}
 use Rattle.swf_protocol.specs.declared.command.CommandFault.{CommandFault}
 use Rattle.swf_cli.specs.Dialect.{line_read}
-use Rattle.swf_cli.specs.declared.words.Words.{Words}
+use Rattle.swf_words.specs.declared.words.Words.{Words}
 
 module _ (words : Words) {S : Type 0} (moment : S → ℕ) (left_since : S → ℕ → Image → List Piece → Type 0) (said : S → Option (List Piece)) (may_leave : S → Image → Type 0) (seen : S → Option Image) (calls : S → Option (List Call)) where
   -- those of handing an outcome in, of a query, or of a settling, whichever the command asks for

@@ -23,7 +23,7 @@ use Rattle.swf_protocol.specs.declared.command.CommandFault.{CommandFault}
 use Rattle.swf_protocol.specs.declared.command.CommandFault.TheVariants as faults
 use Rattle.swf_protocol.specs.declared.reply.Reply.{Reply}
 use Rattle.swf_protocol.specs.declared.reply.Reply.TheVariants.{Loaded, Started, Accepted, Replied, Reached, Quiet, Budget, Report, Pending, Outbox, History as Labels, Quit as Bye, BadLine, BadEvent, TooLong, Refused, Duplicate, UnknownDocument, UnknownInstance, Stale, Past, Full, Memory}
-use Rattle.swf_cli.specs.declared.words.Words.{Words}
+use Rattle.swf_words.specs.declared.words.Words.{Words}
 use Rattle.swf_cli.specs.Behind.{Behind, MayBehind}
 use Rattle.swf_cli.specs.Dialect.{Dialect}
 use Rattle.swf_engine.specs.Settling.{Called, is_settled, steps_in}

@@ -10,15 +10,15 @@ ghost use Rattle.swf_cli.specs.Steps.{LineDone, reply_of, or_memory, queried, Is
 ghost use Rattle.swf_cli.specs.Sorts.{sort_of, accepted_as};
 ghost use Rattle.swf_cli.specs.Turns.{refused, settle_reply, fault_reply};
 ghost use Rattle.swf_cli.specs.StoreCalls.{CommandCalls};
-ghost use Rattle.swf_cli.specs.declared.words.Words.{Words as Meaning};
+ghost use Rattle.swf_words.specs.declared.words.Words.{Words as Meaning};
 
-use crate::words::Words;
 use std::alloc::Global;
 use swf_connect::{Parties, Switchboard};
 use swf_engine::{Engine, EngineFault, Settled, Submitted};
 use swf_meaning::{Answer, Outcome, Query};
 use swf_protocol::{Command, CommandFault, Reply, read_command};
 use swf_store::Store;
+use swf_words::Words;
 use swf_world::{Installed, QueryFault, Refusal};
 
 /// What a line is answered, and whether the input ends with it.

@@ -2,14 +2,11 @@
 #![tactic(auto)]
 
 mod answer;
-mod arguments;
 mod opening;
 mod run;
 mod session;
 mod show;
 mod turn;
-mod words;
 
-pub use arguments::read_words;
 pub use run::swf_run;
-pub use words::{Mode, Words};
+pub use swf_words::{Mode, Words, read_words};

@@ -13,11 +13,11 @@ ghost use Rattle.swf_cli.specs.Steps.{IsSound};
 
 use crate::opening::not_opened;
 use crate::turn::{After, take_turn};
-use crate::words::{Mode, Words};
 use std::alloc::Global;
 use swf_connect::{Parties, Switchboard};
 use swf_engine::Engine;
 use swf_host::{Host, NoWork};
+use swf_words::{Mode, Words};
 
 // Takes turns until the input ends.
 fn take_turns<H: Host<NoWork, NoWork>>(

@@ -14,13 +14,13 @@ ghost use Rattle.swf_cli.specs.Turns.{query_reply};
 use crate::answer::{Answered, queried};
 use crate::opening::not_opened;
 use crate::turn::{After, NO_MEMORY, say};
-use crate::words::Mode;
 use std::alloc::{AllocError, Global};
 use swf_engine::Engine;
 use swf_host::{Host, NoWork};
 use swf_meaning::Query;
 use swf_protocol::Reply;
 use swf_text::Text;
+use swf_words::Mode;
 
 // The id of the instance of that number, from 0, in start order.
 fn id_of(engine: &Engine, number: u64) -> Result<Option<Text>, AllocError>

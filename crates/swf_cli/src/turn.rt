@@ -16,12 +16,12 @@ ghost use Rattle.swf_cli.specs.StoreCalls.{ReadCalls, TurnCalls};
 ghost use Rattle.swf_cli.specs.Dialect.{is_long, line_read, session};
 
 use crate::answer::{Answered, answer_line};
-use crate::words::Words;
 use std::alloc::{AllocError, Global};
 use swf_connect::{Parties, Switchboard};
 use swf_engine::{Engine, EngineFault};
 use swf_host::{Host, Input, MOST_LINE, NoWork};
 use swf_protocol::{Reply, damaged_line, full_line, reply_bytes};
+use swf_words::Words;
 
 /// The store failed.
 pub const STORE_FAULT: u8 = 3;

@@ -9,7 +9,7 @@ ghost use Rattle.swf_cli.specs.Follows.{Follows};
 ghost use Rattle.swf_cli.specs.Owed.{AreSaid, ArePrompt, replies_of};
 ghost use Rattle.swf_cli.specs.Settling.{AreSettling};
 ghost use Rattle.swf_cli.specs.Turns.{AreMore, AreTurns, inputs_of};
-ghost use Rattle.swf_cli.specs.declared.words.Words.{Words};
+ghost use Rattle.swf_words.specs.declared.words.Words.{Words};
 ghost use Rattle.swf_test_turns.specs.Bell.{bell};
 ghost use Rattle.swf_test_turns.specs.declared.work.Done.{Done};
 ghost use Rattle.swf_test_turns.specs.Examples.{both_answers, both_held, early_pieces, early_work, fifteenth, fifth, given, go, late_pieces, settled_of_three, settled_with_work, seventh, step, ticked, twelfth, untimely};

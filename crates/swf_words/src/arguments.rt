@@ -1,8 +1,8 @@
 // Reading the words of the command line.
 ghost use Rattle.std.specs.Prelude.{◌≡◌, [], Ok, option_map};
 ghost use Rattle.swf_text.specs.Same.{same};
-ghost use Rattle.swf_cli.specs.Words.{texts, parts, option_named, value_in, calls_of, is_dashed, mode_named, words_of};
-ghost use Rattle.swf_cli.specs.Arguments.{meant, Takes, TakesValue, TakesOther};
+ghost use Rattle.swf_words.specs.Words.{texts, parts, option_named, value_in, calls_of, is_dashed, mode_named, words_of};
+ghost use Rattle.swf_words.specs.Arguments.{meant, Takes, TakesValue, TakesOther};
 
 use crate::words::{Mode, Words};
 use std::alloc::{AllocError, Global};

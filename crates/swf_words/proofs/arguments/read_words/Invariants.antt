@@ -1,7 +1,7 @@
 use Rattle.std.proofs.Common.{◌≡◌, drop}
-use Rattle.swf_cli.specs.Words.{texts, words_of}
-use Rattle.swf_cli.specs.Arguments.{meant}
-use Rattle.swf_cli.proofs.arguments.read_words.Given as goal
+use Rattle.swf_words.specs.Words.{texts, words_of}
+use Rattle.swf_words.specs.Arguments.{meant}
+use Rattle.swf_words.proofs.arguments.read_words.Given as goal
 
 -- what is meant by all words is meant behind those that were taken
 abbrev pub invariant-loop-word : goal.invariant-loop-word

@@ -1,7 +1,7 @@
 use Rattle.std.proofs.Common.{◌∙◌, ◌+◌, ap, sym, refl, Ok, drop, arith}
-use Rattle.swf_cli.specs.Words.{texts}
-use Rattle.swf_cli.proofs.WordLemmas.{meant_first, meant_next}
-use Rattle.swf_cli.proofs.arguments.read_words.Goals as goal
+use Rattle.swf_words.specs.Words.{texts}
+use Rattle.swf_words.proofs.WordLemmas.{meant_first, meant_next}
+use Rattle.swf_words.proofs.arguments.read_words.Goals as goal
 
 pub loop-word-init : goal.loop-word-init
 loop-word-init c = meant_first _ (texts c.args.words.now) refl refl refl refl

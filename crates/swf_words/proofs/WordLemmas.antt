@@ -6,15 +6,15 @@ use Rattle.std.proofs.lemmas.Bool.{leb-true}
 use Rattle.std.proofs.lemmas.List.{drop_all, drop_more, get_or-map, length-map}
 use Rattle.swf_text.specs.Same.{same}
 use Rattle.swf_protocol.specs.Number.{number_of, budget, budget_of, greatest_budget}
-use Rattle.swf_cli.specs.declared.arguments.Expects.{Expects}
-use Rattle.swf_cli.specs.declared.arguments.Expects.TheVariants.{Any, Value, Other}
-use Rattle.swf_cli.specs.declared.arguments.Progress.{Progress}
-use Rattle.swf_cli.specs.declared.arguments.Setting.{Setting}
-use Rattle.swf_cli.specs.declared.arguments.Setting.TheVariants.{Steps, Calls, Workers}
-use Rattle.swf_cli.specs.declared.words.Mode.{Mode}
-use Rattle.swf_cli.specs.declared.words.Words.{Words}
-use Rattle.swf_cli.specs.Words.{Apart, Settings, texts, told_apart, option_named, with_value, with_other, with_word, with_setting, value_in, calls_of, is_dashed, once, set_all, unset, mode_named, mode_of, both, meaning_of, words_of}
-use Rattle.swf_cli.specs.Arguments.{told_behind, mode_with, meaning_with, settings_of, meant, Takes, TakesValue, TakesOther}
+use Rattle.swf_words.specs.declared.arguments.Expects.{Expects}
+use Rattle.swf_words.specs.declared.arguments.Expects.TheVariants.{Any, Value, Other}
+use Rattle.swf_words.specs.declared.arguments.Progress.{Progress}
+use Rattle.swf_words.specs.declared.arguments.Setting.{Setting}
+use Rattle.swf_words.specs.declared.arguments.Setting.TheVariants.{Steps, Calls, Workers}
+use Rattle.swf_words.specs.declared.words.Mode.{Mode}
+use Rattle.swf_words.specs.declared.words.Words.{Words}
+use Rattle.swf_words.specs.Words.{Apart, Settings, texts, told_apart, option_named, with_value, with_other, with_word, with_setting, value_in, calls_of, is_dashed, once, set_all, unset, mode_named, mode_of, both, meaning_of, words_of}
+use Rattle.swf_words.specs.Arguments.{told_behind, mode_with, meaning_with, settings_of, meant, Takes, TakesValue, TakesOther}
 
 mode_first : (w : List ℕ) (ws : List (List ℕ)) (m : Mode) → mode_named w ≡ Some m → mode_of (w ∷ ws) ≡ mode_with (Some m) ws
 mode_first w [] m e = e

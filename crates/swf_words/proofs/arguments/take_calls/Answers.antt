@@ -1,8 +1,8 @@
 use Rattle.std.proofs.Common.{◌≡◌, ◌∙◌, ap, sym, refl, Bool, Some, None, Option, option_map}
-use Rattle.swf_cli.specs.declared.arguments.Setting.TheVariants.{Calls}
-use Rattle.swf_cli.specs.Words.{Settings, calls_of, once}
-use Rattle.swf_cli.proofs.WordLemmas.{value_refused, value_set, once_twice, once_first}
-use Rattle.swf_cli.proofs.arguments.take_calls.Goals as goal
+use Rattle.swf_words.specs.declared.arguments.Setting.TheVariants.{Calls}
+use Rattle.swf_words.specs.Words.{Settings, calls_of, once}
+use Rattle.swf_words.proofs.WordLemmas.{value_refused, value_set, once_twice, once_first}
+use Rattle.swf_words.proofs.arguments.take_calls.Goals as goal
 
 pub returns-then-is_some : goal.returns-then-is_some
 returns-then-is_some c = λ a.

@@ -4,11 +4,11 @@ use Rattle.std.specs.List.{before_first, after_first, position_or_len}
 use Rattle.std.specs.declared.alloc.Global.{Global}
 use Rattle.swf_text.specs.Same.{same}
 use Rattle.swf_protocol.specs.Number.{budget_of}
-use Rattle.swf_cli.specs.declared.arguments.Setting.{Setting}
-use Rattle.swf_cli.specs.declared.arguments.Setting.TheVariants.{Steps, Calls, Workers}
-use Rattle.swf_cli.specs.declared.words.Mode.{Mode}
-use Rattle.swf_cli.specs.declared.words.Mode.TheVariants.{Check, Session, Show}
-use Rattle.swf_cli.specs.declared.words.Words.{Words}
+use Rattle.swf_words.specs.declared.arguments.Setting.{Setting}
+use Rattle.swf_words.specs.declared.arguments.Setting.TheVariants.{Steps, Calls, Workers}
+use Rattle.swf_words.specs.declared.words.Mode.{Mode}
+use Rattle.swf_words.specs.declared.words.Mode.TheVariants.{Check, Session, Show}
+use Rattle.swf_words.specs.declared.words.Words.{Words}
 
 abbrev pub texts : List (String Global) → List (List ℕ)
 texts words = map string_bytes words

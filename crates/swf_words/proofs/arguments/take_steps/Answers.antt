@@ -1,9 +1,9 @@
 use Rattle.std.proofs.Common.{◌≡◌, ◌∙◌, ap, sym, refl, ℕ, Some, None, Option, option_map}
 use Rattle.swf_protocol.specs.Number.{budget_of}
-use Rattle.swf_cli.specs.declared.arguments.Setting.TheVariants.{Steps}
-use Rattle.swf_cli.specs.Words.{Settings, once}
-use Rattle.swf_cli.proofs.WordLemmas.{value_refused, value_set, once_twice, once_first}
-use Rattle.swf_cli.proofs.arguments.take_steps.Goals as goal
+use Rattle.swf_words.specs.declared.arguments.Setting.TheVariants.{Steps}
+use Rattle.swf_words.specs.Words.{Settings, once}
+use Rattle.swf_words.proofs.WordLemmas.{value_refused, value_set, once_twice, once_first}
+use Rattle.swf_words.proofs.arguments.take_steps.Goals as goal
 
 pub returns-then-is_some : goal.returns-then-is_some
 returns-then-is_some c = λ a.

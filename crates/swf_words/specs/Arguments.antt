@@ -1,12 +1,12 @@
 -- How far words were read, and what that is to their meaning.
 use Rattle.std.specs.Prelude.{◌≡◌, ℕ, List, [], ◌∷◌, Bool, true, false, Option, Some, None}
-use Rattle.swf_cli.specs.declared.arguments.Expects.{Expects}
-use Rattle.swf_cli.specs.declared.arguments.Expects.TheVariants.{Any, Value, Other}
-use Rattle.swf_cli.specs.declared.arguments.Progress.{Progress}
-use Rattle.swf_cli.specs.declared.arguments.Setting.{Setting}
-use Rattle.swf_cli.specs.declared.words.Mode.{Mode}
-use Rattle.swf_cli.specs.declared.words.Words.{Words}
-use Rattle.swf_cli.specs.Words.{Apart, Settings, told_apart, with_value, with_other, set_all, mode_of, both}
+use Rattle.swf_words.specs.declared.arguments.Expects.{Expects}
+use Rattle.swf_words.specs.declared.arguments.Expects.TheVariants.{Any, Value, Other}
+use Rattle.swf_words.specs.declared.arguments.Progress.{Progress}
+use Rattle.swf_words.specs.declared.arguments.Setting.{Setting}
+use Rattle.swf_words.specs.declared.words.Mode.{Mode}
+use Rattle.swf_words.specs.declared.words.Words.{Words}
+use Rattle.swf_words.specs.Words.{Apart, Settings, told_apart, with_value, with_other, set_all, mode_of, both}
 
 -- the words to come, told apart
 abbrev pub told_behind : Expects → List (List ℕ) → Option Apart

@@ -1,9 +1,9 @@
 use Rattle.std.proofs.Common.{sym, ap, subst}
-use Rattle.swf_cli.specs.declared.arguments.Setting.{Setting}
-use Rattle.swf_cli.specs.Arguments.{TakesValue}
-use Rattle.swf_cli.specs.Words.{Settings, with_setting}
-use Rattle.swf_cli.proofs.WordLemmas.{value_refused}
-use Rattle.swf_cli.proofs.arguments.take_value.Goals as goal
+use Rattle.swf_words.specs.declared.arguments.Setting.{Setting}
+use Rattle.swf_words.specs.Arguments.{TakesValue}
+use Rattle.swf_words.specs.Words.{Settings, with_setting}
+use Rattle.swf_words.proofs.WordLemmas.{value_refused}
+use Rattle.swf_words.proofs.arguments.take_value.Goals as goal
 
 pub returns-in-Steps : goal.returns-in-Steps
 returns-in-Steps c = subst (λ (o : Setting). TakesValue c.take_steps.result c.args.progress.now (o, c.args.word.now) c.take_steps.new.progress) (sym c.in-Steps.is) c.take_steps.ensures

@@ -1,7 +1,7 @@
 use Rattle.std.proofs.Common.{◌∙◌, sym, refl}
-use Rattle.swf_cli.specs.Arguments.{settings_of}
-use Rattle.swf_cli.proofs.WordLemmas.{other_twice_in, other_taken_in, other_refused_in}
-use Rattle.swf_cli.proofs.arguments.take_other.Goals as goal
+use Rattle.swf_words.specs.Arguments.{settings_of}
+use Rattle.swf_words.proofs.WordLemmas.{other_twice_in, other_taken_in, other_refused_in}
+use Rattle.swf_words.proofs.arguments.take_other.Goals as goal
 
 pub returns-then-is_some : goal.returns-then-is_some
 returns-then-is_some c = λ a. other_twice_in (settings_of c.args.progress.now) c.args.progress.now.mode c.args.word.now a (sym c.is_some.ensures ∙ c.if-is_some.true)
