@@ -1,16 +1,3 @@
 pub mod Statuses
-pub mod Dialect
-pub mod Settling
-pub mod Behind
-pub mod Turns
-pub mod Owed
-pub mod Follows
-pub mod Moments
-pub mod Steps
-pub mod Finish
-pub mod Faults
-pub mod Heard
 pub mod Shown
 pub mod Running
-pub mod Sorts
-pub mod StoreCalls

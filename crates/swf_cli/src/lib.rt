@@ -1,8 +1,6 @@
 //! The program: a session reads commands line by line, keeps their labels in the journal, and says what becomes of each.
 #![tactic(auto)]
 
-mod answer;
-mod opening;
 mod run;
 mod session;
 mod show;

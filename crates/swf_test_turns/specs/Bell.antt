@@ -9,7 +9,7 @@ use Rattle.swf_protocol.specs.Spoken.{spoken, damaged_bytes, full_bytes}
 use Rattle.swf_protocol.specs.declared.command.Command.{Command}
 use Rattle.swf_protocol.specs.declared.command.Command.TheVariants.{Do, Settle}
 use Rattle.swf_protocol.specs.declared.command.CommandFault.{CommandFault}
-use Rattle.swf_cli.specs.Dialect.{Dialect}
+use Rattle.swf_turns.specs.Dialect.{Dialect}
 use Rattle.swf_test_turns.specs.declared.work.Done.{Done}
 
 abbrev pub read : List ℕ → Option (Result Command CommandFault)

@@ -2,20 +2,20 @@ use Rattle.std.proofs.Common.{◌≡◌, ◌∙◌, ap, sym, refl, subst, inl, i
 use Rattle.swf_host.specs.declared.host.Input.{Input}
 use Rattle.swf_host.specs.declared.host.NoWork.{NoWork}
 use Rattle.swf_host.specs.declared.host.Input.TheVariants.{Ask as Asks, TooLong as TooLongInput, Closed}
-use Rattle.swf_cli.proofs.TurnLemmas.{Comes, asked_reply, asked_full, asked_broken, too_long_done, closed_done, none_done}
+use Rattle.swf_turns.proofs.TurnLemmas.{Comes, asked_reply, asked_full, asked_broken, too_long_done, closed_done, none_done}
 use Rattle.swf_engine.specs.declared.fault.EngineFault.{EngineFault}
 use Rattle.swf_engine.specs.declared.fault.EngineFault.TheVariants.{Damaged, Full}
 use Rattle.swf_protocol.specs.Spoken.{spoken, full_bytes}
 use Rattle.swf_protocol.specs.declared.reply.Reply.TheVariants.{TooLong}
-use Rattle.swf_cli.specs.Faults.{ReadFaults}
-use Rattle.swf_cli.specs.Dialect.{line_read}
-use Rattle.swf_cli.specs.Steps.{IsSound, follows_end, reply_of}
-use Rattle.swf_cli.specs.declared.answer.Answered.{Answered}
-use Rattle.swf_cli.specs.declared.turn.After.TheVariants.{Stops}
-use Rattle.swf_cli.proofs.FaultLemmas.{damage_of_history, full_of_labels, reply_of_history}
-use Rattle.swf_cli.proofs.HeardLemmas.{reply_tells, full_tells, damage_tells}
-use Rattle.swf_cli.proofs.SettlingLemmas.{asks_none}
-use Rattle.swf_cli.proofs.SoundLemmas.{end_is_none, seven_is_none, sound_stays, sound_asked_as, sound_said}
+use Rattle.swf_turns.specs.Faults.{ReadFaults}
+use Rattle.swf_turns.specs.Dialect.{line_read}
+use Rattle.swf_turns.specs.Steps.{IsSound, follows_end, reply_of}
+use Rattle.swf_turns.specs.declared.answer.Answered.{Answered}
+use Rattle.swf_turns.specs.declared.say.After.TheVariants.{Stops}
+use Rattle.swf_turns.proofs.FaultLemmas.{damage_of_history, full_of_labels, reply_of_history}
+use Rattle.swf_turns.proofs.HeardLemmas.{reply_tells, full_tells, damage_tells}
+use Rattle.swf_turns.proofs.SettlingLemmas.{asks_none}
+use Rattle.swf_turns.proofs.SoundLemmas.{end_is_none, seven_is_none, sound_stays, sound_asked_as, sound_said}
 use Rattle.swf_cli.proofs.turn.take_turn.Goals as goal
 
 -- one more input, in what a host has taken

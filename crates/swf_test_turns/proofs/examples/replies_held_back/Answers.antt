@@ -1,6 +1,6 @@
 use Rattle.std.proofs.Common.{◌≡◌, ap, refl, inl, ℕ, List, [], ◌∷◌, None, arith}
 use Rattle.swf_store.specs.declared.said.Piece.{Piece}
-use Rattle.swf_cli.specs.Turns.{AreTurns}
+use Rattle.swf_turns.specs.Turns.{AreTurns}
 use Rattle.swf_words.specs.declared.words.Words.{Words}
 use Rattle.swf_test_turns.specs.Bell.{bell}
 use Rattle.swf_test_turns.specs.Examples.{both_held}
