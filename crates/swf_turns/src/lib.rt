@@ -5,7 +5,7 @@ mod answer;
 mod opening;
 mod say;
 
-pub use answer::{Answered, Sort, answer_line, obey, queried, unread};
+pub use answer::{Answered, answer_line, obey, queried, unread};
 pub use opening::not_opened;
 pub use say::{
     After, DAMAGED, FULL, HOST_FAULT, NO_MEMORY, STORE_FAULT, say, say_damage, say_damaged,
