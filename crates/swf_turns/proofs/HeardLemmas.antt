@@ -102,7 +102,7 @@ module _ {W S : Type 0} (moment : S → ℕ) (left_since : S → ℕ → Image �
       line = line;
       more = [];
       size = size;
-      asked = asked;
+      asked = (line_read line, refl, asked);
       belong = tt;
       took = s.taken_same ∙ took;
       told = piece_told conn (full_bytes size) inputs (Asks conn line) pieces new (s.whole (inputs ++ Asks conn line ∷ []) took pieces is (ap Stops seven));
@@ -119,7 +119,7 @@ module _ {W S : Type 0} (moment : S → ℕ) (left_since : S → ℕ → Image �
       more = [];
       place = place;
       at = at;
-      asked = asked;
+      asked = (line_read line, refl, asked);
       misread = λ image held. misread image (sym s.seen_same ∙ held);
       belong = tt;
       took = s.taken_same ∙ took;

@@ -30,7 +30,7 @@ use Rattle.swf_protocol.specs.declared.reply.Reply.TheVariants.{TooLong}
 use Rattle.swf_turns.specs.declared.answer.Answered.{Answered}
 use Rattle.swf_turns.specs.declared.say.After.{After}
 use Rattle.swf_turns.specs.declared.say.After.TheVariants.{GoesOn, Ends, Stops}
-use Rattle.swf_turns.specs.Dialect.{session}
+use Rattle.swf_turns.specs.Dialect.{line_read, session}
 use Rattle.swf_turns.specs.Owed.{Heard, conn_of, heard}
 use Rattle.swf_turns.specs.Follows.{AsksNext, MayAdd, MayAsk, MayBegin}
 use Rattle.swf_turns.specs.Blame.{IsBlamed}
@@ -240,7 +240,7 @@ module _ (words : Words) (answers : List Called) where
       pub full_done : (old two new : S) (after : Core) (history : List Label) (inputs : List (Input W)) (pieces : List Piece) (conn : ℕ) (line : List ℕ) (labels : List Label) (size : ℕ) (r : After)
           → ((part : List Label) → Begins part labels → MayBegin (session {W = W}) words None answers history (Asks conn line) part) → taken two ≡ Some (inputs ++ Asks conn line ∷ []) → said two ≡ Some pieces
           → Leaves moment left_since old two (TurnLeft history (length inputs + length (alone (Asks conn line))) pieces labels ((record { conn = conn; bytes = full_bytes size }) ∷ [])) → Stand moment left_since said may_leave seen two after (history ++ labels)
-          → IsFilled (AsksNext words None answers history ((session {W = W}).reads line) labels) after size
+          → IsFilled (AsksNext words None answers history (line_read line) labels) after size
           → Says moment left_since said may_leave seen taken two new conn (full_bytes size) (Stops 7) r
           → TurnDone (session {W = W}) words None answers moment left_since said may_leave seen taken old new after history inputs pieces r
       full_done old two new after history inputs pieces conn line labels size GoesOn may took is first stand filled s = absurd (⊎_elim (λ d. cc) (λ f. ⊎_elim (λ g. cc) (λ g. cc) f) s.which)
@@ -265,7 +265,7 @@ module _ (words : Words) (answers : List Called) where
               belong = tt;
               took = s.taken_same ∙ took;
               stands = stand_said two new conn (full_bytes size) (Stops 7) (Stops k) after (history ++ labels) s stand;
-              filled = filled;
+              filled = (line_read line, refl, filled);
               told = say_whole two new conn (full_bytes size) (Stops 7) (Stops k) inputs (Asks conn line) pieces s took is (ap Stops seven);
             }),
             (λ not_four not_seven. ⊎_elim (λ seven. absurd (not_seven seven)) (λ f. ⊎_elim (λ six. s.quiet (ap Stops six) ∙ is) (λ four. absurd (not_four four)) f) status),
@@ -281,38 +281,38 @@ module _ (words : Words) (answers : List Called) where
 
         -- the answer to an Ask
         answered_as : (two : S) (after : Core) (conn : ℕ) (line : List ℕ) (result : Result Answered EngineFault) (is : Result Answered EngineFault) → Comes old one (Asks conn line)
-            → AskDone words None answers moment left_since said may_leave seen ((session {W = W}).reads line) one two engine after (reply_of result) → result ≡ is
-            → CommandDone moment left_since said may_leave seen (MayAsk words None answers history ((session {W = W}).reads line)) (AsksNext words None answers history ((session {W = W}).reads line)) (AskTurn words None answers history ((session {W = W}).reads line)) history one two after (reply_of is)
+            → AskDone words None answers moment left_since said may_leave seen (line_read line) one two engine after (reply_of result) → result ≡ is
+            → CommandDone moment left_since said may_leave seen (MayAsk words None answers history (line_read line)) (AsksNext words None answers history (line_read line)) (AskTurn words None answers history (line_read line)) history one two after (reply_of is)
         answered_as two after conn line result is came ask e =
-            subst (λ (x : Result Answered EngineFault). CommandDone moment left_since said may_leave seen (MayAsk words None answers history ((session {W = W}).reads line)) (AsksNext words None answers history ((session {W = W}).reads line)) (AskTurn words None answers history ((session {W = W}).reads line)) history one two after (reply_of x)) e
+            subst (λ (x : Result Answered EngineFault). CommandDone moment left_since said may_leave seen (MayAsk words None answers history (line_read line)) (AsksNext words None answers history (line_read line)) (AskTurn words None answers history (line_read line)) history one two after (reply_of x)) e
             (ask image (came.same ∙ seen_is) history (still_stands image (may_leave old) (may_leave one) engine history stands came.stop))
 
         pub asked_reply : (two new : S) (after : Core) (conn : ℕ) (line : List ℕ) (result : Result Answered EngineFault) (answered : Answered) (r : After) → Comes old one (Asks conn line)
-            → AskDone words None answers moment left_since said may_leave seen ((session {W = W}).reads line) one two engine after (reply_of result) → result ≡ Ok answered → answered.ends ≡ (session {W = W}).ends (Asks conn line)
+            → AskDone words None answers moment left_since said may_leave seen (line_read line) one two engine after (reply_of result) → result ≡ Ok answered → answered.ends ≡ (session {W = W}).ends (Asks conn line)
             → taken two ≡ taken one → said two ≡ said one → Says moment left_since said may_leave seen taken two new conn (spoken answered.reply) (follows_end answered.ends) r
             → TurnDone (session {W = W}) words None answers moment left_since said may_leave seen taken old new after history inputs pieces r
         asked_reply two new after conn line result answered r came ask e over took silent says =
             let done = answered_as two after conn line result (Ok answered) came ask e in
             said_done old two new after history inputs pieces (Asks conn line) done.0 answered.reply answered.ends r
-            (λ part b. ask_may history ((session {W = W}).reads line) done.0 answered.reply part done.1 b)
+            (λ part b. (line_read line, refl, ask_may history (line_read line) done.0 answered.reply part done.1 b))
             (took ∙ all_taken old one (Asks conn line) inputs came taken_is) (silent ∙ came.silent ∙ said_is)
             (begun old one two history done.0 (length inputs + length (alone (Asks conn line))) pieces (heard (session {W = W}) conn (Some answered.reply)) (come_leaves (Asks conn line) came) (came.silent ∙ said_is) done.2)
-            done.3 done.1 (sym over) says
+            done.3 (line_read line, refl, done.1) (sym over) says
 
         pub asked_full : (two new : S) (after : Core) (conn : ℕ) (line : List ℕ) (result : Result Answered EngineFault) (size : ℕ) (r : After) → Comes old one (Asks conn line)
-            → AskDone words None answers moment left_since said may_leave seen ((session {W = W}).reads line) one two engine after (reply_of result) → result ≡ Err (Full size)
+            → AskDone words None answers moment left_since said may_leave seen (line_read line) one two engine after (reply_of result) → result ≡ Err (Full size)
             → taken two ≡ taken one → said two ≡ said one → Says moment left_since said may_leave seen taken two new conn (full_bytes size) (Stops 7) r
             → TurnDone (session {W = W}) words None answers moment left_since said may_leave seen taken old new after history inputs pieces r
         asked_full two new after conn line result size r came ask e took silent says =
             let done = answered_as two after conn line result (Err (Full size)) came ask e in
             full_done old two new after history inputs pieces conn line done.0 size r
-            done.1
+            (λ part b. (line_read line, refl, done.1 part b))
             (took ∙ all_taken old one (Asks conn line) inputs came taken_is) (silent ∙ came.silent ∙ said_is)
             (begun old one two history done.0 (length inputs + length (alone (Asks conn line))) pieces ((record { conn = conn; bytes = full_bytes size }) ∷ []) (come_leaves (Asks conn line) came) (came.silent ∙ said_is) done.2)
             done.3 done.4 says
 
         pub asked_broken : (two : S) (after : Core) (conn : ℕ) (line : List ℕ) (result : Result Answered EngineFault) → Comes old one (Asks conn line)
-            → AskDone words None answers moment left_since said may_leave seen ((session {W = W}).reads line) one two engine after (reply_of result) → result ≡ Err Store → taken two ≡ taken one → said two ≡ said one
+            → AskDone words None answers moment left_since said may_leave seen (line_read line) one two engine after (reply_of result) → result ≡ Err Store → taken two ≡ taken one → said two ≡ said one
             → TurnDone (session {W = W}) words None answers moment left_since said may_leave seen taken old two after history inputs pieces (Stops 3)
         asked_broken two after conn line result came ask e took silent =
             let done = answered_as two after conn line result (Err Store) came ask e in (
@@ -322,7 +322,7 @@ module _ (words : Words) (answers : List Called) where
                 group = done.0;
                 line = [];
                 turned = record {
-                  may = done.1;
+                  may = λ part b. (line_read line, refl, done.1 part b);
                   belong = tt;
                   took = took ∙ all_taken old one (Asks conn line) inputs came taken_is;
                   leaves = begun old one two history done.0 (length inputs + length (alone (Asks conn line))) pieces [] (come_leaves (Asks conn line) came) (came.silent ∙ said_is) done.2;

@@ -11,7 +11,7 @@ use Rattle.swf_protocol.specs.declared.command.Command.{Command}
 use Rattle.swf_protocol.specs.declared.command.Command.TheVariants.{Do, Settle}
 use Rattle.swf_protocol.specs.declared.command.CommandFault.{CommandFault}
 use Rattle.swf_turns.specs.Behind.{Behind, MayBehind}
-use Rattle.swf_turns.specs.Dialect.{Dialect}
+use Rattle.swf_turns.specs.Dialect.{Dialect, Spell}
 use Rattle.swf_turns.specs.Owed.{Heard, replies_of}
 use Rattle.swf_turns.specs.Settling.{AreSettling}
 use Rattle.swf_turns.specs.Turns.{Turn, AreMore, AreTurns, last_told, labels_of, inputs_of, answers_of}
@@ -56,7 +56,7 @@ module _ {W : Type 0} (mode : Dialect W) where
   module _ (words : Words) where
     -- an input has added these labels so far
     abbrev pub MayBegin : Option ℕ → List Called → List Label → Input W → List Label → Type 0
-    MayBegin last answers before (Asks conn bytes) part = MayAsk words last answers before (mode.reads bytes) part
+    MayBegin last answers before (Asks conn bytes) part = Spell mode bytes (λ read. MayAsk words last answers before read part)
     MayBegin last answers before (TooLong conn) part = part ≡ []
     MayBegin last answers before (Work w) part = ⊥
     MayBegin last answers before Idle part = ⊥

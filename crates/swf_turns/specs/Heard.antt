@@ -13,7 +13,7 @@ use Rattle.swf_protocol.specs.declared.reply.Reply.{Reply}
 use Rattle.swf_protocol.specs.declared.reply.Reply.TheVariants.{TooLong as Long}
 use Rattle.swf_turns.specs.declared.say.After.{After}
 use Rattle.swf_turns.specs.declared.say.After.TheVariants.{GoesOn, Ends, Stops}
-use Rattle.swf_turns.specs.Dialect.{Dialect}
+use Rattle.swf_turns.specs.Dialect.{Dialect, Spell}
 use Rattle.swf_turns.specs.Faults.{AsksHistory, AsksLabels, TellsPlace}
 use Rattle.swf_turns.specs.Owed.{AreSaid, ArePrompt, IsAsked, conn_of}
 use Rattle.swf_turns.specs.Turns.{Turn, AreMore, inputs_of}
@@ -22,7 +22,7 @@ use Rattle.swf_turns.specs.Turns.{Turn, AreMore, inputs_of}
 module _ {W : Type 0} (mode : Dialect W) where
   -- A reply is to who asked. What is too long is told so, and a history is told as the store holds it.
   abbrev pub IsReplyTo : Option Image → Input W → Reply → Type 0
-  IsReplyTo held (Asks conn line) reply = (place : ℕ) → AsksHistory (mode.reads line) place → ForSome held (λ image. TellsPlace image.journal place (Ok reply))
+  IsReplyTo held (Asks conn line) reply = Spell mode line (λ read. (place : ℕ) → AsksHistory read place → ForSome held (λ image. TellsPlace image.journal place (Ok reply)))
   IsReplyTo held (TooLong conn) reply = reply ≡ Long
   IsReplyTo held (Work w) reply = ⊥
   IsReplyTo held Idle reply = ⊥
@@ -47,7 +47,7 @@ module _ {W : Type 0} (mode : Dialect W) {S : Type 0} (said : S → Option (List
     pub more : List (Input W)
     pub place : ℕ
     pub at : ℕ
-    pub asked : AsksHistory (mode.reads line) place
+    pub asked : Spell mode line (λ read. AsksHistory read place)
     pub misread : ForSome (seen new) (λ image. IsMisread image.journal header place at)
     pub belong : AreMore mode more
     pub took : taken new ≡ Some (inputs ++ Asks conn line ∷ more)
@@ -59,7 +59,7 @@ module _ {W : Type 0} (mode : Dialect W) {S : Type 0} (said : S → Option (List
     pub line : List ℕ
     pub more : List (Input W)
     pub size : ℕ
-    pub asked : AsksLabels (mode.reads line)
+    pub asked : Spell mode line AsksLabels
     pub belong : AreMore mode more
     pub took : taken new ≡ Some (inputs ++ Asks conn line ∷ more)
     pub told : said new ≡ Some (and_piece conn (mode.says_full size) (length inputs + length (Asks conn line ∷ more)) pieces)

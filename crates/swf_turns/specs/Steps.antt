@@ -27,7 +27,7 @@ use Rattle.swf_protocol.specs.declared.reply.Reply.TheVariants.{Report, Pending,
 use Rattle.swf_turns.specs.declared.answer.Answered.{Answered}
 use Rattle.swf_turns.specs.declared.say.After.{After}
 use Rattle.swf_turns.specs.declared.say.After.TheVariants.{GoesOn, Ends, Stops}
-use Rattle.swf_turns.specs.Dialect.{Dialect}
+use Rattle.swf_turns.specs.Dialect.{Dialect, Spell}
 use Rattle.swf_turns.specs.Turns.{Turn, AreMore, CommandTurn, AskTurn, IsAnswered, inputs_in}
 use Rattle.swf_turns.specs.Owed.{Heard, conn_of, owed, piece_of}
 use Rattle.swf_turns.specs.Follows.{AddsNext, AsksNext, MayAdd, MayAsk, MayBegin}
@@ -197,7 +197,7 @@ module _ {W : Type 0} (mode : Dialect W) (words : Words) (last : Option ℕ) (an
     pub belong : AreMore mode more
     pub took : taken new ≡ Some (inputs ++ Asks conn line ∷ more)
     pub stands : Stand moment left_since said may_leave seen new after (history ++ group)
-    pub filled : IsFilled (AsksNext words last answers history (mode.reads line) group) after size
+    pub filled : Spell mode line (λ read. IsFilled (AsksNext words last answers history read group) after size)
     pub told : said new ≡ Some (and_piece conn (mode.says_full size) (length inputs + length (Asks conn line ∷ more)) pieces)
 
   abbrev pub TurnDone : S → S → Core → List Label → List (Input W) → List Piece → After → Type 0

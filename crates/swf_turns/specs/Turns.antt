@@ -25,7 +25,7 @@ use Rattle.swf_protocol.specs.declared.reply.Reply.{Reply}
 use Rattle.swf_protocol.specs.declared.reply.Reply.TheVariants.{Loaded, Started, Accepted, Replied, Reached, Quiet, Budget, Report, Pending, Outbox, History as Labels, Quit as Bye, BadLine, BadEvent, TooLong, Refused, Duplicate, UnknownDocument, UnknownInstance, Stale, Past, Full, Memory}
 use Rattle.swf_words.specs.declared.words.Words.{Words}
 use Rattle.swf_turns.specs.Behind.{Behind, MayBehind}
-use Rattle.swf_turns.specs.Dialect.{Dialect}
+use Rattle.swf_turns.specs.Dialect.{Dialect, Spell}
 use Rattle.swf_engine.specs.Settling.{Called, is_settled, steps_in}
 use Rattle.swf_turns.specs.Settling.{AreSettling}
 
@@ -150,7 +150,7 @@ module _ {W : Type 0} (mode : Dialect W) where
     -- where those labels came before, the last moment told is this and the board answers so, an input may add these labels and be
     -- replied to so. Neither work nor its absence begins a turn.
     abbrev pub IsAnswered : Option ℕ → List Called → List Label → Input W → List Label → Option Reply → Type 0
-    IsAnswered last answers before (Asks conn bytes) labels (Some reply) = AskTurn words last answers before (mode.reads bytes) labels reply
+    IsAnswered last answers before (Asks conn bytes) labels (Some reply) = Spell mode bytes (λ read. AskTurn words last answers before read labels reply)
     IsAnswered last answers before (Asks conn bytes) labels None = ⊥
     IsAnswered last answers before (TooLongInput conn) labels (Some reply) = LongTurn labels reply
     IsAnswered last answers before (TooLongInput conn) labels None = ⊥

@@ -172,7 +172,7 @@ returns-in-Ok-clause-tells g c = λ inputs taken pieces said.
     c.answer_ask.ensures.taken ∙ c.in-Ok-Ask.ensures.taken ∙ ap (with_input (g.H.Host.taken old)) input ∙ ap (λ (t : Option (List (Input NoWork))). with_input t (Asks conn line)) taken in
     let silent : H.said two ≡ Some pieces = c.answer_ask.ensures.said ∙ c.next.ensures.said ∙ said in
     reply_tells H.moment H.left_since H.said H.may_leave H.seen g.H.Host.taken two c.say.new.host inputs pieces (Asks conn line) c.in-Ok.answered.reply c.in-Ok.answered.ends c.say.result took silent
-    (reply_of_history (H.seen two) (line_read line) c.answer_ask.result c.in-Ok.answered c.in-Ok.is c.answer_ask.ensures.faults) c.in-Ok.ensures.ends c.say.ensures.says
+    (line_read line, refl, reply_of_history (H.seen two) (line_read line) c.answer_ask.result c.in-Ok.answered c.in-Ok.is c.answer_ask.ensures.faults) c.in-Ok.ensures.ends c.say.ensures.says
 
 pub returns-in-Err-Full-clause-tells : goal.returns-in-Err-Full-clause-tells
 returns-in-Err-Full-clause-tells g c = λ inputs taken pieces said.
