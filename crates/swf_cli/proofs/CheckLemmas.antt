@@ -1,7 +1,7 @@
 -- To check a document no call of the store is made, so none can fail.
 use Rattle.std.proofs.Common.{◌≡◌, ◌⊎◌, ⊎_elim, ℕ, arith}
 use Rattle.swf_check.specs.Checking.{IsHostFault}
-use Rattle.swf_cli.specs.Statuses.{IsBlamed}
+use Rattle.swf_turns.specs.Blame.{IsBlamed}
 
 pub check_blamed : (status host host_now store store_now : ℕ) → (status ≡ 0) ⊎ (status ≡ 1) ⊎ (status ≡ 4) ⊎ (status ≡ 6) → IsHostFault status host host_now → store_now ≡ store → IsBlamed status host host_now store store_now
 check_blamed status host host_now store store_now which fault same = record {

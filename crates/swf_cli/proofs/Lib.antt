@@ -1,12 +1,4 @@
-pub mod WordLemmas
-pub mod SettlingLemmas
-pub mod AnswerLemmas
-pub mod FaultLemmas
-pub mod TurnLemmas
-pub mod TurnListLemmas
 pub mod SessionLemmas
 pub mod OpeningLemmas
-pub mod SoundLemmas
 pub mod ShowLemmas
 pub mod CheckLemmas
-pub mod HeardLemmas

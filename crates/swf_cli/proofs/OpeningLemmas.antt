@@ -18,15 +18,15 @@ use Rattle.swf_engine.specs.Opening.{OpensHistory, IsOpened}
 use Rattle.swf_engine.proofs.HistoryLemmas.{left_history}
 use Rattle.swf_engine.proofs.LawLemmas.{history_one, damaged_long, damaged_none}
 use Rattle.swf_protocol.specs.Spoken.{damaged_bytes}
-use Rattle.swf_cli.specs.declared.turn.After.TheVariants.{Stops}
-use Rattle.swf_cli.specs.Dialect.{session}
-use Rattle.swf_cli.specs.Finish.{Ran, RunsOn, Tells, TellsDamage, ClosesWith}
+use Rattle.swf_turns.specs.declared.say.After.TheVariants.{Stops}
+use Rattle.swf_turns.specs.Dialect.{session}
+use Rattle.swf_turns.specs.Finish.{Ran, RunsOn, Tells, TellsDamage, ClosesWith}
 use Rattle.swf_cli.specs.Running.{KeepsDamaged, SessionRun, TellsOfDamage}
-use Rattle.swf_cli.specs.Steps.{IsSound, Stand}
-use Rattle.swf_cli.specs.declared.words.Words.{Words}
-use Rattle.swf_cli.specs.Moments.{IsMoment, Runs}
-use Rattle.swf_cli.specs.Heard.{TurnsTell}
-use Rattle.swf_cli.proofs.HeardLemmas.{tells_closed}
+use Rattle.swf_turns.specs.Steps.{IsSound, Stand}
+use Rattle.swf_words.specs.declared.words.Words.{Words}
+use Rattle.swf_turns.specs.Moments.{IsMoment, Runs}
+use Rattle.swf_turns.specs.Heard.{TurnsTell}
+use Rattle.swf_turns.proofs.HeardLemmas.{tells_closed}
 use Rattle.swf_cli.proofs.SessionLemmas.{at_rest}
 
 -- before the first turn

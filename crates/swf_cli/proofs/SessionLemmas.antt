@@ -13,16 +13,16 @@ use Rattle.swf_engine.specs.History.{IsHistory, Begins}
 use Rattle.swf_engine.specs.Settling.{Called}
 use Rattle.swf_engine.proofs.HistoryLemmas.{left_history}
 use Rattle.swf_protocol.specs.Spoken.{full_bytes}
-use Rattle.swf_cli.specs.Dialect.{session}
-use Rattle.swf_cli.specs.Finish.{most_turns, Ran, TellsFull}
-use Rattle.swf_cli.specs.Follows.{AreOpen, IsGoing, IsOneTurn, MayBegin}
-use Rattle.swf_cli.specs.Moments.{IsMoment, IsLastPiece, IsLastUnsaid}
-use Rattle.swf_cli.specs.Owed.{Heard, conn_of, owed, piece_of, pieces_of, replies_of}
-use Rattle.swf_cli.specs.Steps.{Stand, TurnLeft, Turned, Whole, Unsaid, Broken, IsTold, Nothing, TurnDone}
-use Rattle.swf_cli.specs.declared.turn.After.TheVariants.{Stops}
-use Rattle.swf_cli.specs.Turns.{Turn, AreMore, IsAnswered, AreTurns, labels_of, inputs_in, inputs_of, answers_of, last_told}
-use Rattle.swf_cli.proofs.TurnListLemmas.{flat_map-snoc, allowed-snoc, open-snoc, over-snoc, heard_all, inputs_join, pieces_join, said_at_once, session_last}
-use Rattle.swf_cli.specs.declared.words.Words.{Words}
+use Rattle.swf_turns.specs.Dialect.{session}
+use Rattle.swf_turns.specs.Finish.{most_turns, Ran, TellsFull}
+use Rattle.swf_turns.specs.Follows.{AreOpen, IsGoing, IsOneTurn, MayBegin}
+use Rattle.swf_turns.specs.Moments.{IsMoment, IsLastPiece, IsLastUnsaid}
+use Rattle.swf_turns.specs.Owed.{Heard, conn_of, owed, piece_of, pieces_of, replies_of}
+use Rattle.swf_turns.specs.Steps.{Stand, TurnLeft, Turned, Whole, Unsaid, Broken, IsTold, Nothing, TurnDone}
+use Rattle.swf_turns.specs.declared.say.After.TheVariants.{Stops}
+use Rattle.swf_turns.specs.Turns.{Turn, AreMore, IsAnswered, AreTurns, labels_of, inputs_in, inputs_of, answers_of, last_told}
+use Rattle.swf_turns.proofs.TurnListLemmas.{flat_map-snoc, allowed-snoc, open-snoc, over-snoc, heard_all, inputs_join, pieces_join, said_at_once, session_last}
+use Rattle.swf_words.specs.declared.words.Words.{Words}
 
 module _ (words : Words) where
   module _ {W : Type 0} (before : List Label) (first : List (Input W)) (told : List Piece) where

@@ -20,7 +20,7 @@ use Rattle.swf_world.specs.Answers.{answer}
 use Rattle.swf_world.specs.declared.query.QueryFault.{QueryFault}
 use Rattle.swf_world.specs.declared.query.QueryFault.TheVariants.{OutOfMemory as NoMemory}
 use Rattle.swf_protocol.specs.declared.reply.Reply.TheVariants.{Memory}
-use Rattle.swf_cli.proofs.AnswerLemmas.{answer_reply}
+use Rattle.swf_turns.proofs.AnswerLemmas.{answer_reply}
 use Rattle.swf_engine.specs.declared.fault.EngineFault.{EngineFault}
 use Rattle.swf_engine.specs.declared.fault.EngineFault.TheVariants.{Damaged}
 use Rattle.swf_engine.specs.Core.{Core}
@@ -31,16 +31,16 @@ use Rattle.swf_engine.proofs.HistoryLemmas.{left_history}
 use Rattle.swf_engine.proofs.LawLemmas.{damaged_none}
 use Rattle.swf_protocol.specs.Spoken.{spoken}
 use Rattle.swf_protocol.specs.declared.reply.Reply.{Reply}
-use Rattle.swf_cli.specs.declared.turn.After.{After}
-use Rattle.swf_cli.specs.declared.turn.After.TheVariants.{GoesOn, Stops}
-use Rattle.swf_cli.specs.Finish.{Tells, ClosesWith}
-use Rattle.swf_cli.specs.Moments.{Runs}
+use Rattle.swf_turns.specs.declared.say.After.{After}
+use Rattle.swf_turns.specs.declared.say.After.TheVariants.{GoesOn, Stops}
+use Rattle.swf_turns.specs.Finish.{Tells, ClosesWith}
+use Rattle.swf_turns.specs.Moments.{Runs}
 use Rattle.swf_cli.specs.Running.{ShowRun}
 use Rattle.swf_cli.specs.Shown.{lines_in, lines_of, line_pieces, IsShowing, Showed, ShowsOn}
-use Rattle.swf_cli.specs.Statuses.{IsBlamed}
-use Rattle.swf_cli.specs.Steps.{Stand, Says, queried}
-use Rattle.swf_cli.specs.Turns.{query_reply}
-use Rattle.swf_cli.proofs.HeardLemmas.{closed_heard}
+use Rattle.swf_turns.specs.Blame.{IsBlamed}
+use Rattle.swf_turns.specs.Steps.{Stand, Says, queried}
+use Rattle.swf_turns.specs.Turns.{query_reply}
+use Rattle.swf_turns.proofs.HeardLemmas.{closed_heard}
 use Rattle.swf_cli.proofs.OpeningLemmas.{opened_stand, opened_start, failed_runs, closed_same, closed_other, opened_damage, closed_damage}
 
 -- what stands behind some lines

@@ -14,14 +14,14 @@ use Rattle.swf_engine.specs.History.{IsHistory}
 use Rattle.swf_engine.specs.Settling.{Called}
 use Rattle.swf_protocol.specs.Spoken.{damaged_bytes}
 use Rattle.swf_check.specs.Checking.{CheckRun}
-use Rattle.swf_cli.specs.declared.words.Mode.{Mode}
-use Rattle.swf_cli.specs.declared.words.Mode.TheVariants.{Check, Session, Show}
-use Rattle.swf_cli.specs.declared.words.Words.{Words}
-use Rattle.swf_cli.specs.Dialect.{session}
-use Rattle.swf_cli.specs.Finish.{Finished, IsShort, TellsFull, TellsDamage}
-use Rattle.swf_cli.specs.Heard.{TurnsTell}
-use Rattle.swf_cli.specs.Moments.{IsMoment, Runs}
-use Rattle.swf_cli.specs.Settling.{Answering}
+use Rattle.swf_words.specs.declared.words.Mode.{Mode}
+use Rattle.swf_words.specs.declared.words.Mode.TheVariants.{Check, Session, Show}
+use Rattle.swf_words.specs.declared.words.Words.{Words}
+use Rattle.swf_turns.specs.Dialect.{session}
+use Rattle.swf_turns.specs.Finish.{Finished, IsShort, TellsFull, TellsDamage}
+use Rattle.swf_turns.specs.Heard.{TurnsTell}
+use Rattle.swf_turns.specs.Moments.{IsMoment, Runs}
+use Rattle.swf_turns.specs.Settling.{Answering}
 use Rattle.swf_cli.specs.Shown.{IsShowing, IsShown, IsPartShown}
 
 module _ {W S : Type 0} (moment : S → ℕ) (left_since : S → ℕ → Image → List Piece → Type 0) (said : S → Option (List Piece)) (may_leave : S → Image → Type 0) (seen : S → Option Image) (taken : S → Option (List (Input W))) where

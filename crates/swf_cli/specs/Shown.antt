@@ -14,9 +14,9 @@ use Rattle.swf_engine.specs.Core.{Core}
 use Rattle.swf_engine.specs.History.{IsHistory}
 use Rattle.swf_protocol.specs.Spoken.{spoken}
 use Rattle.swf_protocol.specs.declared.reply.Reply.{Reply}
-use Rattle.swf_cli.specs.Moments.{IsCut}
-use Rattle.swf_cli.specs.Steps.{Stand}
-use Rattle.swf_cli.specs.Turns.{query_reply}
+use Rattle.swf_turns.specs.Moments.{IsCut}
+use Rattle.swf_turns.specs.Steps.{Stand}
+use Rattle.swf_turns.specs.Turns.{query_reply}
 
 -- the reply to `status` for each instance of a world, in start order
 abbrev pub lines_in : List Label → World → List Reply

@@ -2,20 +2,20 @@
 ghost use Rattle.std.specs.Prelude.{◌≡◌, ◌≢◌, ◌⊎◌, ◌↔◌, false, Some, None};
 ghost use Rattle.swf_check.specs.Checking.{CheckRun};
 ghost use Rattle.swf_cli.specs.Running.{RunsIn};
-ghost use Rattle.swf_cli.specs.Statuses.{IsStatus, IsBlamed};
-ghost use Rattle.swf_cli.specs.StoreCalls.{SessionCalls};
-ghost use Rattle.swf_cli.specs.Words.{texts, words_of};
-ghost use Rattle.swf_cli.specs.declared.words.Words.{Words as Meaning};
+ghost use Rattle.swf_cli.specs.Statuses.{IsStatus};
+ghost use Rattle.swf_turns.specs.Blame.{IsBlamed};
+ghost use Rattle.swf_turns.specs.StoreCalls.{SessionCalls};
+ghost use Rattle.swf_words.specs.Words.{texts, words_of};
+ghost use Rattle.swf_words.specs.declared.words.Words.{Words as Meaning};
 
-use crate::arguments::read_words;
 use crate::session::run_session;
 use crate::show::run_show;
-use crate::turn::NO_MEMORY;
-use crate::words::Mode;
 use std::alloc::Global;
 use swf_check::run_check;
 use swf_connect::{Parties, Switchboard};
 use swf_host::{Host, NoWork};
+use swf_turns::NO_MEMORY;
+use swf_words::{Mode, read_words};
 
 /// The words mean nothing.
 const NO_MEANING: u8 = 2;

@@ -2,22 +2,23 @@
 ghost use Rattle.std.specs.Prelude.{◌≡◌, ◌≢◌, ◌≤◌, ℕ, false};
 ghost use Rattle.std.specs.Option.{ForSome};
 ghost use Rattle.swf_engine.specs.Core.{IsEngineOf};
-ghost use Rattle.swf_cli.specs.Dialect.{session};
-ghost use Rattle.swf_cli.specs.Finish.{RunsOn};
-ghost use Rattle.swf_cli.specs.Heard.{TurnsTell};
+ghost use Rattle.swf_turns.specs.Dialect.{session};
+ghost use Rattle.swf_turns.specs.Finish.{RunsOn};
+ghost use Rattle.swf_turns.specs.Heard.{TurnsTell};
 ghost use Rattle.swf_cli.specs.Running.{SessionRun};
-ghost use Rattle.swf_cli.specs.Settling.{Answering};
-ghost use Rattle.swf_cli.specs.Statuses.{IsStatus, IsBlamed};
-ghost use Rattle.swf_cli.specs.StoreCalls.{SessionCalls, TurnsCalls};
-ghost use Rattle.swf_cli.specs.Steps.{IsSound};
+ghost use Rattle.swf_turns.specs.Settling.{Answering};
+ghost use Rattle.swf_cli.specs.Statuses.{IsStatus};
+ghost use Rattle.swf_turns.specs.Blame.{IsBlamed};
+ghost use Rattle.swf_turns.specs.StoreCalls.{SessionCalls, TurnsCalls};
+ghost use Rattle.swf_turns.specs.Steps.{IsSound};
 
-use crate::opening::not_opened;
-use crate::turn::{After, take_turn};
-use crate::words::{Mode, Words};
+use crate::turn::take_turn;
 use std::alloc::Global;
 use swf_connect::{Parties, Switchboard};
 use swf_engine::Engine;
 use swf_host::{Host, NoWork};
+use swf_turns::{After, not_opened};
+use swf_words::{Mode, Words};
 
 // Takes turns until the input ends.
 fn take_turns<H: Host<NoWork, NoWork>>(

@@ -7,20 +7,19 @@ ghost use Rattle.swf_protocol.specs.Spoken.{spoken};
 ghost use Rattle.swf_world.specs.Answers.{answer};
 ghost use Rattle.swf_cli.specs.Running.{ShowRun};
 ghost use Rattle.swf_cli.specs.Shown.{ShowsOn};
-ghost use Rattle.swf_cli.specs.Statuses.{IsStatus, IsBlamed};
-ghost use Rattle.swf_cli.specs.Steps.{Says, status_of};
-ghost use Rattle.swf_cli.specs.Turns.{query_reply};
+ghost use Rattle.swf_cli.specs.Statuses.{IsStatus};
+ghost use Rattle.swf_turns.specs.Blame.{IsBlamed};
+ghost use Rattle.swf_turns.specs.Steps.{Says, status_of};
+ghost use Rattle.swf_turns.specs.Turns.{query_reply};
 
-use crate::answer::{Answered, queried};
-use crate::opening::not_opened;
-use crate::turn::{After, NO_MEMORY, say};
-use crate::words::Mode;
 use std::alloc::{AllocError, Global};
 use swf_engine::Engine;
 use swf_host::{Host, NoWork};
 use swf_meaning::Query;
 use swf_protocol::Reply;
 use swf_text::Text;
+use swf_turns::{After, Answered, NO_MEMORY, not_opened, queried, say};
+use swf_words::Mode;
 
 // The id of the instance of that number, from 0, in start order.
 fn id_of(engine: &Engine, number: u64) -> Result<Option<Text>, AllocError>

@@ -1,52 +1,26 @@
 // One turn of a session: an input is taken, answered, and its reply is said.
-ghost use Rattle.std.specs.Prelude.{◌≡◌, ◌⊎◌, ◌≤◌, ℕ, [], Some, None, Ok, Err, IfOk, List, true, false, is_some, length, if◌then◌else◌};
+ghost use Rattle.std.specs.Prelude.{◌≡◌, ◌≤◌, None, IfOk, List, false, is_some, if◌then◌else◌};
 ghost use Rattle.std.specs.Option.{ForSome};
 ghost use Rattle.swf_meaning.specs.declared.label.Label.{Label};
 ghost use Rattle.swf_engine.specs.Causes.{EngineCause, WhereUsable};
 ghost use Rattle.swf_engine.specs.Core.{IsEngineOf, StandFor};
 ghost use Rattle.swf_protocol.specs.Line.{command_of, is_quit};
 ghost use Rattle.swf_protocol.specs.Sayable.{IsSayable};
-ghost use Rattle.swf_protocol.specs.Spoken.{spoken, damaged_bytes, full_bytes};
-ghost use Rattle.swf_cli.specs.Faults.{ReadFaults};
-ghost use Rattle.swf_cli.specs.Heard.{TurnTells};
-ghost use Rattle.swf_cli.specs.Settling.{Answering};
-ghost use Rattle.swf_cli.specs.Statuses.{IsBlamed};
-ghost use Rattle.swf_cli.specs.Steps.{AskDone, IsBreak, IsSound, IsStop, Says, StaysSound, TurnDone, reply_of, follows_end, status_of};
-ghost use Rattle.swf_cli.specs.StoreCalls.{ReadCalls, TurnCalls};
-ghost use Rattle.swf_cli.specs.Dialect.{is_long, line_read, session};
+ghost use Rattle.swf_turns.specs.Faults.{ReadFaults};
+ghost use Rattle.swf_turns.specs.Heard.{TurnTells};
+ghost use Rattle.swf_turns.specs.Settling.{Answering};
+ghost use Rattle.swf_turns.specs.Blame.{IsBlamed};
+ghost use Rattle.swf_turns.specs.Steps.{AskDone, IsBreak, IsSound, IsStop, StaysSound, TurnDone, reply_of, status_of};
+ghost use Rattle.swf_turns.specs.StoreCalls.{ReadCalls, TurnCalls};
+ghost use Rattle.swf_turns.specs.Dialect.{is_long, line_read, session};
 
-use crate::answer::{Answered, answer_line};
-use crate::words::Words;
-use std::alloc::{AllocError, Global};
+use std::alloc::Global;
 use swf_connect::{Parties, Switchboard};
 use swf_engine::{Engine, EngineFault};
 use swf_host::{Host, Input, MOST_LINE, NoWork};
-use swf_protocol::{Reply, damaged_line, full_line, reply_bytes};
-
-/// The store failed.
-pub const STORE_FAULT: u8 = 3;
-
-/// The host failed.
-pub const HOST_FAULT: u8 = 4;
-
-/// The journal is damaged.
-pub const DAMAGED: u8 = 5;
-
-/// No memory was found.
-pub const NO_MEMORY: u8 = 6;
-
-/// The journal is full.
-pub const FULL: u8 = 7;
-
-/// What follows a turn.
-pub enum After {
-    /// The next turn.
-    GoesOn,
-    /// The end of the input.
-    Ends,
-    /// The end of the program, with this status.
-    Stops(u8),
-}
+use swf_protocol::Reply;
+use swf_turns::{After, Answered, HOST_FAULT, STORE_FAULT, answer_line, say, say_damage, say_full};
+use swf_words::Words;
 
 // Answers an Ask.
 fn answer_ask<H: Host<NoWork, NoWork>>(
@@ -81,103 +55,6 @@ fn answer_ask<H: Host<NoWork, NoWork>>(
         });
     }
     answer_line(alloc, words, host, engine, line, board)
-}
-
-// The line of a reply.
-fn line_of(alloc: Global, reply: Reply) -> Result<Vec<u8>, AllocError>
-    requires { IsSayable reply }
-    ensures { IfOk result (λ bytes. bytes.items ≡ spoken reply) }
-{
-    let mut line = reply_bytes(alloc, &reply)?;
-    line.push(b'\n')?;
-    Ok(line)
-}
-
-// Says the line of a reply, behind which the input may end.
-fn say_line<H: Host<NoWork, NoWork>>(host: &mut H, conn: u64, line: &[u8], ends: bool) -> After
-    ensures says { Says H.moment H.left_since H.said H.may_leave H.seen H.taken host.old host.new conn line.now (follows_end ends) result }
-    ensures calls { H.calls host.new ≡ H.calls host.old }
-    ensures stops { IsStop result }
-    ensures blamed { IsBlamed (status_of result) (H.host_faults host.old) (H.host_faults host.new) (H.store_faults host.old) (H.store_faults host.new) }
-{
-    match host.say(conn, line) {
-        Ok(()) => { if ends { After::Ends } else { After::GoesOn } }
-        Err(_) => After::Stops(HOST_FAULT),
-    }
-}
-
-/// Says a reply to the connection that asked.
-pub fn say<H: Host<NoWork, NoWork>>(
-    alloc: Global,
-    host: &mut H,
-    conn: u64,
-    answered: Answered,
-) -> After
-    requires { IsSayable answered.reply }
-    ensures says { Says H.moment H.left_since H.said H.may_leave H.seen H.taken host.old host.new conn (spoken answered.reply) (follows_end answered.ends) result }
-    ensures calls { H.calls host.new ≡ H.calls host.old }
-    ensures stops { IsStop result }
-    ensures blamed { IsBlamed (status_of result) (H.host_faults host.old) (H.host_faults host.new) (H.store_faults host.old) (H.store_faults host.new) }
-{
-    let ends = answered.ends;
-    let Ok(line) = line_of(alloc, answered.reply) else {
-        return After::Stops(NO_MEMORY);
-    };
-    say_line(host, conn, &line, ends)
-}
-
-// Says to the connection that asked that the journal is full.
-fn say_full<H: Host<NoWork, NoWork>>(alloc: Global, host: &mut H, conn: u64, size: u64) -> After
-    ensures says { Says H.moment H.left_since H.said H.may_leave H.seen H.taken host.old host.new conn (full_bytes size) (After.Stops 7) result }
-    ensures calls { H.calls host.new ≡ H.calls host.old }
-    ensures stops { IsStop result }
-    ensures blamed { IsBlamed (status_of result) (H.host_faults host.old) (H.host_faults host.new) (H.store_faults host.old) (H.store_faults host.new) }
-{
-    let Ok(line) = full_line(alloc, size) else {
-        return After::Stops(NO_MEMORY);
-    };
-    say_last(host, conn, &line)
-}
-
-// Says a line behind which the program stops, since the journal is full.
-fn say_last<H: Host<NoWork, NoWork>>(host: &mut H, conn: u64, line: &[u8]) -> After
-    ensures says { Says H.moment H.left_since H.said H.may_leave H.seen H.taken host.old host.new conn line.now (After.Stops 7) result }
-    ensures calls { H.calls host.new ≡ H.calls host.old }
-    ensures stops { IsStop result }
-    ensures blamed { IsBlamed (status_of result) (H.host_faults host.old) (H.host_faults host.new) (H.store_faults host.old) (H.store_faults host.new) }
-{
-    match host.say(conn, line) {
-        Ok(()) => After::Stops(FULL),
-        Err(_) => After::Stops(HOST_FAULT),
-    }
-}
-
-// Says a line behind which the program stops, since the journal is damaged, and answers the status.
-fn say_damaged<H: Host<NoWork, NoWork>>(host: &mut H, conn: u64, line: &[u8]) -> u8
-    ensures says { Says H.moment H.left_since H.said H.may_leave H.seen H.taken host.old host.new conn line.now (After.Stops 5) (After.Stops result) }
-    ensures calls { H.calls host.new ≡ H.calls host.old }
-    ensures taken { H.taken host.new ≡ H.taken host.old }
-    ensures blamed { IsBlamed result (H.host_faults host.old) (H.host_faults host.new) (H.store_faults host.old) (H.store_faults host.new) }
-    ensures which { (result ≡ 5) ⊎ (result ≡ 6) ⊎ (result ≡ 4) }
-{
-    match host.say(conn, line) {
-        Ok(()) => DAMAGED,
-        Err(_) => HOST_FAULT,
-    }
-}
-
-/// Says to a connection where the journal is damaged, and answers the status.
-pub fn say_damage<H: Host<NoWork, NoWork>>(alloc: Global, host: &mut H, conn: u64, at: u64) -> u8
-    ensures says { Says H.moment H.left_since H.said H.may_leave H.seen H.taken host.old host.new conn (damaged_bytes at) (After.Stops 5) (After.Stops result) }
-    ensures calls { H.calls host.new ≡ H.calls host.old }
-    ensures taken { H.taken host.new ≡ H.taken host.old }
-    ensures blamed { IsBlamed result (H.host_faults host.old) (H.host_faults host.new) (H.store_faults host.old) (H.store_faults host.new) }
-    ensures which { (result ≡ 5) ⊎ (result ≡ 6) ⊎ (result ≡ 4) }
-{
-    let Ok(line) = damaged_line(alloc, at) else {
-        return NO_MEMORY;
-    };
-    say_damaged(host, conn, &line)
 }
 
 /// Takes the next input, and says its reply.

@@ -1,7 +1,7 @@
 // A `listen` (DSL 1.0.0, reference, "Listen", "Event Consumption Strategy" and "Correlation").
 ghost use Rattle.std.specs.Prelude.{◌≡◌, codes, Ok, if◌then◌else◌};
 ghost use Rattle.swf_document.specs.declared.error.ErrorKind.TheVariants as kinds;
-ghost use Rattle.swf_jq_builtins.specs.Operations.{is_same};
+ghost use Rattle.swf_evaluation.specs.Operations.{is_same};
 ghost use Rattle.swf_meaning.specs.Complete.{complete};
 ghost use Rattle.swf_meaning.specs.Listen.{bound_with, expecting, bound_by, correlations, listening, events_of};
 ghost use Rattle.swf_meaning.specs.Rule.{fails};

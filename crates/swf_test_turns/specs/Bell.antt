@@ -1,6 +1,6 @@
 -- A mode for examples. `go` settles, and any other line asks for the moment that is its length. `done` belongs to the turn before it, and so
 -- does what came of work, and that no work comes. Where no line came, moment 9 is told.
-use Rattle.std.specs.Prelude.{ℕ, List, length, Bool, true, false, Option, Some, None, Result, Ok, codes, if◌then◌else◌}
+use Rattle.std.specs.Prelude.{◌≡◌, ℕ, List, length, Bool, true, false, Option, Some, None, Result, Ok, codes, if◌then◌else◌}
 use Rattle.swf_text.specs.Same.{same}
 use Rattle.swf_host.specs.declared.host.Input.{Input}
 use Rattle.swf_host.specs.declared.host.Input.TheVariants.{Ask as Asks, TooLong, Work, Idle, Closed}
@@ -9,7 +9,7 @@ use Rattle.swf_protocol.specs.Spoken.{spoken, damaged_bytes, full_bytes}
 use Rattle.swf_protocol.specs.declared.command.Command.{Command}
 use Rattle.swf_protocol.specs.declared.command.Command.TheVariants.{Do, Settle}
 use Rattle.swf_protocol.specs.declared.command.CommandFault.{CommandFault}
-use Rattle.swf_cli.specs.Dialect.{Dialect}
+use Rattle.swf_turns.specs.Dialect.{Dialect}
 use Rattle.swf_test_turns.specs.declared.work.Done.{Done}
 
 abbrev pub read : List ℕ → Option (Result Command CommandFault)
@@ -31,7 +31,7 @@ told Closed = Some 9
 
 abbrev pub bell : Dialect Done
 bell = record {
-  reads = read;
+  Reads = λ line r. r ≡ read line;
   says = spoken;
   says_full = full_bytes;
   says_damaged = damaged_bytes;

@@ -13,7 +13,7 @@ use Rattle.swf_runs.specs.Runs.{world_at}
 use Rattle.swf_engine.specs.Settling.{Called, is_settled}
 use Rattle.swf_protocol.specs.Spoken.{spoken}
 use Rattle.swf_protocol.specs.declared.reply.Reply.TheVariants.{Reached}
-use Rattle.swf_cli.specs.Turns.{Turn, settle_reply}
+use Rattle.swf_turns.specs.Turns.{Turn, settle_reply}
 use Rattle.swf_test_turns.specs.declared.work.Done.{Done}
 use Rattle.swf_test_turns.specs.declared.work.Job.{Job}
 

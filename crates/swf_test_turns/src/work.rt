@@ -3,7 +3,7 @@ ghost use Rattle.std.specs.Prelude.{◌≡◌, ◌⊎◌, ◌∷◌, ◌++◌, [
 ghost use Rattle.std.specs.Option.{ForSome};
 ghost use Rattle.swf_host.specs.declared.host.Input.{Input as Came};
 ghost use Rattle.swf_host.specs.Script.{coming, input_taken};
-ghost use Rattle.swf_cli.specs.Turns.{AreMore};
+ghost use Rattle.swf_turns.specs.Turns.{AreMore};
 ghost use Rattle.swf_test_turns.specs.Bell.{bell};
 ghost use Rattle.swf_test_turns.specs.Examples.{go, started};
 ghost use Rattle.swf_test_turns.specs.declared.work.Done.{Done as Result};

@@ -1,6 +1,6 @@
 use Rattle.std.proofs.Common.{◌≡◌, Some}
-use Rattle.swf_cli.specs.Words.{texts, words_of}
-use Rattle.swf_cli.proofs.WordLemmas.{words_small}
+use Rattle.swf_words.specs.Words.{texts, words_of}
+use Rattle.swf_words.proofs.WordLemmas.{words_small}
 use Rattle.swf_cli.proofs.run.swf_run.Goals as goal
 
 pub run_session-requires : goal.run_session-requires

@@ -1,7 +1,7 @@
 use Rattle.std.proofs.Common.{[], ap, Err, inl, inr, ◌∙◌}
 use Rattle.swf_cli.proofs.OpeningLemmas.{session_opened, session_closed}
-use Rattle.swf_cli.proofs.SettlingLemmas.{asks_none}
-use Rattle.swf_cli.proofs.TurnLemmas.{blamed_behind}
+use Rattle.swf_turns.proofs.SettlingLemmas.{asks_none}
+use Rattle.swf_turns.proofs.TurnLemmas.{blamed_behind}
 use Rattle.swf_cli.proofs.session.run_session.Goals as goal
 
 pub returns-in-Ok-clause-runs : goal.returns-in-Ok-clause-runs

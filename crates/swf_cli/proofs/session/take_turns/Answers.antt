@@ -1,10 +1,10 @@
 use Rattle.std.proofs.Common.{false, inr, rules, refl, ◌∙◌, ◌≡◌, suc, [], ◌++◌, arith}
-use Rattle.swf_cli.specs.Dialect.{session}
-use Rattle.swf_cli.specs.Finish.{most_turns}
-use Rattle.swf_cli.specs.Owed.{pieces_of}
-use Rattle.swf_cli.specs.Turns.{labels_of, inputs_of}
-use Rattle.swf_cli.proofs.HeardLemmas.{heard_none, heard_more, tells_ends, tells_stops, tells_all}
-use Rattle.swf_cli.proofs.SettlingLemmas.{asks_none, asks_join}
+use Rattle.swf_turns.specs.Dialect.{session}
+use Rattle.swf_turns.specs.Finish.{most_turns}
+use Rattle.swf_turns.specs.Owed.{pieces_of}
+use Rattle.swf_turns.specs.Turns.{labels_of, inputs_of}
+use Rattle.swf_turns.proofs.HeardLemmas.{heard_none, heard_more, tells_ends, tells_stops, tells_all}
+use Rattle.swf_turns.proofs.SettlingLemmas.{asks_none, asks_join}
 use Rattle.swf_cli.proofs.SessionLemmas.{begins, turn_goes_on, turn_ends, turn_stops, all_made}
 use Rattle.std.specs.Prelude.{length}
 use Rattle.swf_cli.proofs.session.take_turns.Goals as goal

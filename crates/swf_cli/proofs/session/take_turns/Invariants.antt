@@ -7,12 +7,12 @@ use Rattle.swf_host.specs.declared.host.NoWork.{NoWork}
 use Rattle.swf_connect.specs.contracts.switchboard.SwitchboardParties.TheImpl.{ghosts}
 use Rattle.swf_engine.specs.Core.{IsEngineOf}
 use Rattle.swf_engine.specs.Settling.{Called, AsksBoard}
-use Rattle.swf_cli.specs.Dialect.{session}
-use Rattle.swf_cli.proofs.HeardLemmas.{IsHeard}
-use Rattle.swf_cli.specs.Turns.{Turn}
-use Rattle.swf_cli.specs.Moments.{IsMoment}
-use Rattle.swf_cli.specs.Steps.{IsSound, Stand}
-use Rattle.swf_cli.specs.StoreCalls.{TurnsCalls}
+use Rattle.swf_turns.specs.Dialect.{session}
+use Rattle.swf_turns.proofs.HeardLemmas.{IsHeard}
+use Rattle.swf_turns.specs.Turns.{Turn}
+use Rattle.swf_turns.specs.Moments.{IsMoment}
+use Rattle.swf_turns.specs.Steps.{IsSound, Stand}
+use Rattle.swf_turns.specs.StoreCalls.{TurnsCalls}
 use Rattle.swf_cli.proofs.SessionLemmas.{SoFar}
 use Rattle.swf_cli.proofs.session.take_turns.Given as goal
 

@@ -1,6 +1,6 @@
 use Rattle.std.proofs.Common.{◌∙◌, sym, refl, subst, ⊎_elim, inl, inr, rules, []}
 use Rattle.swf_engine.specs.Core.{Core}
-use Rattle.swf_cli.specs.Steps.{Stand}
+use Rattle.swf_turns.specs.Steps.{Stand}
 use Rattle.swf_cli.proofs.ShowLemmas.{shown_none, shown_more, shown_stops, shown_lacks, shown_all}
 use Rattle.swf_cli.proofs.show.show_all.Goals as goal
 

@@ -7,7 +7,7 @@ use Rattle.swf_host.specs.declared.host.Input.{Input}
 use Rattle.swf_host.specs.declared.host.NoWork.{NoWork}
 use Rattle.swf_engine.specs.Core.{IsEngineOf}
 use Rattle.swf_cli.specs.Shown.{IsShowing}
-use Rattle.swf_cli.specs.Steps.{Stand}
+use Rattle.swf_turns.specs.Steps.{Stand}
 use Rattle.swf_cli.proofs.ShowLemmas.{ShownSoFar}
 use Rattle.swf_cli.proofs.show.show_all.Given as goal
 

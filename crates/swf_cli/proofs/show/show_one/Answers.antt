@@ -6,9 +6,9 @@ use Rattle.swf_world.specs.declared.query.QueryFault.{QueryFault}
 use Rattle.swf_engine.specs.declared.fault.EngineFault.{EngineFault}
 use Rattle.swf_engine.specs.Retelling.{AnswersQuery}
 use Rattle.swf_protocol.specs.Spoken.{spoken}
-use Rattle.swf_cli.specs.Steps.{Says}
-use Rattle.swf_cli.specs.Turns.{query_reply}
-use Rattle.swf_cli.specs.declared.turn.After.TheVariants.{GoesOn}
+use Rattle.swf_turns.specs.Steps.{Says}
+use Rattle.swf_turns.specs.Turns.{query_reply}
+use Rattle.swf_turns.specs.declared.say.After.TheVariants.{GoesOn}
 use Rattle.swf_cli.proofs.ShowLemmas.{status_said}
 use Rattle.swf_cli.proofs.show.show_one.Goals as goal
 

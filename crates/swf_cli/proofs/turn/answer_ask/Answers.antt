@@ -1,14 +1,14 @@
 use Rattle.std.proofs.Common.{rules, [], ◌≡◌, ap, sym, refl, subst, Bool, true, false, Option, Some, None, Result, Ok, if◌then◌else◌}
 use Rattle.swf_protocol.specs.Line.{command_of}
-use Rattle.swf_cli.specs.Dialect.{is_long, line_read}
-use Rattle.swf_cli.specs.Steps.{reply_of}
-use Rattle.swf_cli.proofs.SettlingLemmas.{asks_none}
-use Rattle.swf_cli.proofs.TurnLemmas.{asked_short, asked_long}
+use Rattle.swf_turns.specs.Dialect.{is_long, line_read}
+use Rattle.swf_turns.specs.Steps.{reply_of}
+use Rattle.swf_turns.proofs.SettlingLemmas.{asks_none}
+use Rattle.swf_turns.proofs.TurnLemmas.{asked_short, asked_long}
 use Rattle.swf_protocol.specs.declared.command.Command.{Command}
 use Rattle.swf_protocol.specs.declared.command.CommandFault.{CommandFault}
 use Rattle.swf_protocol.specs.declared.reply.Reply.TheVariants.{TooLong}
-use Rattle.swf_cli.specs.Faults.{ReadFaults}
-use Rattle.swf_cli.specs.StoreCalls.{ReadCalls}
+use Rattle.swf_turns.specs.Faults.{ReadFaults}
+use Rattle.swf_turns.specs.StoreCalls.{ReadCalls}
 use Rattle.swf_cli.proofs.turn.answer_ask.Goals as goal
 
 pub returns-then-line-gt-MOST_LINE-clause-done : goal.returns-then-line-gt-MOST_LINE-clause-done

@@ -2,20 +2,20 @@ use Rattle.std.proofs.Common.{◌≡◌, ◌∙◌, ap, sym, refl, subst, inl, i
 use Rattle.swf_host.specs.declared.host.Input.{Input}
 use Rattle.swf_host.specs.declared.host.NoWork.{NoWork}
 use Rattle.swf_host.specs.declared.host.Input.TheVariants.{Ask as Asks, TooLong as TooLongInput, Closed}
-use Rattle.swf_cli.proofs.TurnLemmas.{Comes, asked_reply, asked_full, asked_broken, too_long_done, closed_done, none_done}
+use Rattle.swf_turns.proofs.TurnLemmas.{Comes, asked_reply, asked_full, asked_broken, too_long_done, closed_done, none_done}
 use Rattle.swf_engine.specs.declared.fault.EngineFault.{EngineFault}
 use Rattle.swf_engine.specs.declared.fault.EngineFault.TheVariants.{Damaged, Full}
 use Rattle.swf_protocol.specs.Spoken.{spoken, full_bytes}
 use Rattle.swf_protocol.specs.declared.reply.Reply.TheVariants.{TooLong}
-use Rattle.swf_cli.specs.Faults.{ReadFaults}
-use Rattle.swf_cli.specs.Dialect.{line_read}
-use Rattle.swf_cli.specs.Steps.{IsSound, follows_end, reply_of}
-use Rattle.swf_cli.specs.declared.answer.Answered.{Answered}
-use Rattle.swf_cli.specs.declared.turn.After.TheVariants.{Stops}
-use Rattle.swf_cli.proofs.FaultLemmas.{damage_of_history, full_of_labels, reply_of_history}
-use Rattle.swf_cli.proofs.HeardLemmas.{reply_tells, full_tells, damage_tells}
-use Rattle.swf_cli.proofs.SettlingLemmas.{asks_none}
-use Rattle.swf_cli.proofs.SoundLemmas.{end_is_none, seven_is_none, sound_stays, sound_asked_as, sound_said}
+use Rattle.swf_turns.specs.Faults.{ReadFaults}
+use Rattle.swf_turns.specs.Dialect.{line_read}
+use Rattle.swf_turns.specs.Steps.{IsSound, follows_end, reply_of}
+use Rattle.swf_turns.specs.declared.answer.Answered.{Answered}
+use Rattle.swf_turns.specs.declared.say.After.TheVariants.{Stops}
+use Rattle.swf_turns.proofs.FaultLemmas.{damage_of_history, full_of_labels, reply_of_history}
+use Rattle.swf_turns.proofs.HeardLemmas.{reply_tells, full_tells, damage_tells}
+use Rattle.swf_turns.proofs.SettlingLemmas.{asks_none}
+use Rattle.swf_turns.proofs.SoundLemmas.{end_is_none, seven_is_none, sound_stays, sound_asked_as, sound_said}
 use Rattle.swf_cli.proofs.turn.take_turn.Goals as goal
 
 -- one more input, in what a host has taken
@@ -172,7 +172,7 @@ returns-in-Ok-clause-tells g c = λ inputs taken pieces said.
     c.answer_ask.ensures.taken ∙ c.in-Ok-Ask.ensures.taken ∙ ap (with_input (g.H.Host.taken old)) input ∙ ap (λ (t : Option (List (Input NoWork))). with_input t (Asks conn line)) taken in
     let silent : H.said two ≡ Some pieces = c.answer_ask.ensures.said ∙ c.next.ensures.said ∙ said in
     reply_tells H.moment H.left_since H.said H.may_leave H.seen g.H.Host.taken two c.say.new.host inputs pieces (Asks conn line) c.in-Ok.answered.reply c.in-Ok.answered.ends c.say.result took silent
-    (reply_of_history (H.seen two) (line_read line) c.answer_ask.result c.in-Ok.answered c.in-Ok.is c.answer_ask.ensures.faults) c.in-Ok.ensures.ends c.say.ensures.says
+    (line_read line, refl, reply_of_history (H.seen two) (line_read line) c.answer_ask.result c.in-Ok.answered c.in-Ok.is c.answer_ask.ensures.faults) c.in-Ok.ensures.ends c.say.ensures.says
 
 pub returns-in-Err-Full-clause-tells : goal.returns-in-Err-Full-clause-tells
 returns-in-Err-Full-clause-tells g c = λ inputs taken pieces said.

@@ -1,13 +1,14 @@
 use Rattle.std.proofs.Common.{◌≡◌, ap, refl, inl, ℕ, List, [], ◌∷◌, None, arith}
+use Rattle.std.specs.Prelude.{codes}
 use Rattle.swf_store.specs.declared.said.Piece.{Piece}
-use Rattle.swf_cli.specs.Turns.{AreTurns}
-use Rattle.swf_cli.specs.declared.words.Words.{Words}
-use Rattle.swf_test_turns.specs.Bell.{bell}
+use Rattle.swf_turns.specs.Turns.{AreTurns}
+use Rattle.swf_words.specs.declared.words.Words.{Words}
+use Rattle.swf_test_turns.specs.Bell.{bell, read}
 use Rattle.swf_test_turns.specs.Examples.{both_held}
 use Rattle.swf_test_turns.proofs.examples.replies_held_back.Goals as goal
 
 both_allowed : (words : Words) → AreTurns bell words None [] both_held
-both_allowed words = (inl (refl, refl), tt, tt, (inl (refl, refl), tt, tt, tt))
+both_allowed words = ((read (codes "fifth"), refl, inl (refl, refl)), tt, tt, ((read (codes "seventh"), refl, inl (refl, refl)), tt, tt, tt))
 
 abbrev first_number : List Piece → ℕ
 first_number [] = 0

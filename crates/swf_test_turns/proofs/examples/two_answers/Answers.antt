@@ -1,6 +1,8 @@
 use Rattle.std.proofs.Common.{ap, refl, inl, [], ◌∷◌, ◌++◌, length, length-append, arith}
+use Rattle.std.specs.Prelude.{codes}
 use Rattle.std.proofs.lemmas.List.Sorted.{length_permutation}
 use Rattle.swf_test_turns.specs.Examples.{given}
+use Rattle.swf_test_turns.specs.Bell.{read}
 use Rattle.swf_test_turns.proofs.examples.two_answers.Goals as goal
 
 -- the first of the three answers changes places with the last, and is left over
@@ -9,17 +11,21 @@ returns c = record {
   turn = λ words a b d request reply.
       let one = given b request reply ∷ [] in
       let both = given d request reply ∷ one in (
-        inl (record {
-          settling = record {
-            used = both;
-            unused = given a request reply ∷ [];
-            among = record { moves = (0, 2) ∷ []; below = (omega arith, omega arith, tt); is = refl };
-            taken = (one, (request, refl, λ legal. cc), (one, refl, ([], (request, refl, λ legal. cc), ([], refl, refl))));
-            most = omega arith;
-          };
-          enough = λ e. refl;
-          told = refl;
-        }),
+        (
+          read (codes "go"),
+          refl,
+          inl (record {
+            settling = record {
+              used = both;
+              unused = given a request reply ∷ [];
+              among = record { moves = (0, 2) ∷ []; below = (omega arith, omega arith, tt); is = refl };
+              taken = (one, (request, refl, λ legal. cc), (one, refl, ([], (request, refl, λ legal. cc), ([], refl, refl))));
+              most = omega arith;
+            };
+            enough = λ e. refl;
+            told = refl;
+          }),
+        ),
         tt,
         tt,
         tt,

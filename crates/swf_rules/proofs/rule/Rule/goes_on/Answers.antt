@@ -1,5 +1,5 @@
 use Rattle.std.proofs.Common.{◌∙◌, List, ap, subst}
-use Rattle.swf_jq_eval.specs.declared.vars.Variable.{Variable}
+use Rattle.swf_evaluation.specs.declared.vars.Variable.{Variable}
 use Rattle.swf_document.specs.Task.{Task}
 use Rattle.swf_catalog.specs.Rounds.{round_of}
 use Rattle.swf_meaning.specs.Around.{seen}

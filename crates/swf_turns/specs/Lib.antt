@@ -1,0 +1,14 @@
+pub mod Blame
+pub mod Dialect
+pub mod Settling
+pub mod Behind
+pub mod Turns
+pub mod Owed
+pub mod Follows
+pub mod Moments
+pub mod Steps
+pub mod Finish
+pub mod Faults
+pub mod Heard
+pub mod Sorts
+pub mod StoreCalls
