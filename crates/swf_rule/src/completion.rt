@@ -4,7 +4,7 @@ ghost use Rattle.swf_document.specs.declared.error.Problem.{Problem};
 ghost use Rattle.swf_meaning.specs.Complete.{Stepped, input_of, output_of, exported, complete_by, complete, step_of};
 ghost use Rattle.swf_meaning.specs.Line.{Line};
 ghost use Rattle.swf_meaning.specs.Parts.{common_of};
-ghost use Rattle.swf_rules.specs.Rules.{line_in};
+ghost use Rattle.swf_rule.specs.Rules.{line_in};
 ghost use Rattle.swf_scene.specs.Halts.{Gives, Makes};
 ghost use Rattle.swf_stack.specs.Stack.{stepped_of};
 ghost use Rattle.swf_stack.specs.declared.made.Top.TheVariants.{Done};
@@ -64,8 +64,8 @@ pub fn step_of(alloc: Global, given: Result<Made, Halt>) -> Result<Made, AllocEr
 }
 
 impl Rule<'_> {
-    // What `output.as` makes of a raw output.
-    pub(crate) fn output_of(&self, given: Json) -> Result<Json, Halt>
+    /// What `output.as` makes of a raw output.
+    pub fn output_of(&self, given: Json) -> Result<Json, Halt>
         ensures { Gives (output_of (line_in self.now) self.now.running.now given) result }
     {
         match self.running.task().output_as() {
@@ -97,7 +97,7 @@ impl Rule<'_> {
     }
 
     /// The task ends with a raw output, and control goes on by a flow.
-    pub(crate) fn complete_by(&self, flow: Flow, given: Json) -> Result<Made, Halt>
+    pub fn complete_by(&self, flow: Flow, given: Json) -> Result<Made, Halt>
         ensures { Makes (line_in self.now) (complete_by (line_in self.now) self.now.running.now flow given) result }
     {
         if !is_within(&given) {

@@ -34,7 +34,7 @@ pub struct Rule<'a> {
 }
 
 impl Rule<'_> {
-    ghost use Rattle.swf_rules.specs.Rules.{line_in};
+    ghost use Rattle.swf_rule.specs.Rules.{line_in};
 
     /// What `if`, the task's own definition and `output.as` see. It is made where it was not before.
     pub fn within(&self) -> Result<Sight<'_>, AllocError>

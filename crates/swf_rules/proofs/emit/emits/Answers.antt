@@ -1,12 +1,12 @@
 use Rattle.std.proofs.Common.{◌∙◌, ap, sym, Ok}
 use Rattle.swf_meaning.specs.Complete.{step_of, complete}
 use Rattle.swf_meaning.specs.Emit.{sending, emits}
-use Rattle.swf_rules.specs.Rules.{line_in}
-use Rattle.swf_rules.proofs.rule.Rule.emits.Goals as goal
+use Rattle.swf_rule.specs.Rules.{line_in}
+use Rattle.swf_rules.proofs.emit.emits.Goals as goal
 
 pub returns-in-Ok : goal.returns-in-Ok
 returns-in-Ok c =
-    let r = c.args.self.now in
+    let r = c.args.rule.now in
     let l = line_in r in
     ap (emits l r.running.now) c.in-Ok.ensures.event
     ∙ ap Ok (ap (λ e. sending e (step_of l (complete l r.running.now r.running.now.input))) (sym c.in_ok-event-in-Ok.ensures)

@@ -1,6 +1,6 @@
 -- What the rules of a task go by.
 use Rattle.swf_meaning.specs.Line.{Line, Site}
-use Rattle.swf_rules.specs.declared.rule.Rule.{Rule}
+use Rattle.swf_rule.specs.declared.rule.Rule.{Rule}
 use Rattle.swf_scene.specs.Setting.{line_of, site_of}
 
 abbrev pub line_in : Rule → Line
