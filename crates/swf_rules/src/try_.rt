@@ -151,7 +151,12 @@ fn retried(rule: &Rule, retries: u64, problem: &Problem, spec: &TrySpec) -> Resu
 }
 
 // An error of the list after so many retries is caught where the filter matches and the conditions hold.
-fn verdict(rule: &Rule, retries: u64, problem: &Problem, spec: &TrySpec) -> Result<Verdict, Halt>
+fn find_verdict(
+    rule: &Rule,
+    retries: u64,
+    problem: &Problem,
+    spec: &TrySpec,
+) -> Result<Verdict, Halt>
     ensures { Finds (verdict (line_in rule.now) rule.now.running.now retries problem.now (catch_of spec.now) (handler_of spec.now.handler)) result }
 {
     if !matches_filter(spec.errors.get(), problem) {
@@ -189,6 +194,6 @@ pub(crate) fn caught(
 ) -> Result<Made, Halt>
     ensures { Makes (line_in rule.now) (caught (site_in rule.now) (line_in rule.now) rule.now.running.now retries problem.now (catch_of spec.now) (handler_of spec.now.handler)) result }
 {
-    let verdict = verdict(rule, retries, problem, spec)?;
+    let verdict = find_verdict(rule, retries, problem, spec)?;
     by_verdict(rule, retries, problem, verdict)
 }
