@@ -98,27 +98,47 @@ fn bytes_of(alloc: Global, text: &str) -> Result<Vec<u8>, AllocError> {
     Ok(bytes)
 }
 
-// What is written for a request, and what is answered where this comes. A second time the request reaches nobody.
-fn exchange(
-    alloc: Global,
-    request: &CallRequest,
-    response: &str,
-) -> Result<Option<(Vec<u8>, Vec<u8>)>, AllocError> {
+// A connector over a dial that has this one response.
+fn connector_of(alloc: Global, response: &str) -> Result<HttpConnector<MemoryDial>, AllocError> {
     let mut replies = Vec::new(alloc);
     replies.push(bytes_of(alloc, response)?)?;
-    let dial = MemoryDial::new(alloc, replies, Vec::new(alloc));
-    let mut connector = HttpConnector::new(alloc, dial);
-    let first = connector.perform(request)?;
-    let second = connector.perform(request)?;
-    if !connector.takes(request) || !matches!(second, CallReply::Unreached) {
-        return Ok(None);
-    }
-    let written = match connector.dial().last() {
-        Some(talk) => talk.written.as_slice().to_vec(alloc)?,
-        None => Vec::new(alloc),
-    };
-    Ok(Some((written, reply_text(alloc, &first)?)))
+    Ok(HttpConnector::new(alloc, MemoryDial::new(alloc, replies, Vec::new(alloc))))
 }
+
+// Whether a connector takes a request, which reaches nobody now.
+fn reaches_nobody(
+    connector: &mut HttpConnector<MemoryDial>,
+    request: &CallRequest,
+) -> Result<bool, AllocError> {
+    let reply = connector.perform(request)?;
+    Ok(connector.takes(request) && matches!(reply, CallReply::Unreached))
+}
+
+// Whether the last talk of a dial has these bytes.
+fn has_written(dial: &MemoryDial, bytes: &str) -> bool {
+    match dial.last() {
+        Some(talk) => talk.written.as_slice() == bytes.as_bytes(),
+        None => bytes.is_empty(),
+    }
+}
+
+// Whether a request is answered so, and this was written for it. A second time the request reaches nobody.
+fn exchanges(
+    alloc: Global,
+    connector: &mut HttpConnector<MemoryDial>,
+    request: &CallRequest,
+    reply: &str,
+) -> Result<bool, AllocError> {
+    let first = connector.perform(request)?;
+    let text = reply_text(alloc, &first)?;
+    Ok(text.as_slice() == reply.as_bytes() && reaches_nobody(connector, request)?)
+}
+
+/// A response with nothing in it, and what is answered where it comes.
+const PLAIN: (&str, &str) = (
+    "HTTP/1.1 200 OK\r\n\r\n",
+    "{\"content\":null,\"headers\":{},\"status\":200}",
+);
 
 // Whether this is written for a request.
 fn is_written(alloc: Global, row: (&str, &str, &str, &str, &str)) -> Result<bool, AllocError> {
@@ -126,10 +146,9 @@ fn is_written(alloc: Global, row: (&str, &str, &str, &str, &str)) -> Result<bool
     let Some(request) = request_of(alloc, method, uri, lines, body)? else {
         return Ok(false);
     };
-    match exchange(alloc, &request, "HTTP/1.1 200 OK\r\n\r\n")? {
-        Some((bytes, _)) => Ok(bytes.as_slice() == written.as_bytes()),
-        None => Ok(false),
-    }
+    let mut connector = connector_of(alloc, PLAIN.0)?;
+    let answered = exchanges(alloc, &mut connector, &request, PLAIN.1)?;
+    Ok(answered && has_written(connector.dial(), written))
 }
 
 // Whether this is answered where a response comes.
@@ -137,10 +156,8 @@ fn is_answered(alloc: Global, response: &str, reply: &str) -> Result<bool, Alloc
     let Some(request) = request_of(alloc, "GET", "http://pets.test/", "", "")? else {
         return Ok(false);
     };
-    match exchange(alloc, &request, response)? {
-        Some((_, text)) => Ok(text.as_slice() == reply.as_bytes()),
-        None => Ok(false),
-    }
+    let mut connector = connector_of(alloc, response)?;
+    exchanges(alloc, &mut connector, &request, reply)
 }
 
 #[test]
