@@ -1,0 +1,3 @@
+pub mod Own
+pub mod OwnLaws
+pub mod Slices
