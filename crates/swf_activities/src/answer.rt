@@ -5,14 +5,14 @@ ghost use Rattle.swf_document.specs.declared.error.ErrorKind.TheVariants.{Commun
 ghost use Rattle.swf_meaning.specs.Complete.{complete};
 ghost use Rattle.swf_meaning.specs.Call.{answered, answered_by, is_answered, response_value};
 ghost use Rattle.swf_meaning.specs.Parts.{http_in, kind_of, place_of};
-ghost use Rattle.swf_rules.specs.Rules.{line_in};
+ghost use Rattle.swf_rule.specs.Rules.{line_in};
 ghost use Rattle.swf_scene.specs.Halts.{Makes};
 
 use std::alloc::{AllocError, Global};
 use swf_calls::{CallReply, CallRequest, Headers, head_json};
 use swf_catalog::Work;
 use swf_document::{Callee, ErrorKind, HttpSpec, Problem, standard_error};
-use swf_rules::Rule;
+use swf_rule::Rule;
 use swf_scene::Halt;
 use swf_stack::Made;
 use swf_text::{Text, word};

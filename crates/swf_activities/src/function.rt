@@ -3,13 +3,13 @@ ghost use Rattle.std.specs.Prelude.{◌≡◌, IfOk, Ok, nat_le, option_map};
 ghost use Rattle.swf_meaning.specs.Documents.{document_at, resolved};
 ghost use Rattle.swf_meaning.specs.Function.{calling, input_by, most_depth, running, runs_inside};
 ghost use Rattle.swf_catalog.specs.Rounds.{round_of};
-ghost use Rattle.swf_rules.specs.Rules.{line_in, site_in};
+ghost use Rattle.swf_rule.specs.Rules.{line_in, site_in};
 ghost use Rattle.swf_scene.specs.Halts.{Gives, Makes};
 
 use std::alloc::AllocError;
 use swf_catalog::{Round, SharedDocument, SubWorkflow, TaskRef};
 use swf_document::{DocKey, ErrorKind, RunSpec, Template};
-use swf_rules::Rule;
+use swf_rule::Rule;
 use swf_scene::Halt;
 use swf_stack::{Made, Top};
 use swf_text::Text;

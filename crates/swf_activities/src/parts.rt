@@ -6,14 +6,14 @@ ghost use Rattle.swf_value.specs.Value.{no_members};
 ghost use Rattle.swf_calls.specs.Request.{are_sendable};
 ghost use Rattle.swf_meaning.specs.Call.{body_by, filled_members, header_text, headers_by, one_header, sent_headers, uri_by, uri_run, uri_text};
 ghost use Rattle.swf_meaning.specs.Line.{within};
-ghost use Rattle.swf_rules.specs.Rules.{line_in};
+ghost use Rattle.swf_rule.specs.Rules.{line_in};
 ghost use Rattle.swf_scene.specs.Halts.{Gives, IsFault};
 
 use swf_calls::{Header, Headers, are_sendable, is_sendable};
 use swf_cloudevents::NamedValues;
 use swf_document::{Endpoint, ErrorKind, Field, Template};
 use swf_expr::Expr;
-use swf_rules::Rule;
+use swf_rule::Rule;
 use swf_scene::Halt;
 use swf_text::{Text, word};
 use swf_transform::{add_query, digits, expand_uri, first};

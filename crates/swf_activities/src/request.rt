@@ -1,13 +1,13 @@
 // A request that is sent (DSL 1.0.0, reference, "HTTP Call").
 ghost use Rattle.swf_meaning.specs.Call.{calling_http, requested};
-ghost use Rattle.swf_rules.specs.Rules.{line_in, site_in};
+ghost use Rattle.swf_rule.specs.Rules.{line_in, site_in};
 ghost use Rattle.swf_scene.specs.Halts.{Gives, Makes};
 
 use crate::parts::{body_by, filled_members, headers_by, uri_by};
 use swf_calls::CallRequest;
 use swf_catalog::Shared;
 use swf_document::HttpSpec;
-use swf_rules::{Rule, becoming};
+use swf_rule::{Rule, becoming};
 use swf_scene::Halt;
 use swf_stack::{Made, Top};
 

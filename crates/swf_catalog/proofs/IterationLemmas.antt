@@ -5,7 +5,7 @@ use Rattle.std.proofs.lemmas.Option.{slice_get_past, slice_get_read}
 use Rattle.swf_value.specs.Value.{Value, int}
 use Rattle.swf_meaning.specs.Around.{iteration_variables}
 use Rattle.swf_meaning.specs.Line.{variable}
-use Rattle.swf_jq_eval.specs.declared.vars.Variable.{Variable}
+use Rattle.swf_evaluation.specs.declared.vars.Variable.{Variable}
 use Rattle.swf_document.specs.declared.tasks.ForSpec.{ForSpec}
 use Rattle.swf_catalog.specs.TaskRef.{loop_of, loop_variables}
 use Rattle.swf_catalog.specs.declared.round.Iteration.{Iteration}

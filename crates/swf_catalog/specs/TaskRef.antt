@@ -1,6 +1,6 @@
 -- The parts of a task.
 use Rattle.std.specs.Prelude.{◌≡◌, List, slice_get, Option, Some, None}
-use Rattle.swf_jq_eval.specs.declared.vars.Variable.{Variable}
+use Rattle.swf_evaluation.specs.declared.vars.Variable.{Variable}
 use Rattle.swf_document.specs.Task.{Task, Tasks, no_tasks, Kind, call, do_all, emit, for, fork, listen, raise, run, set, switch, try, wait, Loop, Catch}
 use Rattle.swf_document.specs.TaskNode.{task_of, handler_of}
 use Rattle.swf_document.specs.declared.tasks.ForSpec.{ForSpec}

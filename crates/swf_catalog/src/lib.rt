@@ -18,7 +18,7 @@ pub use crossing::task_crosses;
 pub use documents::{Documents, Loaded, same_name};
 pub use find::place_of;
 pub use numbered::NumberedDocument;
-pub use parts::Work;
+pub use parts::{Parts, Work};
 pub use round::{Iteration, Round, SubWorkflow};
 pub use shared::{Shared, SharedDocument, share_document};
 pub use task::TaskRef;

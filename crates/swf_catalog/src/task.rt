@@ -77,7 +77,8 @@ impl TaskRef {
         })
     }
 
-    fn parts(&self) -> Parts<'_>
+    /// Its parts.
+    pub fn parts(&self) -> Parts<'_>
         ensures { parts_task result ≡ self.now }
     {
         self.document.get().parts(self.number)

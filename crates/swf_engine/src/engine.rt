@@ -17,6 +17,7 @@ ghost use Rattle.swf_engine.specs.Retelling.{Queries, AnswersQuery};
 
 use crate::EngineFault;
 use crate::add::add_label;
+use crate::queries::answer;
 use crate::retelling::retell;
 use std::alloc::Global;
 use std::marker::Model;
@@ -128,9 +129,9 @@ impl Engine {
                 Ok(value) => Ok(Ok(Answer::History(value))),
                 Err(fault) => Err(fault),
             },
-            Query::Status(_) => Ok(self.world.answer(query)),
-            Query::Pending => Ok(self.world.answer(query)),
-            Query::Outbox(_) => Ok(self.world.answer(query)),
+            Query::Status(_) => Ok(answer(self.alloc, &self.world, query)),
+            Query::Pending => Ok(answer(self.alloc, &self.world, query)),
+            Query::Outbox(_) => Ok(answer(self.alloc, &self.world, query)),
         }
     }
 

@@ -6,7 +6,7 @@ mod engine;
 mod fault;
 mod law;
 mod open;
-mod printed;
+mod queries;
 mod replay;
 mod retelling;
 mod settle;

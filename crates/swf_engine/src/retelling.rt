@@ -16,10 +16,10 @@ ghost use Rattle.swf_engine.specs.Retelling.{IsTold, HasTold, TellsFrame, ListsV
 ghost use Rattle.swf_meaning.specs.Printed.{labels_value};
 
 use crate::EngineFault;
-use crate::printed::print_label;
 use std::alloc::{AllocError, Global};
 use swf_journal::{Reading, begin_again};
 use swf_meaning::Label;
+use swf_printing::print_label;
 use swf_record::{RecordFault, decode_labels};
 use swf_store::Store;
 use swf_value::{Json, member};

@@ -6,6 +6,7 @@ ghost use Rattle.swf_engine.specs.Core.{IsEngineOf};
 ghost use Rattle.swf_engine.specs.Settling.{Called, AreAsked, AsksBoard, IsAwaited, calls_in};
 
 use crate::add::{add_label, add_prepared};
+use crate::queries::open_calls;
 use crate::{Engine, EngineFault, Submitted};
 use swf_calls::CallRequest;
 use swf_connect::{Parties, Switchboard};
@@ -156,7 +157,7 @@ impl Engine {
                     quiet: taken.quiet,
                 });
             }
-            let awaited = self.world.open_calls()?;
+            let awaited = open_calls(self.alloc, &self.world)?;
             if awaited.is_empty() {
                 return Ok(Settled { steps, quiet: true });
             }

@@ -15,7 +15,7 @@ use Rattle.swf_document.specs.Template.{Template, constant, run, list, object}
 use Rattle.swf_document.specs.declared.event.Filter.{Filter}
 use Rattle.swf_document.specs.declared.event.ListenSpec.{ListenSpec}
 use Rattle.swf_document.specs.declared.template.Field.{Field}
-use Rattle.swf_transform.specs.Filter.{attribute_matches, correlated, bind_all}
+use Rattle.swf_templates.specs.Filter.{attribute_matches, correlated, bind_all}
 use Rattle.swf_meaning.specs.Listen.{hears as hears_it, is_heard_by, is_met, is_satisfied, or_else, taken_from}
 use Rattle.swf_meaning.specs.Node.{Node, Fresh, Live, Done, Fault, Inside, At, Later, Sleep, Hear, Await, Forked, Nodes, no_nodes, branch, Running}
 use Rattle.swf_meaning.specs.Offer.{offered, offered_inside, offered_among, takes_by, or_same}

@@ -6,7 +6,7 @@ use Rattle.std.proofs.lemmas.List.{length-append}
 use Rattle.swf_value.specs.Node.{items_of}
 use Rattle.swf_text.specs.Size.{bytes_in}
 use Rattle.swf_value.specs.Value.{Value, text, list}
-use Rattle.swf_jq_builtins.specs.Builtins.{join, joined_or_not, pieces_of}
+use Rattle.swf_evaluation.specs.Builtins.{join, joined_or_not, pieces_of}
 use Rattle.swf_jq_builtins.proofs.Lists.{values_of_items_of}
 
 pub join_is : (vs : List Value) (s : List ℕ) → join (list (items_of vs)) (text s) ≡ joined_or_not s (pieces_of vs)

@@ -12,7 +12,7 @@ use Rattle.std.specs.Map.{keys_of}
 use Rattle.swf_value.specs.Value.{Value, Members, no_members, member, IsBefore, LeadsMembers, Ascending}
 use Rattle.swf_jq_builtins.specs.MapMembers.{entries_members}
 use Rattle.swf_value.specs.Members.{put}
-use Rattle.swf_jq_builtins.specs.Operations.{merged}
+use Rattle.swf_evaluation.specs.Operations.{merged}
 use Rattle.swf_value.specs.Node.{members_of}
 use Rattle.swf_value.specs.declared.value.Member.{Member}
 

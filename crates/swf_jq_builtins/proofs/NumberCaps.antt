@@ -2,9 +2,9 @@
 use Rattle.std.proofs.Common.{◌≡◌, ℤ, pos, negsuc, Option, Some, None, option_map, arith, refl}
 use Rattle.std.proofs.lemmas.Bool.Decides.{nat_tests}
 use Rattle.std.proofs.lemmas.Int.{ints}
-use Rattle.swf_jq_builtins.specs.Builtins.{whole_or}
+use Rattle.swf_evaluation.specs.Builtins.{whole_or}
 use Rattle.swf_jq_builtins.specs.Caps.{held}
-use Rattle.swf_jq_builtins.specs.Operations.{Answer, whole}
+use Rattle.swf_evaluation.specs.Operations.{Answer, whole}
 
 pub whole_held_one : (z : ℤ) → whole (held z) ≡ whole z
 whole_held_one (pos n) = grind (arith, ints, nat_tests)

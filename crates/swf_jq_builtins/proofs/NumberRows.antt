@@ -1,7 +1,7 @@
 -- Numbers in a row.
 use Rattle.std.proofs.Common.{◌≡◌, ◌∙◌, ◌-◌, ◌++◌, arith, append_assoc, ℕ, ◌+◌, ◌<◌, ℤ, pos, ◌+ℤ◌, zero, suc, List, [], ◌∷◌, length, refl, ap}
 use Rattle.swf_value.specs.Value.{Value, int}
-use Rattle.swf_jq_builtins.specs.Builtins.{numbers_from}
+use Rattle.swf_evaluation.specs.Builtins.{numbers_from}
 
 pub length_numbers : (z : ℤ) (n : ℕ) → length (numbers_from z n) ≡ n
 length_numbers z zero = refl

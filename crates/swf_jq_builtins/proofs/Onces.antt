@@ -2,8 +2,8 @@
 use Rattle.std.proofs.Common.{◌≡◌, List, [], ◌∷◌, ap, refl, Bool, true, false, cond}
 use Rattle.std.specs.List.{dedup, dedup_from}
 use Rattle.swf_value.specs.Value.{Value}
-use Rattle.swf_jq_builtins.specs.Builtins.{once, once_after}
-use Rattle.swf_jq_builtins.specs.Operations.{is_same}
+use Rattle.swf_evaluation.specs.Builtins.{once, once_after}
+use Rattle.swf_evaluation.specs.Operations.{is_same}
 
 abbrev pub equals_before : Value → Value → Bool
 equals_before v k = is_same k v

@@ -10,8 +10,8 @@ use Rattle.std.specs.declared.cmp.Ordering.TheVariants.{Less, Equal, Greater}
 use Rattle.swf_value.specs.Order.{value_cmp}
 use Rattle.swf_value.specs.Value.{Value, null}
 use Rattle.swf_value.proofs.OrderLaws.{order_laws}
-use Rattle.swf_jq_builtins.specs.Builtins.{inserted, sorted_values}
-use Rattle.swf_jq_builtins.specs.Operations.{is_same, without}
+use Rattle.swf_evaluation.specs.Builtins.{inserted, sorted_values}
+use Rattle.swf_evaluation.specs.Operations.{is_same, without}
 
 any_at : (p : Value → Bool) (xs : List Value) (i : ℕ) (d : Value) → i < length xs → p (get_or xs i d) ≡ true → list_any p xs ≡ true
 any_at p [] i d h e = absurd (omega arith)

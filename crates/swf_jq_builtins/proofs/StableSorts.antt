@@ -9,7 +9,7 @@ use Rattle.std.specs.Ordering.{is_lt}
 use Rattle.swf_value.specs.Order.{value_cmp}
 use Rattle.swf_value.specs.Value.{Value}
 use Rattle.swf_value.proofs.OrderLaws.{order_laws}
-use Rattle.swf_jq_builtins.specs.Builtins.{inserted, sorted}
+use Rattle.swf_evaluation.specs.Builtins.{inserted, sorted}
 
 neither : (a b : Bool) → not a && not b ≡ true → (a ≡ false) × (b ≡ false)
 neither false false e = (refl, refl)

@@ -3,8 +3,8 @@ use Rattle.std.proofs.Common.{◌≡◌, ◌∙◌, ℕ, ◌+◌, ◌<◌, ◌�
 use Rattle.std.proofs.lemmas.List.{drop_all}
 use Rattle.swf_value.specs.Value.{Value, null, boolean, int, text, list, object, Items, no_items, Members, no_members, Ascending}
 use Rattle.swf_value.proofs.Rests.{rest_at}
-use Rattle.swf_jq_builtins.specs.Builtins.{summed, lead, and_then}
-use Rattle.swf_jq_builtins.specs.Operations.{sum_of}
+use Rattle.swf_evaluation.specs.Builtins.{summed, lead, and_then}
+use Rattle.swf_evaluation.specs.Operations.{sum_of}
 use Rattle.swf_jq_builtins.proofs.Lists.{items_of_values_of}
 use Rattle.swf_jq_builtins.proofs.Merges.{merged_with_none}
 

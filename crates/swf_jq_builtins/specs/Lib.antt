@@ -1,5 +1,3 @@
-pub mod Operations
-pub mod Builtins
 pub mod Outcome
 pub mod MapMembers
 pub mod Caps

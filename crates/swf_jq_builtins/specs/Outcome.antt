@@ -7,7 +7,7 @@ use Rattle.swf_jq_builtins.specs.declared.outcome.Outcome.TheVariants as outcome
 use Rattle.swf_jq_builtins.specs.declared.outcome.Several.{Several}
 use Rattle.swf_jq_builtins.specs.declared.outcome.Several.TheVariants as several
 use Rattle.swf_value.specs.Members.{put}
-use Rattle.swf_jq_builtins.specs.Operations.{Answer, fails}
+use Rattle.swf_evaluation.specs.Operations.{Answer, fails}
 
 abbrev pub outcome_of : Outcome → Answer
 outcome_of (outcomes.Value v) = Ok v

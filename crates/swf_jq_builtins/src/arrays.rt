@@ -4,8 +4,8 @@ ghost use Rattle.std.specs.List.{list_any, list_all};
 ghost use Rattle.swf_value.specs.Members.{at, member_names};
 ghost use Rattle.swf_value.specs.Node.{members_of};
 ghost use Rattle.swf_value.specs.Value.{null, text, Ascending, InRange};
-ghost use Rattle.swf_jq_builtins.specs.Builtins.{has, is_there, is_place, length_of, keys_of, any_of, all_of, reverse_of, min_of, max_of, best, better, numbers_from};
-ghost use Rattle.swf_jq_builtins.specs.Operations.{is_true};
+ghost use Rattle.swf_evaluation.specs.Builtins.{has, is_there, is_place, length_of, keys_of, any_of, all_of, reverse_of, min_of, max_of, best, better, numbers_from};
+ghost use Rattle.swf_evaluation.specs.Operations.{is_true};
 ghost use Rattle.swf_jq_builtins.specs.Outcome.{outcome_of};
 
 use crate::outcome::{Outcome, cannot, copies, fails, truth, whole};

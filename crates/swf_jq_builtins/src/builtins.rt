@@ -1,6 +1,6 @@
 // What the built-in functions make of values.
 ghost use Rattle.std.specs.Prelude.{◌≡◌, ◌<◌, IfOk, MatchOption};
-ghost use Rattle.swf_jq_builtins.specs.Builtins.{count_between, plain, with_one, range_of};
+ghost use Rattle.swf_evaluation.specs.Builtins.{count_between, plain, with_one, range_of};
 ghost use Rattle.swf_jq_builtins.specs.Outcome.{outcome_of, several_of, answer_size, count_of};
 
 use crate::operations::index;

@@ -2,7 +2,7 @@
 ghost use Rattle.std.specs.Prelude.{◌≡◌, IfOk, option_map};
 ghost use Rattle.swf_value.specs.Node.{members_of};
 ghost use Rattle.swf_value.specs.Value.{object, member, no_members, IsBefore};
-ghost use Rattle.swf_jq_builtins.specs.Builtins.{to_entries, from_entries, entries_of, entry_name, entry_value, gathered, text_in};
+ghost use Rattle.swf_evaluation.specs.Builtins.{to_entries, from_entries, entries_of, entry_name, entry_value, gathered, text_in};
 ghost use Rattle.swf_jq_builtins.specs.Outcome.{outcome_of};
 
 use crate::fields;

@@ -4,7 +4,7 @@ ghost use Rattle.swf_value.specs.Members.{put};
 ghost use Rattle.swf_value.specs.Node.{members_of};
 ghost use Rattle.swf_value.specs.Value.{object};
 ghost use Rattle.swf_jq_builtins.specs.MapMembers.{entries_members};
-ghost use Rattle.swf_jq_builtins.specs.Operations.{merged};
+ghost use Rattle.swf_evaluation.specs.Operations.{merged};
 
 use std::alloc::{AllocError, Global};
 use std::collections::BTreeMap;

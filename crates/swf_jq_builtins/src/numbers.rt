@@ -1,7 +1,7 @@
 // Numbers in texts.
 ghost use Rattle.std.specs.Prelude.{◌≡◌, IfOk, option_map};
 ghost use Rattle.std.specs.List.{list_all};
-ghost use Rattle.swf_jq_builtins.specs.Builtins.{below_zero, to_number, is_numeral, natural, number_in, decimal_value};
+ghost use Rattle.swf_evaluation.specs.Builtins.{below_zero, to_number, is_numeral, natural, number_in, decimal_value};
 ghost use Rattle.swf_text.specs.Ascii.{is_digit};
 ghost use Rattle.swf_jq_builtins.specs.Caps.{capped, held};
 ghost use Rattle.swf_jq_builtins.specs.Outcome.{outcome_of};

@@ -6,7 +6,7 @@ ghost use Rattle.swf_value.specs.Members.{at, member_values};
 ghost use Rattle.swf_value.specs.Order.{value_cmp};
 ghost use Rattle.swf_value.specs.Node.{items_of, members_of};
 ghost use Rattle.swf_value.specs.Value.{Value, null, list, object, Ascending};
-ghost use Rattle.swf_jq_builtins.specs.Operations.{is_same, is_zero, item_at, index_of, parts_of, operate, negated, sum_of, difference_of, product_of, quotient_of, rest_of, without, merged};
+ghost use Rattle.swf_evaluation.specs.Operations.{is_same, is_zero, item_at, index_of, parts_of, operate, negated, sum_of, difference_of, product_of, quotient_of, rest_of, without, merged};
 ghost use Rattle.swf_jq_builtins.specs.Outcome.{outcome_of, several_of};
 
 use crate::fields;

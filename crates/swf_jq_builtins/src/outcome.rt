@@ -2,8 +2,8 @@
 ghost use Rattle.std.specs.Prelude.{◌≡◌, IfOk, IsTrue, Ok, Err};
 ghost use Rattle.swf_text.specs.Same.{is_ascii};
 ghost use Rattle.swf_value.specs.Value.{boolean, text};
-ghost use Rattle.swf_jq_builtins.specs.Builtins.{cannot};
-ghost use Rattle.swf_jq_builtins.specs.Operations.{fails, whole};
+ghost use Rattle.swf_evaluation.specs.Builtins.{cannot};
+ghost use Rattle.swf_evaluation.specs.Operations.{fails, whole};
 ghost use Rattle.swf_jq_builtins.specs.Outcome.{outcome_of};
 
 use std::alloc::{AllocError, Global};

@@ -3,7 +3,7 @@ ghost use Rattle.std.specs.Prelude.{◌≡◌, ◌<◌, ◌≤◌, ◌∷◌, []
 ghost use Rattle.std.specs.List.{join_by};
 ghost use Rattle.swf_text.specs.Size.{bytes_in};
 ghost use Rattle.swf_value.specs.Value.{Value, text};
-ghost use Rattle.swf_jq_builtins.specs.Builtins.{join, joined_or_not, split, piece_of, pieces_of, characters, split_from, parts_between, begins_with};
+ghost use Rattle.swf_evaluation.specs.Builtins.{join, joined_or_not, split, piece_of, pieces_of, characters, split_from, parts_between, begins_with};
 ghost use Rattle.swf_jq_builtins.specs.Outcome.{outcome_of, answer_size};
 
 use crate::outcome::{Outcome, cannot, text};

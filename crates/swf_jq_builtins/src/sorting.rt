@@ -4,8 +4,8 @@ ghost use Rattle.std.specs.List.{list_any};
 ghost use Rattle.std.specs.List.Sorted.{IsSortedBy};
 ghost use Rattle.std.specs.Ordering.{is_lt};
 ghost use Rattle.swf_value.specs.Order.{value_cmp};
-ghost use Rattle.swf_jq_builtins.specs.Builtins.{by_keys, sorted, sorted_values, sort_of, unique_of, once};
-ghost use Rattle.swf_jq_builtins.specs.Operations.{is_same};
+ghost use Rattle.swf_evaluation.specs.Builtins.{by_keys, sorted, sorted_values, sort_of, unique_of, once};
+ghost use Rattle.swf_evaluation.specs.Operations.{is_same};
 ghost use Rattle.swf_jq_builtins.specs.Outcome.{outcome_of};
 
 use crate::outcome::{Outcome, cannot, copies};

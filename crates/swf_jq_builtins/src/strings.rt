@@ -1,7 +1,7 @@
 // Built-ins on texts.
 ghost use Rattle.std.specs.Prelude.{◌≡◌, IfOk, length, map, if◌then◌else◌};
 ghost use Rattle.std.specs.Char.{to_ascii_lowercase, to_ascii_uppercase};
-ghost use Rattle.swf_jq_builtins.specs.Builtins.{json_text, word_of, type_name, lower_case_of, upper_case_of, text_begins, text_ends, begins_with};
+ghost use Rattle.swf_evaluation.specs.Builtins.{json_text, word_of, type_name, lower_case_of, upper_case_of, text_begins, text_ends, begins_with};
 ghost use Rattle.swf_jq_builtins.specs.Outcome.{outcome_of};
 
 use crate::outcome::{Outcome, cannot, text, truth};

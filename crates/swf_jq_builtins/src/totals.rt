@@ -1,9 +1,9 @@
 // The sum of several values.
 ghost use Rattle.std.specs.Prelude.{◌≡◌, IfOk, MatchOption, Ok, codes, if◌then◌else◌};
 ghost use Rattle.swf_value.specs.Value.{null};
-ghost use Rattle.swf_jq_builtins.specs.Builtins.{summed, total_of, lead};
+ghost use Rattle.swf_evaluation.specs.Builtins.{summed, total_of, lead};
 ghost use Rattle.swf_jq_builtins.specs.Drafts.{drafted};
-ghost use Rattle.swf_jq_builtins.specs.Operations.{sum_of, fails};
+ghost use Rattle.swf_evaluation.specs.Operations.{sum_of, fails};
 ghost use Rattle.swf_jq_builtins.specs.Outcome.{outcome_of};
 
 use crate::fields;

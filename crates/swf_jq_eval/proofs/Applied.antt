@@ -7,11 +7,11 @@ use Rattle.swf_value.specs.Node.{items_of}
 use Rattle.swf_value.specs.Value.{Value, int, text, list, object, depth_items}
 use Rattle.swf_expr.specs.declared.builtin.Builtin.{Builtin}
 use Rattle.swf_expr.specs.declared.builtin.Builtin.TheVariants as builtins
-use Rattle.swf_jq_builtins.specs.Builtins.{with_one, has, join, split, text_begins, text_ends, text_or, cannot, pieces_of, range_of, characters, split_from, parts_between, begins_with}
+use Rattle.swf_evaluation.specs.Builtins.{with_one, has, join, split, text_begins, text_ends, text_or, cannot, pieces_of, range_of, characters, split_from, parts_between, begins_with}
 use Rattle.swf_value.specs.Members.{values_of}
 use Rattle.swf_jq_builtins.specs.Outcome.{answer_size, count_of}
-use Rattle.swf_jq_eval.specs.Outputs.{ranged}
-use Rattle.swf_jq_eval.specs.Run.{clean, gave, spend, spread, across, made, made_of, is_shallow}
+use Rattle.swf_evaluation.specs.Outputs.{ranged}
+use Rattle.swf_evaluation.specs.Run.{clean, gave, spend, spread, across, made, made_of, is_shallow}
 
 -- a range takes a turn for each number
 range_turns_by : (r : Result (List Value) Value) (a b : Value) → range_of a b ≡ r → count_of (range_of a b) ≡ (ranged a b).turns

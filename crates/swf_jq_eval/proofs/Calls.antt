@@ -12,8 +12,8 @@ use Rattle.swf_value.specs.Node.{items_of}
 use Rattle.swf_value.specs.Value.{Value, boolean, list}
 use Rattle.swf_expr.specs.Expr.{pair}
 use Rattle.swf_jq_builtins.proofs.Lists.{values_of_items_of}
-use Rattle.swf_jq_builtins.specs.Builtins.{plain, with_one}
-use Rattle.swf_jq_eval.specs.Run.{Ending, Run, gives, made, made_of, over, across, each, clean, gave, same_truth, until, decided, decides, ended}
+use Rattle.swf_evaluation.specs.Builtins.{plain, with_one}
+use Rattle.swf_evaluation.specs.Run.{Ending, Run, gives, made, made_of, over, across, each, clean, gave, same_truth, until, decided, decides, ended}
 use Rattle.swf_jq_eval.specs.Goes.{ahead, Comes, Goes, ending_of}
 use Rattle.swf_jq_eval.specs.declared.outputs.Ending.{Ending as Ends}
 use Rattle.swf_jq_eval.specs.declared.outputs.Ending.TheVariants as ends
@@ -22,9 +22,9 @@ use Rattle.swf_expr.specs.declared.expr.ExprNode.{ExprNode}
 use Rattle.swf_jq_eval.specs.declared.outputs.Out.{Out}
 use Rattle.swf_jq_eval.specs.declared.outputs.Outputs.{Outputs}
 use Rattle.swf_jq_eval.proofs.Runs.{made_from, made_stop}
-use Rattle.swf_jq_builtins.specs.Operations.{is_true}
+use Rattle.swf_evaluation.specs.Operations.{is_true}
 use Rattle.std.specs.List.{list_any}
-use Rattle.swf_jq_eval.specs.Outputs.{Scope, run, node, runs, objects, alone, with_argument, applied, ranged, array_of}
+use Rattle.swf_evaluation.specs.Outputs.{Scope, run, node, runs, objects, alone, with_argument, applied, ranged, array_of}
 
 pub alone_other : (b : Builtin) (v : Value) → (b ≡ builtins.Empty → ⊥) → (b ≡ builtins.Error → ⊥) → made_of (plain b v) ≡ alone b v
 alone_other builtins.Empty v h k = absurd (h refl)

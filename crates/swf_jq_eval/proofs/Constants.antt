@@ -9,9 +9,10 @@ use Rattle.swf_value.specs.Value.{Value, text, object, Members, no_members}
 use Rattle.swf_jq_eval.specs.declared.outputs.Ending.{Ending as Ends}
 use Rattle.swf_jq_eval.specs.declared.outputs.Stop.{Stop}
 use Rattle.swf_jq_eval.specs.declared.outputs.Out.{Out}
-use Rattle.swf_jq_eval.specs.Goes.{Goes, limit}
-use Rattle.swf_jq_eval.specs.Outputs.{Scope, objects, with_member}
-use Rattle.swf_jq_eval.specs.Run.{Run, gives, spend, turn, made, over, onward}
+use Rattle.swf_evaluation.specs.Turns.{limit}
+use Rattle.swf_jq_eval.specs.Goes.{Goes}
+use Rattle.swf_evaluation.specs.Outputs.{Scope, objects, with_member}
+use Rattle.swf_evaluation.specs.Run.{Run, gives, spend, turn, made, over, onward}
 use Rattle.swf_jq_eval.proofs.Runs.{over_one, goes_from, made_on}
 
 -- so many turns, and as many once more

@@ -6,9 +6,10 @@ use Rattle.swf_jq_eval.specs.declared.outputs.Stop.{Stop}
 use Rattle.swf_jq_eval.specs.declared.outputs.Stop.TheVariants as stops
 use Rattle.swf_jq_eval.specs.declared.outputs.Out.{Out}
 use Rattle.swf_jq_eval.specs.declared.outputs.Outputs.{Outputs}
-use Rattle.swf_jq_eval.specs.Run.{Ending, clean, raised, Run, gave, gives, spend, turn, after, followed_by, each, over}
+use Rattle.swf_evaluation.specs.Run.{Ending, clean, raised, Run, gave, gives, spend, turn, after, followed_by, each, over}
 use Rattle.swf_value.specs.Value.{Value}
-use Rattle.swf_jq_eval.specs.Goes.{ending_of, limit, ahead, Goes, Comes}
+use Rattle.swf_evaluation.specs.Turns.{limit}
+use Rattle.swf_jq_eval.specs.Goes.{ending_of, ahead, Goes, Comes}
 
 -- a run that ended clean goes on with the next
 pub goes_on : (old mid : Out) (s t : Run) → Goes old s mid (Ok endings.Clean) → ahead mid t ≡ ahead old (followed_by s t)

@@ -2,9 +2,9 @@
 use Rattle.std.proofs.Common.{◌≡◌, ◌<◌, ◌+◌, ℕ, List, [], ◌∷◌, ◌++◌, length, get_or, take, map, sym, ap, ◌∙◌, add-one, take-suc, if◌then◌else◌}
 use Rattle.std.proofs.lemmas.List.{reverse-append}
 use Rattle.swf_text.specs.Same.{same}
-use Rattle.swf_jq_eval.specs.declared.vars.Variable.{Variable}
-use Rattle.swf_jq_eval.specs.Outputs.{named}
-use Rattle.swf_jq_eval.specs.Names.{scope_from}
+use Rattle.swf_evaluation.specs.declared.vars.Variable.{Variable}
+use Rattle.swf_evaluation.specs.Outputs.{named}
+use Rattle.swf_evaluation.specs.Scopes.{scope_from}
 
 scoped : (bs : List Variable) (b : Variable) → scope_from (bs ++ b ∷ []) ≡ (b.name, b.value) ∷ scope_from bs
 scoped bs b = ap (map (λ (x : Variable). (x.name, x.value))) (reverse-append bs (b ∷ []))

@@ -1,16 +1,13 @@
 -- What a part of an evaluation has done to its outputs and to its turns.
-use Rattle.std.specs.Prelude.{◌≡◌, ◌+◌, ◌<◌, ◌≤◌, ℕ, [], Result, Ok, Err}
+use Rattle.std.specs.Prelude.{◌≡◌, ◌+◌, ◌<◌, ◌≤◌, [], Result, Ok, Err}
 use Rattle.swf_jq_eval.specs.declared.outputs.Ending.{Ending as Ends}
 use Rattle.swf_jq_eval.specs.declared.outputs.Ending.TheVariants as endings
 use Rattle.swf_jq_eval.specs.declared.outputs.Stop.{Stop}
 use Rattle.swf_jq_eval.specs.declared.outputs.Stop.TheVariants as stops
 use Rattle.swf_jq_eval.specs.declared.outputs.Out.{Out}
 use Rattle.swf_jq_eval.specs.declared.outputs.Outputs.{Outputs}
-use Rattle.swf_jq_eval.specs.Run.{Ending, clean, raised, Run, gave, spend, prefixed}
-
--- the turns that an evaluation may take
-abbrev pub limit : ℕ
-limit = 1000000
+use Rattle.swf_evaluation.specs.Turns.{limit}
+use Rattle.swf_evaluation.specs.Run.{Ending, clean, raised, Run, gave, spend, prefixed}
 
 abbrev pub ending_of : Ends → Ending
 ending_of endings.Clean = clean

@@ -1,14 +1,14 @@
 -- What is done with an output of an expression where other expressions are evaluated for it.
 use Rattle.std.specs.Prelude.{◌∷◌, if◌then◌else◌}
 use Rattle.std.specs.Option.{option_map_or}
-use Rattle.swf_jq_builtins.specs.Operations.{is_true, index_of, operate}
+use Rattle.swf_evaluation.specs.Operations.{is_true, index_of, operate}
 use Rattle.swf_value.specs.Value.{Value}
 use Rattle.swf_jq_eval.specs.declared.inner.Inner.{Inner}
 use Rattle.swf_jq_eval.specs.declared.inner.Inner.TheVariants as inners
 use Rattle.swf_jq_eval.specs.declared.scope.Context.{Context}
 use Rattle.swf_jq_eval.specs.Names.{names, run_at}
-use Rattle.swf_jq_eval.specs.Outputs.{run, ranged}
-use Rattle.swf_jq_eval.specs.Run.{Run, gives, made_of, answered, over, decides}
+use Rattle.swf_evaluation.specs.Outputs.{run, ranged}
+use Rattle.swf_evaluation.specs.Run.{Run, gives, made_of, answered, over, decides}
 use Rattle.swf_jq_eval.specs.Steps.{truth}
 
 -- what is made of an output where the expressions are evaluated

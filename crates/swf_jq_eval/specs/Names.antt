@@ -1,16 +1,12 @@
 -- The names that stand where an expression is evaluated.
-use Rattle.std.specs.Prelude.{List, ◌∷◌, map, reverse}
+use Rattle.std.specs.Prelude.{◌∷◌}
 use Rattle.swf_expr.specs.Expr.{Tree}
-use Rattle.swf_jq_eval.specs.declared.vars.Variable.{Variable}
+use Rattle.swf_evaluation.specs.Scopes.{scope_from}
 use Rattle.swf_jq_eval.specs.declared.scope.Scope.{Scope as Names}
 use Rattle.swf_jq_eval.specs.declared.scope.Scope.TheVariants.{Given, Bind'}
 use Rattle.swf_jq_eval.specs.declared.scope.Context.{Context}
-use Rattle.swf_jq_eval.specs.Outputs.{Scope, run}
-use Rattle.swf_jq_eval.specs.Run.{Run}
-
--- the names and values that are given, of which the last of a name counts
-abbrev pub scope_from : List Variable → Scope
-scope_from vs = map (λ x. (x.name, x.value)) (reverse vs)
+use Rattle.swf_evaluation.specs.Outputs.{Scope, run}
+use Rattle.swf_evaluation.specs.Run.{Run}
 
 abbrev pub scope_of : Names → Scope
 scope_of (Given vs) = scope_from vs.now

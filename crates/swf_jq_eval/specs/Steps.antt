@@ -1,12 +1,12 @@
 -- What is done with an output of an expression.
 use Rattle.std.specs.Prelude.{if◌then◌else◌}
-use Rattle.swf_jq_builtins.specs.Operations.{is_true, index_of, parts_of, operate, negated}
-use Rattle.swf_jq_builtins.specs.Builtins.{with_one}
+use Rattle.swf_evaluation.specs.Operations.{is_true, index_of, parts_of, operate, negated}
+use Rattle.swf_evaluation.specs.Builtins.{with_one}
 use Rattle.swf_value.specs.Value.{Value, boolean}
 use Rattle.swf_jq_eval.specs.declared.steps.Step.{Step}
 use Rattle.swf_jq_eval.specs.declared.steps.Step.TheVariants as steps
-use Rattle.swf_jq_eval.specs.Run.{Run, none, raises, turn, made, made_of, answered, spread}
-use Rattle.swf_jq_eval.specs.Outputs.{ranged}
+use Rattle.swf_evaluation.specs.Run.{Run, none, raises, turn, made, made_of, answered, spread}
+use Rattle.swf_evaluation.specs.Outputs.{ranged}
 
 -- whether a value is true
 abbrev pub truth : Value → Run

@@ -1,43 +1,23 @@
 // Evaluation of an expression.
 ghost use Rattle.std.specs.Prelude.{◌≡◌, [], IfOk};
-ghost use Rattle.swf_jq_eval.specs.Outputs.{run};
-ghost use Rattle.swf_jq_eval.specs.Names.{scope_from};
+ghost use Rattle.swf_evaluation.specs.Outputs.{run};
+ghost use Rattle.swf_evaluation.specs.Scopes.{scope_from};
 ghost use Rattle.swf_jq_eval.specs.Goes.{IsAnswer, ending_of};
-ghost use Rattle.swf_jq_eval.specs.Evaluate.{end_for, values_shown, end_shown, first_in, first_shown};
+ghost use Rattle.swf_evaluation.specs.Evaluate.{end_for, values_shown, end_shown, first_in, first_shown};
 
 use crate::forms;
 use crate::outputs::{Ending, Out, Outputs, Stop, is_over};
 use crate::scope::{Context, Scope};
-use crate::vars::{Values, Vars};
 use std::alloc::{AllocError, Global};
+use swf_evaluation::{End, First, Values, Vars};
 use swf_expr::Expr;
 use swf_value::Json;
-
-/// How outputs end.
-#[derive(Drop)]
-pub enum End {
-    Clean,
-    /// With an error.
-    Raised(Json),
-    /// More turns were taken than are allowed.
-    Limit,
-}
 
 /// The outputs of an expression, and how they end.
 #[derive(Drop)]
 pub struct Stream {
     pub values: Values,
     pub end: End,
-}
-
-/// The first output of an expression.
-#[derive(Drop)]
-pub enum First {
-    Value(Json),
-    /// An error, before any output.
-    Raised(Json),
-    /// More turns were taken than are allowed.
-    Limit,
 }
 
 /// What an expression gives for an input.

@@ -1,11 +1,11 @@
 // What the built-in functions give for an input.
 ghost use Rattle.std.specs.Prelude.{◌≡◌, codes, true, false, IfOk};
 ghost use Rattle.swf_expr.specs.ExprNode.{trees_of};
-ghost use Rattle.swf_jq_builtins.specs.Builtins.{plain};
-ghost use Rattle.swf_jq_builtins.specs.Operations.{parts_of};
+ghost use Rattle.swf_evaluation.specs.Builtins.{plain};
+ghost use Rattle.swf_evaluation.specs.Operations.{parts_of};
 ghost use Rattle.swf_jq_builtins.specs.Outcome.{several_of};
-ghost use Rattle.swf_jq_eval.specs.Run.{made, list_with, spread, over, firsts, gathered, across, until};
-ghost use Rattle.swf_jq_eval.specs.Outputs.{run, runs, applied, alone, with_argument, array_of, parts_of_made, rebuilt, rebuilt_from, sorted_by};
+ghost use Rattle.swf_evaluation.specs.Run.{made, list_with, spread, over, firsts, gathered, across, until};
+ghost use Rattle.swf_evaluation.specs.Outputs.{run, runs, applied, alone, with_argument, array_of, parts_of_made, rebuilt, rebuilt_from, sorted_by};
 ghost use Rattle.swf_jq_eval.specs.Names.{names, run_at};
 ghost use Rattle.swf_jq_eval.specs.Goes.{Goes, Comes};
 

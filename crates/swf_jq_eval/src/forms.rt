@@ -1,9 +1,9 @@
 // What each form of an expression gives for an input.
 ghost use Rattle.std.specs.Prelude.{◌≡◌, filter};
 ghost use Rattle.swf_expr.specs.ExprNode.{node_tree};
-ghost use Rattle.swf_jq_builtins.specs.Operations.{is_true};
-ghost use Rattle.swf_jq_eval.specs.Run.{made, followed_by, caught, alternative, gathered, list_with};
-ghost use Rattle.swf_jq_eval.specs.Outputs.{node};
+ghost use Rattle.swf_evaluation.specs.Operations.{is_true};
+ghost use Rattle.swf_evaluation.specs.Run.{made, followed_by, caught, alternative, gathered, list_with};
+ghost use Rattle.swf_evaluation.specs.Outputs.{node};
 ghost use Rattle.swf_jq_eval.specs.Names.{names, run_at};
 ghost use Rattle.swf_jq_eval.specs.Goes.{Goes, Comes};
 

@@ -1,6 +1,6 @@
 // What is done with each output of an expression where other expressions are evaluated for it.
 ghost use Rattle.std.specs.Option.{option_map_or};
-ghost use Rattle.swf_jq_eval.specs.Run.{gives, over};
+ghost use Rattle.swf_evaluation.specs.Run.{gives, over};
 ghost use Rattle.swf_jq_eval.specs.Names.{run_at};
 ghost use Rattle.swf_jq_eval.specs.Goes.{Goes};
 ghost use Rattle.swf_jq_eval.specs.Inner.{inside};

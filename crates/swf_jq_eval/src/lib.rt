@@ -10,7 +10,6 @@ mod outputs;
 mod scope;
 mod search;
 mod steps;
-mod vars;
 
-pub use answer::{End, First, Stream, eval, first_value};
-pub use vars::{Values, Variable, Vars};
+pub use answer::{Stream, eval, first_value};
+pub use swf_evaluation::{End, First, Values, Variable, Vars};

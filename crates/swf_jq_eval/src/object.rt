@@ -2,9 +2,9 @@
 ghost use Rattle.std.specs.Prelude.{◌≡◌, IfOk};
 ghost use Rattle.swf_expr.specs.ExprNode.{pairs_of, value_or_here};
 ghost use Rattle.swf_value.specs.Value.{object, no_members};
-ghost use Rattle.swf_jq_builtins.specs.Operations.{index_of};
-ghost use Rattle.swf_jq_eval.specs.Run.{turn, over, answered, onward};
-ghost use Rattle.swf_jq_eval.specs.Outputs.{run, objects, with_member};
+ghost use Rattle.swf_evaluation.specs.Operations.{index_of};
+ghost use Rattle.swf_evaluation.specs.Run.{turn, over, answered, onward};
+ghost use Rattle.swf_evaluation.specs.Outputs.{run, objects, with_member};
 ghost use Rattle.swf_jq_eval.specs.Names.{names, run_at};
 ghost use Rattle.swf_jq_eval.specs.Chosen.{members_so_far};
 ghost use Rattle.swf_jq_eval.specs.Goes.{Goes, Comes};

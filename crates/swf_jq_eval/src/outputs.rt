@@ -4,12 +4,13 @@ ghost use Rattle.std.specs.Bool.{MatchBool};
 ghost use Rattle.swf_value.specs.Value.{Value, boolean, text};
 ghost use Rattle.swf_text.specs.Same.{is_ascii};
 ghost use Rattle.swf_value.specs.Size.{size};
-ghost use Rattle.swf_jq_builtins.specs.Operations.{Answer};
+ghost use Rattle.swf_evaluation.specs.Operations.{Answer};
 ghost use Rattle.swf_jq_builtins.specs.Outcome.{outcome_of, several_of};
 ghost use Rattle.swf_jq_eval.specs.declared.outputs.Stop.TheVariants.{OutOfMemory, Limit};
 ghost use Rattle.swf_jq_eval.specs.declared.outputs.Out.{Out};
-ghost use Rattle.swf_jq_eval.specs.Run.{Run, gives, raises, each, over, made, made_of, answered, spread};
-ghost use Rattle.swf_jq_eval.specs.Goes.{Goes, Comes, ending_of, limit};
+ghost use Rattle.swf_evaluation.specs.Run.{Run, gives, raises, each, over, made, made_of, answered, spread};
+ghost use Rattle.swf_evaluation.specs.Turns.{limit};
+ghost use Rattle.swf_jq_eval.specs.Goes.{Goes, Comes, ending_of};
 
 use std::alloc::{AllocError, AllocFailed, Global};
 use swf_jq_builtins::{Outcome, Several, error};

@@ -1,14 +1,15 @@
 // The names that stand where an expression is evaluated.
 ghost use Rattle.std.specs.Prelude.{◌≡◌, option_map, unwrap_or};
 ghost use Rattle.swf_value.specs.Value.{null};
-ghost use Rattle.swf_jq_eval.specs.Names.{scope_from, scope_of};
-ghost use Rattle.swf_jq_eval.specs.Outputs.{named};
-ghost use Rattle.swf_jq_eval.specs.Run.{gives};
+ghost use Rattle.swf_evaluation.specs.Scopes.{scope_from};
+ghost use Rattle.swf_jq_eval.specs.Names.{scope_of};
+ghost use Rattle.swf_evaluation.specs.Outputs.{named};
+ghost use Rattle.swf_evaluation.specs.Run.{gives};
 ghost use Rattle.swf_jq_eval.specs.Goes.{Goes};
 
 use crate::outputs::{Ending, Out, Stop, give};
-use crate::vars::Variable;
 use std::alloc::Global;
+use swf_evaluation::Variable;
 use swf_text::{Text, same_texts};
 use swf_value::Json;
 

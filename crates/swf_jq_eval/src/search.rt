@@ -1,11 +1,11 @@
 // What the applications of an expression to several values come to.
 ghost use Rattle.std.specs.Prelude.{◌≡◌, IfOk};
 ghost use Rattle.std.specs.List.{list_any};
-ghost use Rattle.swf_jq_builtins.specs.Builtins.{by_keys};
-ghost use Rattle.swf_jq_builtins.specs.Operations.{is_true};
+ghost use Rattle.swf_evaluation.specs.Builtins.{by_keys};
+ghost use Rattle.swf_evaluation.specs.Operations.{is_true};
 ghost use Rattle.swf_jq_builtins.specs.Outcome.{several_of};
-ghost use Rattle.swf_jq_eval.specs.Run.{clean, gave, spread, over, made, list_with, same_truth, until, ended};
-ghost use Rattle.swf_jq_eval.specs.Outputs.{run, key_by, sorted_by};
+ghost use Rattle.swf_evaluation.specs.Run.{clean, gave, spread, over, made, list_with, same_truth, until, ended};
+ghost use Rattle.swf_evaluation.specs.Outputs.{run, key_by, sorted_by};
 ghost use Rattle.swf_jq_eval.specs.Names.{names, run_at};
 ghost use Rattle.swf_jq_eval.specs.Goes.{Goes, Comes, ending_of};
 

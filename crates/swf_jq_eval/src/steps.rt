@@ -1,9 +1,9 @@
 // What is done with each output of an expression where no other expression is evaluated for it.
 ghost use Rattle.std.specs.Prelude.{◌≡◌};
-ghost use Rattle.swf_jq_builtins.specs.Builtins.{with_one};
-ghost use Rattle.swf_jq_builtins.specs.Operations.{index_of};
-ghost use Rattle.swf_jq_eval.specs.Run.{turn, made_of, answered, over};
-ghost use Rattle.swf_jq_eval.specs.Outputs.{ranged};
+ghost use Rattle.swf_evaluation.specs.Builtins.{with_one};
+ghost use Rattle.swf_evaluation.specs.Operations.{index_of};
+ghost use Rattle.swf_evaluation.specs.Run.{turn, made_of, answered, over};
+ghost use Rattle.swf_evaluation.specs.Outputs.{ranged};
 ghost use Rattle.swf_jq_eval.specs.Names.{run_at};
 ghost use Rattle.swf_jq_eval.specs.Goes.{Goes};
 ghost use Rattle.swf_jq_eval.specs.Steps.{taken};

@@ -1,7 +1,7 @@
 -- What the tasks inside a task see besides what it sees itself (DSL reference, "For" and "Catch").
 use Rattle.std.specs.Prelude.{◌+◌, ℕ, pos, List, [], ◌∷◌, ◌++◌, slice_get, Option, Some, None}
 use Rattle.swf_value.specs.Value.{Value, int}
-use Rattle.swf_jq_eval.specs.declared.vars.Variable.{Variable}
+use Rattle.swf_evaluation.specs.declared.vars.Variable.{Variable}
 use Rattle.swf_document.specs.Errors.{problem_value}
 use Rattle.swf_document.specs.Task.{Task, Kind, Loop}
 use Rattle.swf_document.specs.declared.error.Problem.{Problem}

@@ -9,7 +9,7 @@ use Rattle.swf_calls.specs.declared.headers.Header.{Header}
 use Rattle.swf_calls.specs.declared.reply.CallReply.{CallReply}
 use Rattle.swf_calls.specs.declared.reply.CallReply.TheVariants as replies
 use Rattle.swf_expr.specs.Expr.{Tree}
-use Rattle.swf_jq_eval.specs.declared.vars.Variable.{Variable}
+use Rattle.swf_evaluation.specs.declared.vars.Variable.{Variable}
 use Rattle.swf_document.specs.Errors.{standard}
 use Rattle.swf_document.specs.Task.{Task}
 use Rattle.swf_document.specs.Template.{Template}
@@ -19,8 +19,8 @@ use Rattle.swf_document.specs.declared.call.HttpSpec.{HttpSpec}
 use Rattle.swf_document.specs.declared.error.ErrorKind.TheVariants as kinds
 use Rattle.swf_document.specs.declared.error.Problem.{Problem}
 use Rattle.swf_document.specs.declared.template.Field.{Field}
-use Rattle.swf_transform.specs.Fill.{fill, first_of}
-use Rattle.swf_transform.specs.Uris.{uri_of, with_query}
+use Rattle.swf_templates.specs.Fill.{fill, first_of}
+use Rattle.swf_templates.specs.Uris.{uri_of, with_query}
 use Rattle.swf_meaning.specs.Complete.{Stepped, becomes, complete}
 use Rattle.swf_meaning.specs.Emit.{next_id}
 use Rattle.swf_meaning.specs.Line.{Line, Site, within}

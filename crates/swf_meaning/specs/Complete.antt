@@ -2,15 +2,15 @@
 use Rattle.std.specs.Prelude.{ℕ, List, Bool, Option, Some, None, Result, Ok, Err, codes, if◌then◌else◌}
 use Rattle.swf_expr.specs.Expr.{Tree}
 use Rattle.swf_value.specs.Value.{Value}
-use Rattle.swf_jq_builtins.specs.Operations.{is_true}
-use Rattle.swf_jq_eval.specs.declared.vars.Variable.{Variable}
+use Rattle.swf_evaluation.specs.Operations.{is_true}
+use Rattle.swf_evaluation.specs.declared.vars.Variable.{Variable}
 use Rattle.swf_cloudevents.specs.declared.event.Event.{Event}
 use Rattle.swf_document.specs.Task.{Task}
 use Rattle.swf_document.specs.Template.{Template}
 use Rattle.swf_document.specs.declared.common.Flow.{Flow}
 use Rattle.swf_document.specs.declared.error.ErrorKind.TheVariants as kinds
 use Rattle.swf_document.specs.declared.error.Problem.{Problem}
-use Rattle.swf_transform.specs.Fill.{fill, first_of, transformed, is_within}
+use Rattle.swf_templates.specs.Fill.{fill, first_of, transformed, is_within}
 use Rattle.swf_meaning.specs.Line.{Line, before, within, behind}
 use Rattle.swf_meaning.specs.Node.{Node, Done, Fault, Running}
 use Rattle.swf_meaning.specs.Parts.{common_of}

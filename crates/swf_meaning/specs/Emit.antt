@@ -8,7 +8,7 @@ use Rattle.swf_cloudevents.specs.declared.event.Event.{Event}
 use Rattle.swf_document.specs.Template.{Template}
 use Rattle.swf_document.specs.declared.error.ErrorKind.TheVariants as kinds
 use Rattle.swf_document.specs.declared.error.Problem.{Problem}
-use Rattle.swf_transform.specs.Fill.{fill}
+use Rattle.swf_templates.specs.Fill.{fill}
 use Rattle.swf_meaning.specs.Complete.{Stepped, step_of, complete}
 use Rattle.swf_meaning.specs.Line.{Line, Site, within}
 use Rattle.swf_meaning.specs.Node.{Running}

@@ -8,7 +8,7 @@ use Rattle.swf_document.specs.declared.call.Callee.{Callee}
 use Rattle.swf_document.specs.declared.call.Callee.TheVariants as callees
 use Rattle.swf_document.specs.declared.common.Flow.TheVariants as flows
 use Rattle.swf_document.specs.declared.error.Problem.{Problem}
-use Rattle.swf_transform.specs.Fill.{fill}
+use Rattle.swf_templates.specs.Fill.{fill}
 use Rattle.swf_meaning.specs.Call.{calling_http}
 use Rattle.swf_meaning.specs.Complete.{Stepped, becomes, asked, input_of, complete}
 use Rattle.swf_meaning.specs.Emit.{emitting}

@@ -5,7 +5,7 @@ use Rattle.swf_value.specs.Value.{Value, list}
 use Rattle.swf_document.specs.Task.{Loop}
 use Rattle.swf_document.specs.declared.error.ErrorKind.TheVariants as kinds
 use Rattle.swf_document.specs.declared.error.Problem.{Problem}
-use Rattle.swf_transform.specs.Fill.{first_of}
+use Rattle.swf_templates.specs.Fill.{first_of}
 use Rattle.swf_meaning.specs.Complete.{Stepped}
 use Rattle.swf_meaning.specs.Line.{Line, within}
 use Rattle.swf_meaning.specs.Lists.{iteration}

@@ -9,7 +9,7 @@ use Rattle.swf_document.specs.declared.document.Document.{Document}
 use Rattle.swf_document.specs.declared.error.ErrorKind.TheVariants as kinds
 use Rattle.swf_document.specs.declared.error.Problem.{Problem}
 use Rattle.swf_document.specs.declared.run.RunSpec.{RunSpec}
-use Rattle.swf_transform.specs.Fill.{transformed}
+use Rattle.swf_templates.specs.Fill.{transformed}
 use Rattle.swf_meaning.specs.Complete.{Stepped, becomes}
 use Rattle.swf_meaning.specs.Documents.{document_at, resolved}
 use Rattle.swf_meaning.specs.Line.{Line, Site, within}

@@ -4,8 +4,8 @@ use Rattle.std.specs.List.{list_any}
 use Rattle.swf_value.specs.Members.{at, put}
 use Rattle.swf_value.specs.Node.{items_of}
 use Rattle.swf_value.specs.Value.{Value, null, text, list, Members, no_members}
-use Rattle.swf_jq_builtins.specs.Operations.{is_same}
-use Rattle.swf_jq_eval.specs.declared.vars.Variable.{Variable}
+use Rattle.swf_evaluation.specs.Operations.{is_same}
+use Rattle.swf_evaluation.specs.declared.vars.Variable.{Variable}
 use Rattle.swf_cloudevents.specs.Event.{event_value}
 use Rattle.swf_cloudevents.specs.declared.event.Event.{Event}
 use Rattle.swf_cloudevents.specs.declared.event.Payload.{Payload}
@@ -19,8 +19,8 @@ use Rattle.swf_document.specs.declared.event.Filter.{Filter}
 use Rattle.swf_document.specs.declared.event.ListenMode.{ListenMode}
 use Rattle.swf_document.specs.declared.event.ListenMode.TheVariants.{One, Any, All}
 use Rattle.swf_document.specs.declared.event.ListenSpec.{ListenSpec}
-use Rattle.swf_transform.specs.Fill.{fill}
-use Rattle.swf_transform.specs.Filter.{correlated}
+use Rattle.swf_templates.specs.Fill.{fill}
+use Rattle.swf_templates.specs.Filter.{correlated}
 use Rattle.swf_meaning.specs.Complete.{Stepped, becomes, complete}
 use Rattle.swf_meaning.specs.Line.{Line, within}
 use Rattle.swf_meaning.specs.Node.{Live, Hear, Running}

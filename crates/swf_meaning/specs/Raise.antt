@@ -3,7 +3,7 @@ use Rattle.std.specs.Prelude.{ℕ, List, [], ◌∷◌, Option, Some, None, Resu
 use Rattle.swf_text.specs.Same.{same}
 use Rattle.swf_text.specs.Pointer.{pointer}
 use Rattle.swf_value.specs.Value.{Value, text}
-use Rattle.swf_jq_eval.specs.declared.vars.Variable.{Variable}
+use Rattle.swf_evaluation.specs.declared.vars.Variable.{Variable}
 use Rattle.swf_document.specs.Task.{Task}
 use Rattle.swf_document.specs.Template.{Template}
 use Rattle.swf_document.specs.declared.document.NamedError.{NamedError}
@@ -12,7 +12,7 @@ use Rattle.swf_document.specs.declared.error.ErrorRef.TheVariants as refs
 use Rattle.swf_document.specs.declared.error.ErrorSpec.{ErrorSpec}
 use Rattle.swf_document.specs.declared.error.ErrorKind.TheVariants as kinds
 use Rattle.swf_document.specs.declared.error.Problem.{Problem}
-use Rattle.swf_transform.specs.Fill.{fill}
+use Rattle.swf_templates.specs.Fill.{fill}
 use Rattle.swf_meaning.specs.Complete.{Stepped}
 use Rattle.swf_meaning.specs.Line.{Line, within}
 use Rattle.swf_meaning.specs.Node.{Running}

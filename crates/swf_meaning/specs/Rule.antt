@@ -5,9 +5,9 @@ use Rattle.swf_document.specs.Task.{Task}
 use Rattle.swf_document.specs.declared.error.ErrorKind.{ErrorKind}
 use Rattle.swf_document.specs.declared.error.ErrorKind.TheVariants as kinds
 use Rattle.swf_document.specs.declared.error.Problem.{Problem}
-use Rattle.swf_transform.specs.Fill.{message}
-use Rattle.swf_transform.specs.declared.got.Got.{Got}
-use Rattle.swf_transform.specs.declared.got.Got.TheVariants as gots
+use Rattle.swf_templates.specs.Fill.{message}
+use Rattle.swf_templates.specs.declared.got.Got.{Got}
+use Rattle.swf_templates.specs.declared.got.Got.TheVariants as gots
 use Rattle.swf_meaning.specs.Parts.{place_of}
 
 infixl 10 ◌>>=◌

@@ -3,7 +3,7 @@ use Rattle.std.specs.Prelude.{◌+◌, ℕ, zero, List, [], ◌∷◌, Bool, tru
 use Rattle.swf_text.specs.Same.{same}
 use Rattle.swf_expr.specs.Expr.{Tree}
 use Rattle.swf_value.specs.Value.{Value}
-use Rattle.swf_jq_eval.specs.declared.vars.Variable.{Variable}
+use Rattle.swf_evaluation.specs.declared.vars.Variable.{Variable}
 use Rattle.swf_document.specs.Errors.{matches, problem_value}
 use Rattle.swf_document.specs.Task.{Task, Handler, no_handler, handler, Catch as CatchSpec}
 use Rattle.swf_document.specs.declared.document.NamedRetry.{NamedRetry}

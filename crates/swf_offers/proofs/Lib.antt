@@ -5,3 +5,4 @@ pub mod CallLemmas
 pub mod OpenLemmas
 pub mod AnswerLemmas
 pub mod AnsweredLemmas
+pub mod ListenLemmas

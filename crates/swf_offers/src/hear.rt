@@ -5,12 +5,13 @@ ghost use Rattle.swf_meaning.specs.Parts.{kind_of, listen_in};
 ghost use Rattle.swf_offers.specs.Offers.{IsOffered};
 ghost use Rattle.swf_stack.specs.Stack.{top_node};
 
+use crate::listening::takes;
 use std::alloc::{AllocError, Global};
 use swf_catalog::{TaskRef, Work};
 use swf_cloudevents::NamedValues;
 use swf_document::Listing;
 use swf_meaning::Heard;
-use swf_stack::{Top, takes};
+use swf_stack::Top;
 use swf_transform::Offer;
 
 // What a task has bound after an event that it takes, and the event with the place of its filter.

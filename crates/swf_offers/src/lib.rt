@@ -5,6 +5,7 @@ mod answer;
 mod calls;
 mod event_types;
 mod hear;
+mod listening;
 mod offer;
 
 pub use answer::{answer_in, is_open_in};

@@ -1,3 +1,2 @@
 pub mod ListenLemmas
-pub mod EmitLemmas
 pub mod ForkLemmas

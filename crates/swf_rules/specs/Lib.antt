@@ -1,4 +1,3 @@
-pub mod Rules
 pub mod Goals
 pub mod Verdicts
 pub mod Settles

@@ -1,7 +1,6 @@
 //! The rules of the tasks: what each kind of task does, and where control goes.
 #![tactic(auto)]
 
-mod completion;
 mod emit;
 mod for_;
 mod fork;
@@ -9,11 +8,16 @@ mod listen;
 mod lists;
 mod next;
 mod raise;
-mod rule;
 mod switch;
 mod try_;
 mod wait;
 
-pub use completion::{becoming, finished, input_of, step_of};
+pub use emit::emitting;
+pub use for_::looping;
+pub use fork::{forking, settled};
+pub use listen::{heard, listening};
+pub use lists::comes_to;
 pub use next::{failed, moved_on};
-pub use rule::Rule;
+pub use raise::raising;
+pub use switch::switched;
+pub use wait::{waiting, woken};

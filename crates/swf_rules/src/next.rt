@@ -5,16 +5,17 @@ ghost use Rattle.swf_meaning.specs.Lists.{workflow_ended};
 ghost use Rattle.swf_meaning.specs.Next.{next, ended};
 ghost use Rattle.swf_meaning.specs.Local.{moved_on, failed};
 ghost use Rattle.swf_rules.specs.Goals.{goal_of};
-ghost use Rattle.swf_rules.specs.Rules.{line_in};
+ghost use Rattle.swf_rule.specs.Rules.{line_in};
 ghost use Rattle.swf_scene.specs.Halts.{Makes};
 ghost use Rattle.swf_catalog.specs.Rounds.{round_of};
 ghost use Rattle.swf_scene.specs.Setting.{line_of, site_of};
 
-use crate::completion::finished;
-use crate::rule::Rule;
+use crate::lists::{comes_to, list_ended};
+use crate::try_::caught;
 use std::alloc::Global;
 use swf_catalog::{Round, Work, place_of};
 use swf_document::{Flow, Named, Problem};
+use swf_rule::{Rule, finished};
 use swf_scene::{Halt, Scene};
 use swf_stack::{Frame, Made};
 use swf_value::Json;
@@ -43,28 +44,26 @@ fn next(tasks: &[Named], place: usize, flow: &Flow) -> Goal
     }
 }
 
-impl Rule<'_> {
-    // `end` passes over the tasks around; of the workflow `output.as` is applied.
-    fn ended(&self, output: Json) -> Result<Made, Halt>
-        ensures { Makes (line_in self.now) (ended (line_in self.now) self.now.running.now output) result }
-    {
-        let output = if self.running.task().is_workflow() {
-            self.output_of(output)?
-        } else {
-            output
-        };
-        Ok(finished(self.alloc, output, Flow::End)?)
-    }
+// `end` passes over the tasks around; of the workflow `output.as` is applied.
+fn ended(rule: &Rule, output: Json) -> Result<Made, Halt>
+    ensures { Makes (line_in rule.now) (ended (line_in rule.now) rule.now.running.now output) result }
+{
+    let output = if rule.running.task().is_workflow() {
+        rule.output_of(output)?
+    } else {
+        output
+    };
+    Ok(finished(rule.alloc, output, Flow::End)?)
+}
 
-    // The workflow ends: of a sub-workflow the task that runs it is complete.
-    fn workflow_ended(&self, round: &Round, output: Json) -> Result<Made, Halt>
-        ensures { Makes (line_in self.now) (workflow_ended (line_in self.now) self.now.running.now (round_of round.now) output) result }
-    {
-        match round {
-            Round::SubWorkflow(_) => self.complete(output),
-            Round::Seq | Round::Each(_) | Round::Try { .. } | Round::Catch(_) | Round::Function =>
-                self.ended(output),
-        }
+// The workflow ends: of a sub-workflow the task that runs it is complete.
+fn workflow_ended(rule: &Rule, round: &Round, output: Json) -> Result<Made, Halt>
+    ensures { Makes (line_in rule.now) (workflow_ended (line_in rule.now) rule.now.running.now (round_of round.now) output) result }
+{
+    match round {
+        Round::SubWorkflow(_) => rule.complete(output),
+        Round::Seq | Round::Each(_) | Round::Try { .. } | Round::Catch(_) | Round::Function =>
+            ended(rule, output),
     }
 }
 
@@ -87,9 +86,9 @@ pub fn moved_on<'s>(
     };
     let output = output.copy()?;
     match next(running.task().named(round), frame.place, flow) {
-        Goal::Place(place) => rule.comes_to(round.copy()?, place, output),
-        Goal::ListEnd => rule.list_ended(round.copy()?, output),
-        Goal::WorkflowEnd => rule.workflow_ended(round, output),
+        Goal::Place(place) => comes_to(&rule, round.copy()?, place, output),
+        Goal::ListEnd => list_ended(&rule, round.copy()?, output),
+        Goal::WorkflowEnd => workflow_ended(&rule, round, output),
     }
 }
 
@@ -109,7 +108,7 @@ pub fn failed<'s>(
         vars: None,
     };
     match (&frame.round, rule.running.task().work()) {
-        (Round::Try { retries }, Work::Try(spec)) => rule.caught(*retries, problem, spec),
+        (Round::Try { retries }, Work::Try(spec)) => caught(&rule, *retries, problem, spec),
         _ => Err(Halt::Fault(problem.copy()?)),
     }
 }

@@ -2,12 +2,13 @@
 ghost use Rattle.std.specs.Prelude.{◌≡◌, IfOk, option_map};
 ghost use Rattle.swf_document.specs.TaskNode.{handler_of};
 ghost use Rattle.swf_meaning.specs.Try.{allows, retry_named, unless, conditions, is_retried, or_unknown, policy_of, policy_sees, untried, retried, verdict, by_verdict, caught};
-ghost use Rattle.swf_rules.specs.Rules.{line_in, site_in};
+ghost use Rattle.swf_rule.specs.Rules.{line_in, site_in};
 ghost use Rattle.swf_rules.specs.Verdicts.{verdict_of, Finds};
 ghost use Rattle.swf_scene.specs.Halts.{Gives, Makes};
 ghost use Rattle.swf_catalog.specs.TaskRef.{catch_of};
 
-use crate::rule::Rule;
+use crate::lists::comes_to;
+use crate::wait::later;
 use std::alloc::AllocError;
 use swf_catalog::Round;
 use swf_document::{
@@ -15,6 +16,7 @@ use swf_document::{
 };
 use swf_expr::Expr;
 use swf_jq_eval::Vars;
+use swf_rule::Rule;
 use swf_scene::{Halt, catching, retrying};
 use swf_stack::Made;
 use swf_text::{Text, same_texts};
@@ -65,130 +67,133 @@ fn untried(spec: &TrySpec, has_policy: bool) -> Verdict
     }
 }
 
-impl Rule<'_> {
-    // Whether an `exceptWhen` is false or absent.
-    fn unless(&self, vars: &Vars, except: Option<&Expr>) -> Result<bool, Halt>
-        ensures { Gives (unless self.now.running.now.task vars.now self.now.running.now.input (option_map (λ e. e.now) except.entry)) result }
-    {
-        match except {
-            None => Ok(true),
-            Some(condition) => Ok(!self.asked(vars, self.running.input(), condition)?),
-        }
+// Whether an `exceptWhen` is false or absent.
+fn unless(rule: &Rule, vars: &Vars, except: Option<&Expr>) -> Result<bool, Halt>
+    ensures { Gives (unless rule.now.running.now.task vars.now rule.now.running.now.input (option_map (λ e. e.now) except.entry)) result }
+{
+    match except {
+        None => Ok(true),
+        Some(condition) => Ok(!rule.asked(vars, rule.running.input(), condition)?),
     }
+}
 
-    // Whether a `when` is true or absent, and an `exceptWhen` false or absent.
-    fn conditions(
-        &self,
-        vars: &Vars,
-        when: Option<&Expr>,
-        except: Option<&Expr>,
-    ) -> Result<bool, Halt>
-        ensures { Gives (conditions self.now.running.now.task vars.now self.now.running.now.input (option_map (λ e. e.now) when.entry) (option_map (λ e. e.now) except.entry)) result }
-    {
-        match when {
-            None => self.unless(vars, except),
-            Some(condition) => {
-                if self.asked(vars, self.running.input(), condition)? {
-                    self.unless(vars, except)
-                } else {
-                    Ok(false)
-                }
+// Whether a `when` is true or absent, and an `exceptWhen` false or absent.
+fn conditions(
+    rule: &Rule,
+    vars: &Vars,
+    when: Option<&Expr>,
+    except: Option<&Expr>,
+) -> Result<bool, Halt>
+    ensures { Gives (conditions rule.now.running.now.task vars.now rule.now.running.now.input (option_map (λ e. e.now) when.entry) (option_map (λ e. e.now) except.entry)) result }
+{
+    match when {
+        None => unless(rule, vars, except),
+        Some(condition) => {
+            if rule.asked(vars, rule.running.input(), condition)? {
+                unless(rule, vars, except)
+            } else {
+                Ok(false)
             }
         }
     }
+}
 
-    // Whether a policy allows one more retry after so many.
-    fn is_retried(&self, vars: &Vars, retries: u64, policy: &RetryPolicy) -> Result<bool, Halt>
-        ensures { Gives (is_retried self.now.running.now.task vars.now self.now.running.now.input retries policy.now) result }
-    {
-        if !allows(policy, retries) {
-            return Ok(false);
-        }
-        self.conditions(vars, unboxed(&policy.cond), unboxed(&policy.except))
+// Whether a policy allows one more retry after so many.
+fn is_retried(rule: &Rule, vars: &Vars, retries: u64, policy: &RetryPolicy) -> Result<bool, Halt>
+    ensures { Gives (is_retried rule.now.running.now.task vars.now rule.now.running.now.input retries policy.now) result }
+{
+    if !allows(policy, retries) {
+        return Ok(false);
     }
+    conditions(rule, vars, unboxed(&policy.cond), unboxed(&policy.except))
+}
 
-    // The policy, which is written there or has a name in the document.
-    fn policy_of<'p>(&'p self, reference: &'p RetryRef) -> Option<&'p RetryPolicy>
-        ensures { or_unknown self.now.running.now.task (option_map (λ q. q.now) result) ≡ policy_of (line_in self.now) self.now.running.now reference.now }
-    {
-        match reference {
-            RetryRef::Written(policy) => Some(policy),
-            RetryRef::Named(name) => {
-                let document = self.scene.setting.document.get().document();
-                retry_named(name, document.retries.as_slice())
-            }
-        }
-    }
-
-    // What the conditions of the policy see.
-    fn policy_sees(&self, problem: &Problem, reference: &RetryRef) -> Result<Vars, AllocError>
-        ensures { IfOk result (λ r. r ≡ policy_sees (line_in self.now) self.now.running.now problem.now reference.now) }
-    {
-        match reference {
-            RetryRef::Written(_) => catching(self.alloc, self.scene, self.running, problem),
-            RetryRef::Named(_) => retrying(self.alloc, self.scene, self.running, problem),
+// The policy, which is written there or has a name in the document.
+fn policy_of<'p>(rule: &'p Rule, reference: &'p RetryRef) -> Option<&'p RetryPolicy>
+    ensures { or_unknown rule.now.running.now.task (option_map (λ q. q.now) result) ≡ policy_of (line_in rule.now) rule.now.running.now reference.now }
+{
+    match reference {
+        RetryRef::Written(policy) => Some(policy),
+        RetryRef::Named(name) => {
+            let document = rule.scene.setting.document.get().document();
+            retry_named(name, document.retries.as_slice())
         }
     }
+}
 
-    // What is done about an error that was caught after so many retries.
-    fn retried(&self, retries: u64, problem: &Problem, spec: &TrySpec) -> Result<Verdict, Halt>
-        ensures { Finds (retried (line_in self.now) self.now.running.now retries problem.now (handler_of spec.now.handler) spec.now.retry) result }
-    {
-        let Some(reference) = &spec.retry else {
-            return Ok(untried(spec, false));
-        };
-        let reference = reference.get();
-        let Some(policy) = self.policy_of(reference) else {
-            return Err(self.fails(ErrorKind::Configuration, "unknown retry"));
-        };
-        let vars = self.policy_sees(problem, reference)?;
-        if self.is_retried(&vars, retries, policy)? {
-            Ok(Verdict::Again(policy.delay))
-        } else {
-            Ok(untried(spec, true))
-        }
+// What the conditions of the policy see.
+fn policy_sees(rule: &Rule, problem: &Problem, reference: &RetryRef) -> Result<Vars, AllocError>
+    ensures { IfOk result (λ r. r ≡ policy_sees (line_in rule.now) rule.now.running.now problem.now reference.now) }
+{
+    match reference {
+        RetryRef::Written(_) => catching(rule.alloc, rule.scene, rule.running, problem),
+        RetryRef::Named(_) => retrying(rule.alloc, rule.scene, rule.running, problem),
     }
+}
 
-    // An error of the list after so many retries is caught where the filter matches and the conditions hold.
-    fn verdict(&self, retries: u64, problem: &Problem, spec: &TrySpec) -> Result<Verdict, Halt>
-        ensures { Finds (verdict (line_in self.now) self.now.running.now retries problem.now (catch_of spec.now) (handler_of spec.now.handler)) result }
-    {
-        if !matches_filter(spec.errors.get(), problem) {
-            return Ok(Verdict::Pass);
-        }
-        let vars = catching(self.alloc, self.scene, self.running, problem)?;
-        if self.conditions(&vars, unboxed(&spec.cond), unboxed(&spec.except))? {
-            self.retried(retries, problem, spec)
-        } else {
-            Ok(Verdict::Pass)
-        }
+// What is done about an error that was caught after so many retries.
+fn retried(rule: &Rule, retries: u64, problem: &Problem, spec: &TrySpec) -> Result<Verdict, Halt>
+    ensures { Finds (retried (line_in rule.now) rule.now.running.now retries problem.now (handler_of spec.now.handler) spec.now.retry) result }
+{
+    let Some(reference) = &spec.retry else {
+        return Ok(untried(spec, false));
+    };
+    let reference = reference.get();
+    let Some(policy) = policy_of(rule, reference) else {
+        return Err(rule.fails(ErrorKind::Configuration, "unknown retry"));
+    };
+    let vars = policy_sees(rule, problem, reference)?;
+    if is_retried(rule, &vars, retries, policy)? {
+        Ok(Verdict::Again(policy.delay))
+    } else {
+        Ok(untried(spec, true))
     }
+}
 
-    // What a verdict leads to.
-    fn by_verdict(&self, retries: u64, problem: &Problem, verdict: Verdict) -> Result<Made, Halt>
-        ensures { Makes (line_in self.now) (by_verdict (site_in self.now) (line_in self.now) self.now.running.now retries problem.now (verdict_of verdict)) result }
-    {
-        match verdict {
-            Verdict::Pass | Verdict::Stay => Err(Halt::Fault(problem.copy()?)),
-            Verdict::Again(delay) => self.later(retries, delay),
-            Verdict::Handle => {
-                let round = Round::Catch(problem.copy()?);
-                self.comes_to(round, 0, self.running.input().copy()?)
-            }
-            Verdict::Give => self.complete(self.running.input().copy()?),
-        }
+// An error of the list after so many retries is caught where the filter matches and the conditions hold.
+fn find_verdict(
+    rule: &Rule,
+    retries: u64,
+    problem: &Problem,
+    spec: &TrySpec,
+) -> Result<Verdict, Halt>
+    ensures { Finds (verdict (line_in rule.now) rule.now.running.now retries problem.now (catch_of spec.now) (handler_of spec.now.handler)) result }
+{
+    if !matches_filter(spec.errors.get(), problem) {
+        return Ok(Verdict::Pass);
     }
+    let vars = catching(rule.alloc, rule.scene, rule.running, problem)?;
+    if conditions(rule, &vars, unboxed(&spec.cond), unboxed(&spec.except))? {
+        retried(rule, retries, problem, spec)
+    } else {
+        Ok(Verdict::Pass)
+    }
+}
 
-    /// An error of the list of a `try` after so many retries.
-    pub(crate) fn caught(
-        &self,
-        retries: u64,
-        problem: &Problem,
-        spec: &TrySpec,
-    ) -> Result<Made, Halt>
-        ensures { Makes (line_in self.now) (caught (site_in self.now) (line_in self.now) self.now.running.now retries problem.now (catch_of spec.now) (handler_of spec.now.handler)) result }
-    {
-        let verdict = self.verdict(retries, problem, spec)?;
-        self.by_verdict(retries, problem, verdict)
+// What a verdict leads to.
+fn by_verdict(rule: &Rule, retries: u64, problem: &Problem, verdict: Verdict) -> Result<Made, Halt>
+    ensures { Makes (line_in rule.now) (by_verdict (site_in rule.now) (line_in rule.now) rule.now.running.now retries problem.now (verdict_of verdict)) result }
+{
+    match verdict {
+        Verdict::Pass | Verdict::Stay => Err(Halt::Fault(problem.copy()?)),
+        Verdict::Again(delay) => later(rule, retries, delay),
+        Verdict::Handle => {
+            let round = Round::Catch(problem.copy()?);
+            comes_to(rule, round, 0, rule.running.input().copy()?)
+        }
+        Verdict::Give => rule.complete(rule.running.input().copy()?),
     }
+}
+
+/// An error of the list of a `try` after so many retries.
+pub(crate) fn caught(
+    rule: &Rule,
+    retries: u64,
+    problem: &Problem,
+    spec: &TrySpec,
+) -> Result<Made, Halt>
+    ensures { Makes (line_in rule.now) (caught (site_in rule.now) (line_in rule.now) rule.now.running.now retries problem.now (catch_of spec.now) (handler_of spec.now.handler)) result }
+{
+    let verdict = find_verdict(rule, retries, problem, spec)?;
+    by_verdict(rule, retries, problem, verdict)
 }

@@ -24,7 +24,7 @@ use Rattle.swf_document.specs.declared.error.ErrorKind.TheVariants as kinds
 use Rattle.swf_document.specs.declared.error.Problem.{Problem}
 use Rattle.swf_document.specs.declared.event.ListenSpec.{ListenSpec}
 use Rattle.swf_document.specs.declared.run.RunSpec.{RunSpec}
-use Rattle.swf_transform.specs.Fill.{fill, first_of, is_within}
+use Rattle.swf_templates.specs.Fill.{fill, first_of, is_within}
 use Rattle.swf_meaning.specs.Around.{seen}
 use Rattle.swf_meaning.specs.Call.{requested, awaits, is_answered, response_value, communication, answered, answered_by, replied}
 use Rattle.swf_meaning.specs.Complete.{Stepped, becomes, step_of, asked, input_of, output_of, finished, exported, complete_by, complete}

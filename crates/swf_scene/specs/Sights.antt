@@ -1,6 +1,6 @@
 -- The variables that expressions see.
 use Rattle.std.specs.Prelude.{List}
-use Rattle.swf_jq_eval.specs.declared.vars.Variable.{Variable}
+use Rattle.swf_evaluation.specs.declared.vars.Variable.{Variable}
 use Rattle.swf_scene.specs.declared.sight.Sight.{Sight}
 use Rattle.swf_scene.specs.declared.sight.Sight.TheVariants as sights
 

@@ -1,4 +1,3 @@
 pub mod RoundLemmas
 pub mod StandLemmas
-pub mod HeardLemmas
 pub mod Sends

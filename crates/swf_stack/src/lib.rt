@@ -8,7 +8,7 @@ mod made;
 mod running;
 
 pub use crossing::stand_crosses;
-pub use heard::{events_of, is_heard, takes};
+pub use heard::{events_of, is_heard, is_satisfied};
 pub use kept::{Kept, keep};
 pub use made::{Frame, Made, SentEvent, Stand, Top};
 pub use running::Running;

@@ -6,7 +6,7 @@ ghost use Rattle.std.specs.Prelude.{Ok};
 ghost use Rattle.swf_meaning.specs.Node.{Done};
 ghost use Rattle.swf_meaning.specs.Complete.{becomes};
 ghost use Rattle.swf_meaning.specs.Enter.{begun, guarded, enter};
-ghost use Rattle.swf_rules.specs.Rules.{line_in, site_in};
+ghost use Rattle.swf_rule.specs.Rules.{line_in, site_in};
 ghost use Rattle.swf_scene.specs.Halts.{Makes};
 ghost use Rattle.swf_scene.specs.Setting.{line_of, site_of};
 
@@ -14,7 +14,8 @@ use std::alloc::Global;
 use swf_activities::{calling, calling_http, running};
 use swf_catalog::{Round, TaskRef, Work};
 use swf_document::{Callee, Flow, Template};
-use swf_rules::{Rule, finished, input_of};
+use swf_rule::{Rule, finished, input_of};
+use swf_rules::{comes_to, emitting, forking, listening, looping, raising, switched, waiting};
 use swf_scene::{Halt, Scene, within};
 use swf_stack::{Made, Running};
 use swf_value::Json;
@@ -35,17 +36,17 @@ fn begun(rule: &Rule) -> Result<Made, Halt>
     match rule.running.task().work() {
         Work::Call(Callee::Http(spec)) => calling_http(rule, spec.get()),
         Work::Call(Callee::Function { name, with }) => calling(rule, name, with.as_ref()),
-        Work::Do(_) => rule.comes_to(Round::Seq, 0, input.copy()?),
-        Work::Emit(template) => rule.emitting(template),
-        Work::For(spec) => rule.looping(spec),
-        Work::Fork(spec) => rule.forking(spec),
-        Work::Listen(spec) => rule.listening(spec),
-        Work::Raise(reference) => rule.raising(reference),
+        Work::Do(_) => comes_to(rule, Round::Seq, 0, input.copy()?),
+        Work::Emit(template) => emitting(rule, template),
+        Work::For(spec) => looping(rule, spec),
+        Work::Fork(spec) => forking(rule, spec),
+        Work::Listen(spec) => listening(rule, spec),
+        Work::Raise(reference) => raising(rule, reference),
         Work::Run(spec) => running(rule, spec),
         Work::Set(template) => set_value(rule, template),
-        Work::Switch(cases) => rule.switched(cases.as_slice()),
-        Work::Try(_) => rule.comes_to(Round::Try { retries: 0 }, 0, input.copy()?),
-        Work::Wait(duration) => rule.waiting(duration),
+        Work::Switch(cases) => switched(rule, cases.as_slice()),
+        Work::Try(_) => comes_to(rule, Round::Try { retries: 0 }, 0, input.copy()?),
+        Work::Wait(duration) => waiting(rule, duration),
     }
 }
 

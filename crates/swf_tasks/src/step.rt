@@ -21,7 +21,8 @@ use std::alloc::{AllocError, Global};
 use swf_activities::answered;
 use swf_chain::Chain;
 use swf_frames::{Forest, StrandId};
-use swf_rules::{Rule, failed, moved_on};
+use swf_rule::Rule;
+use swf_rules::{failed, moved_on, woken};
 use swf_scene::{Halt, Scene};
 use swf_stack::{Frame, Made, Running, Stand, Top, keep};
 use swf_strands::{child_of, named, stand_of};
@@ -83,7 +84,7 @@ fn settle<'s>(
     let made = match given {
         Ok(None) => return Ok(prepared),
         Ok(Some(made)) => made,
-        Err(halt) => swf_rules::step_of(alloc, Err(halt))?,
+        Err(halt) => swf_rule::step_of(alloc, Err(halt))?,
     };
     let kept = keep(alloc, around, made.context)?;
     let stand = Stand::inside(alloc, kept.around, made.frame, made.top)?;
@@ -108,7 +109,7 @@ fn settled<'s>(
         running,
         vars: None,
     };
-    rule.settled(running.task().competes(), ended, all)
+    swf_rules::settled(&rule, running.task().competes(), ended, all)
 }
 
 // What the strand ended in that so many branch numbers lead to, where it is the one that is put anew and it ended.
@@ -237,7 +238,7 @@ fn next_of<'s>(alloc: Global, scene: Scene<'s>, stand: &'s Stand) -> Result<Made
 {
     let scene = scene.inside(alloc, outer_of(stand))?;
     let given = ruled(alloc, &scene, stand);
-    swf_rules::step_of(alloc, given)
+    swf_rule::step_of(alloc, given)
 }
 
 // What the rule gives that applies to what stands innermost.
@@ -258,7 +259,7 @@ fn ruled<'s>(alloc: Global, scene: &'s Scene<'s>, stand: &'s Stand) -> Result<Ma
                 running,
                 vars: None,
             };
-            rule.woken(*retries)
+            woken(&rule, *retries)
         }
         Top::Hearing { running, heard, .. } => {
             let rule = Rule {

@@ -3,7 +3,7 @@ use Rattle.std.proofs.Common.{◌≡◌, ◌↔◌, ◌∙◌, Bool, true, false
 use Rattle.swf_value.specs.Value.{Value}
 use Rattle.swf_value.specs.Order.{value_cmp}
 use Rattle.swf_value.proofs.OrderLaws.{order_laws}
-use Rattle.swf_jq_builtins.specs.Operations.{is_same}
+use Rattle.swf_evaluation.specs.Operations.{is_same}
 
 not_equal : (o : Ordering) → (o ≡ Equal → ⊥) → false ≡ is_eq o
 not_equal Less h = refl

@@ -1,8 +1,8 @@
 -- Texts that are got behind another.
 use Rattle.std.proofs.Common.{◌++◌, ℕ, List}
-use Rattle.swf_transform.specs.declared.got.Got.{Got}
-use Rattle.swf_transform.specs.declared.got.Got.TheVariants as gots
-use Rattle.swf_transform.specs.Fill.{and_then}
+use Rattle.swf_templates.specs.declared.got.Got.{Got}
+use Rattle.swf_templates.specs.declared.got.Got.TheVariants as gots
+use Rattle.swf_templates.specs.Fill.{and_then}
 
 -- a text and what is got behind it
 abbrev pub behind : List ℕ → Got (List ℕ) → Got (List ℕ)

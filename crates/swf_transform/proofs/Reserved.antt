@@ -9,7 +9,7 @@ use Rattle.percent_encoding.specs.AsciiSet.{contains, should_percent_encode}
 use Rattle.percent_encoding.specs.Percent.{percent_encode_byte, encode_byte, percent_encode}
 use Rattle.percent_encoding.proofs.PercentLemmas.{IsAscii-percent_encode}
 use Rattle.swf_transform.specs.declared.escapes.TheConstants.{RESERVED}
-use Rattle.swf_transform.specs.Uris.{is_unreserved, upper_digit, escaped_byte, escaped}
+use Rattle.swf_templates.specs.Uris.{is_unreserved, upper_digit, escaped_byte, escaped}
 
 -- each number below this one passes the test
 abbrev all_below : (ℕ → Bool) → ℕ → Bool

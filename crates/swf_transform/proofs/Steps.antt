@@ -5,10 +5,10 @@ use Rattle.swf_value.specs.Node.{items_of}
 use Rattle.swf_document.specs.Template.{Template, Fields, weight, weight_templates, weight_fields}
 use Rattle.swf_document.specs.TemplateNode.{templates_of, fields_of}
 use Rattle.swf_document.specs.declared.template.Field.{Field}
-use Rattle.swf_jq_eval.specs.declared.vars.Variable.{Variable}
-use Rattle.swf_transform.specs.declared.got.Got.{Got}
-use Rattle.swf_transform.specs.declared.got.Got.TheVariants as gots
-use Rattle.swf_transform.specs.Fill.{and_then, filled_fields}
+use Rattle.swf_evaluation.specs.declared.vars.Variable.{Variable}
+use Rattle.swf_templates.specs.declared.got.Got.{Got}
+use Rattle.swf_templates.specs.declared.got.Got.TheVariants as gots
+use Rattle.swf_templates.specs.Fill.{and_then, filled_fields}
 
 -- what stands in a list or an object weighs no more than all of it
 pub weight_template : (ts : List Template) (i : ℕ) (t : Template) → i < length ts → t ≡ get_or ts i t → weight t ≤ weight_templates (templates_of ts)

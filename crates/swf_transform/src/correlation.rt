@@ -1,15 +1,15 @@
 // What the events that a filter takes agree in.
 ghost use Rattle.std.specs.Prelude.{◌≡◌, IfOk};
 ghost use Rattle.swf_value.specs.Members.{at};
-ghost use Rattle.swf_transform.specs.Filter.{bound_to, bound_got, bind, bind_all, correlated};
+ghost use Rattle.swf_templates.specs.Filter.{bound_to, bound_got, bind, bind_all, correlated};
 
 use crate::filling::first;
 use crate::filter::{filter_matches, is_same, no_variables};
-use crate::got::Got;
 use crate::offer::Offer;
 use std::alloc::{AllocError, Global};
 use swf_cloudevents::NamedValues;
 use swf_document::{Correlation, Filter};
+use swf_templates::Got;
 use swf_text::Text;
 use swf_value::{Json, JsonNode};
 

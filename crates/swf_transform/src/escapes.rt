@@ -1,12 +1,12 @@
 // What stands in a URI for a value.
 ghost use Rattle.std.specs.Prelude.{◌≡◌, IfOk, chars};
 ghost use Rattle.std.specs.Fmt.{signed_decimal};
-ghost use Rattle.swf_transform.specs.Uris.{escaped, cannot_expand, name_text, query_value};
+ghost use Rattle.swf_templates.specs.Uris.{escaped, cannot_expand, name_text, query_value};
 
-use crate::got::Got;
 use percent_encoding::{AsciiSet, NON_ALPHANUMERIC, ascii_set, utf8_percent_encode};
 use std::alloc::{AllocError, Global};
 use swf_jq_builtins::error;
+use swf_templates::Got;
 use swf_text::{Text, word};
 use swf_value::{Json, JsonNode};
 

@@ -2,13 +2,13 @@
 ghost use Rattle.std.specs.Prelude.{◌≡◌, IfOk, option_map};
 ghost use Rattle.swf_document.specs.TemplateNode.{templates_of, fields_of};
 ghost use Rattle.swf_document.specs.Template.{list as list_of, object as object_of};
-ghost use Rattle.swf_transform.specs.Fill.{is_within, first_of, filled, limited, fill, transformed};
+ghost use Rattle.swf_templates.specs.Fill.{is_within, first_of, filled, limited, fill, transformed};
 
-use crate::got::Got;
 use std::alloc::{AllocError, Global};
 use swf_document::{Field, Template, TemplateNode};
 use swf_expr::Expr;
 use swf_jq_eval::{First, Vars, first_value};
+use swf_templates::Got;
 use swf_value::{Json, depth, size_within};
 
 /// The greatest size of a value that a task gives.

@@ -1,17 +1,17 @@
 // Which events a filter takes.
 ghost use Rattle.std.specs.Prelude.{◌≡◌, IfOk, [], option_map};
-ghost use Rattle.swf_jq_builtins.specs.Operations.{is_same};
-ghost use Rattle.swf_transform.specs.Fill.{first_of, fill};
-ghost use Rattle.swf_transform.specs.Filter.{is_true_got, is_got, attribute_matches, filter_matches};
+ghost use Rattle.swf_evaluation.specs.Operations.{is_same};
+ghost use Rattle.swf_templates.specs.Fill.{first_of, fill};
+ghost use Rattle.swf_templates.specs.Filter.{is_true_got, is_got, attribute_matches, filter_matches};
 
 use crate::filling::{fill, first};
-use crate::got::Got;
 use std::alloc::{AllocError, Global};
 use swf_cloudevents::{Event, attribute};
 use swf_document::{Filter, Template, TemplateNode};
 use swf_expr::Expr;
 use swf_jq_builtins::is_true;
 use swf_jq_eval::Vars;
+use swf_templates::Got;
 use swf_value::Json;
 
 /// No variables. It takes no memory.

@@ -1,7 +1,7 @@
 // What is told of a value.
 ghost use Rattle.std.specs.Prelude.{◌≡◌, IfOk, chars};
 ghost use Rattle.swf_value.specs.Written.{written};
-ghost use Rattle.swf_transform.specs.Fill.{message};
+ghost use Rattle.swf_templates.specs.Fill.{message};
 
 use std::alloc::{AllocError, Global};
 use swf_text::Text;

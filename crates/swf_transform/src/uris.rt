@@ -2,13 +2,13 @@
 ghost use Rattle.std.specs.Prelude.{◌≡◌, ◌==◌, ◌++◌, ◌∷◌, IfOk, OnOk, None, if◌then◌else◌};
 ghost use Rattle.std.specs.List.{list_any};
 ghost use Rattle.swf_value.specs.Node.{members_of};
-ghost use Rattle.swf_transform.specs.Uris.{escaped, named, pattern_text, query_text, limited_text, with_query, uri_of};
+ghost use Rattle.swf_templates.specs.Uris.{escaped, named, pattern_text, query_text, limited_text, with_query, uri_of};
 
 use crate::escapes::{escaped, name_text, query_value};
 use crate::filling::is_within;
-use crate::got::Got;
 use std::alloc::{AllocError, Global};
 use swf_jq_builtins::{Outcome, index};
+use swf_templates::Got;
 use swf_text::{Text, TextBuilder};
 use swf_value::{Json, Member};
 

@@ -70,6 +70,21 @@ impl World {
         moment > self.now().milliseconds() && self.instances.is_over(moment)
     }
 
+    /// The instances, to be read. It takes no memory.
+    pub fn instances(&self) -> &Instances
+        ensures instances { result.now.instances ≡ self.now.world.instances }
+        ensures moment { result.now.moment ≡ self.now.world.now }
+    {
+        &self.instances
+    }
+
+    /// The events that went out, in order. It takes no memory.
+    pub fn outbox(&self) -> &[Event]
+        ensures outbox { result.now ≡ self.now.world.outbox }
+    {
+        self.outbox.as_slice()
+    }
+
     /// The id of the instance of that number, from 0, in start order. It takes no memory.
     pub fn instance(&self, number: u64) -> Option<&Text>
         ensures { option_map (λ id. id.now) result ≡ option_map (λ i. i.id) (slice_get self.now.world.instances number) }

@@ -5,10 +5,10 @@ use Rattle.swf_jq_eval.specs.declared.outputs.Stop.{Stop}
 use Rattle.swf_value.specs.Node.{node_value, items_of}
 use Rattle.swf_value.specs.Value.{Value, boolean, list}
 use Rattle.swf_expr.specs.ExprNode.{node_tree, value_or_here}
-use Rattle.swf_jq_builtins.specs.Operations.{is_true, index_of}
+use Rattle.swf_evaluation.specs.Operations.{is_true, index_of}
 use Rattle.swf_jq_builtins.specs.Outcome.{several_of}
-use Rattle.swf_jq_eval.specs.Run.{clean, gave, turn, made, answered, over, spread, same_truth, until}
-use Rattle.swf_jq_eval.specs.Outputs.{run, node, with_argument, ranged, sorted_by, key_by}
+use Rattle.swf_evaluation.specs.Run.{clean, gave, turn, made, answered, over, spread, same_truth, until}
+use Rattle.swf_evaluation.specs.Outputs.{run, node, with_argument, ranged, sorted_by, key_by}
 use Rattle.swf_jq_eval.specs.Names.{names}
 use Rattle.swf_jq_eval.specs.Goes.{Goes, Comes, ahead}
 use Rattle.std.specs.List.{list_any}

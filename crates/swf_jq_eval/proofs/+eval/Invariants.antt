@@ -2,8 +2,8 @@
 use Rattle.std.proofs.Common.{◌≡◌, ◌+◌, ◌*◌, drop}
 use Rattle.std.specs.Option.{option_map_or}
 use Rattle.swf_expr.specs.ExprNode.{node_tree, trees_of, pairs_of, value_or_here, weight, weight_trees, weight_pairs}
-use Rattle.swf_jq_eval.specs.Run.{until}
-use Rattle.swf_jq_eval.specs.Outputs.{run}
+use Rattle.swf_evaluation.specs.Run.{until}
+use Rattle.swf_evaluation.specs.Outputs.{run}
 use Rattle.swf_jq_eval.specs.Names.{names}
 use Rattle.swf_jq_eval.specs.Goes.{ahead}
 use Rattle.swf_jq_eval.proofs.Weights.{weight_inner}

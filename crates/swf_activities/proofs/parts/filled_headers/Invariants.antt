@@ -1,7 +1,7 @@
 use Rattle.std.proofs.Common.{◌≡◌, [], drop}
 use Rattle.swf_meaning.specs.Call.{headers_by}
 use Rattle.swf_meaning.specs.Line.{within}
-use Rattle.swf_rules.specs.Rules.{line_in}
+use Rattle.swf_rule.specs.Rules.{line_in}
 use Rattle.swf_activities.proofs.parts.filled_headers.Given as goal
 
 -- the other fields decide

@@ -2,7 +2,7 @@ use Rattle.std.proofs.Common.{◌≡◌, drop}
 use Rattle.swf_value.specs.Value.{no_members}
 use Rattle.swf_meaning.specs.Call.{filled_members}
 use Rattle.swf_meaning.specs.Line.{within}
-use Rattle.swf_rules.specs.Rules.{line_in}
+use Rattle.swf_rule.specs.Rules.{line_in}
 use Rattle.swf_activities.proofs.parts.filled_members.Given as goal
 
 -- the other fields decide

@@ -1,5 +1,5 @@
 use Rattle.std.proofs.Common.{◌≡◌, fold, drop}
-use Rattle.swf_jq_builtins.specs.Builtins.{best, better}
+use Rattle.swf_evaluation.specs.Builtins.{best, better}
 use Rattle.swf_jq_builtins.proofs.arrays.best_of.Given as goal
 
 abbrev pub invariant-loop-i : goal.invariant-loop-i

@@ -1,7 +1,7 @@
 use Rattle.std.proofs.Common.{◌∙◌, ◌+◌, ◌-◌, ◌++◌, ◌∷◌, [], ap, arith, pos, ◌+ℤ◌, w64, FitsSigned}
 use Rattle.std.proofs.lemmas.Int.{to_z-of_z, ints}
 use Rattle.std.specs.Int.{cast_signed}
-use Rattle.swf_jq_builtins.specs.Builtins.{numbers_from}
+use Rattle.swf_evaluation.specs.Builtins.{numbers_from}
 use Rattle.swf_jq_builtins.proofs.NumberRows.{numbers_next}
 use Rattle.swf_jq_builtins.proofs.arrays.numbers.Goals as goal
 

@@ -1,5 +1,5 @@
 use Rattle.std.proofs.Common.{◌≡◌, ◌++◌, ◌-◌, ◌+ℤ◌, pos}
-use Rattle.swf_jq_builtins.specs.Builtins.{numbers_from}
+use Rattle.swf_evaluation.specs.Builtins.{numbers_from}
 use Rattle.swf_jq_builtins.proofs.arrays.numbers.Given as goal
 
 abbrev pub invariant-loop : goal.invariant-loop

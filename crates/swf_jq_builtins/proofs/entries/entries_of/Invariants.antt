@@ -1,6 +1,6 @@
 use Rattle.std.proofs.Common.{◌≡◌, ◌++◌, drop}
 use Rattle.swf_value.specs.Node.{members_of}
-use Rattle.swf_jq_builtins.specs.Builtins.{entries_of}
+use Rattle.swf_evaluation.specs.Builtins.{entries_of}
 use Rattle.swf_jq_builtins.proofs.entries.entries_of.Given as goal
 
 abbrev pub invariant-loop-member : goal.invariant-loop-member

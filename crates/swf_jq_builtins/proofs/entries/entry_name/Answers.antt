@@ -1,7 +1,7 @@
 use Rattle.std.proofs.Common.{◌≡◌, ◌∙◌, ap, sym, refl, codes, Some, option_and_then}
 use Rattle.swf_value.specs.Members.{member_at}
 use Rattle.swf_text.proofs.SameLemmas.{chars_ascii}
-use Rattle.swf_jq_builtins.specs.Builtins.{text_in}
+use Rattle.swf_evaluation.specs.Builtins.{text_in}
 use Rattle.swf_jq_builtins.proofs.entries.entry_name.Goals as goal
 
 pub returns-in-Some : goal.returns-in-Some

@@ -1,6 +1,6 @@
 use Rattle.std.proofs.Common.{◌≡◌, drop}
 use Rattle.swf_value.specs.Value.{no_members}
-use Rattle.swf_jq_builtins.specs.Builtins.{gathered}
+use Rattle.swf_evaluation.specs.Builtins.{gathered}
 use Rattle.swf_jq_builtins.specs.MapMembers.{entries_members}
 use Rattle.swf_jq_builtins.proofs.entries.gathered.Given as goal
 

@@ -1,5 +1,5 @@
 use Rattle.std.proofs.Common.{◌≡◌, take}
-use Rattle.swf_jq_builtins.specs.Builtins.{decimal_value}
+use Rattle.swf_evaluation.specs.Builtins.{decimal_value}
 use Rattle.swf_jq_builtins.specs.Caps.{capped}
 use Rattle.swf_jq_builtins.proofs.numbers.decimal_value.Given as goal
 

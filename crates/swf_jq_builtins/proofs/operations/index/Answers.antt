@@ -2,7 +2,7 @@ use Rattle.std.proofs.Common.{FitsSigned, ◌≡◌, ◌∙◌, ap, ap₂, sym, 
 use Rattle.std.proofs.lemmas.Int.{to_z-of_z, ints}
 use Rattle.swf_value.specs.Node.{node_value, items_of}
 use Rattle.swf_value.specs.Value.{InRange, IsLevel, list, int}
-use Rattle.swf_jq_builtins.specs.Operations.{index_of, item_at}
+use Rattle.swf_evaluation.specs.Operations.{index_of, item_at}
 use Rattle.swf_jq_builtins.proofs.Lists.{values_of_items_of}
 use Rattle.swf_jq_builtins.proofs.operations.index.Goals as goal
 

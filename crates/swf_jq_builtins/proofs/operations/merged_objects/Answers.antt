@@ -2,7 +2,7 @@ use Rattle.std.proofs.Common.{◌≡◌, ◌∙◌, ap, Ok}
 use Rattle.swf_value.specs.Node.{members_of}
 use Rattle.swf_value.specs.Value.{no_members, object}
 use Rattle.swf_jq_builtins.specs.MapMembers.{entries_members}
-use Rattle.swf_jq_builtins.specs.Operations.{merged}
+use Rattle.swf_evaluation.specs.Operations.{merged}
 use Rattle.swf_jq_builtins.proofs.Merges.{merged_with_none}
 use Rattle.swf_jq_builtins.proofs.operations.merged_objects.Goals as goal
 

@@ -1,8 +1,8 @@
 use Rattle.std.proofs.Common.{◌≡◌, ◌∙◌, ap, ap₂, Ok}
 use Rattle.swf_value.specs.Node.{items_of}
 use Rattle.swf_value.specs.Value.{list}
-use Rattle.swf_jq_builtins.specs.Builtins.{sorted_values}
-use Rattle.swf_jq_builtins.specs.Operations.{without}
+use Rattle.swf_evaluation.specs.Builtins.{sorted_values}
+use Rattle.swf_evaluation.specs.Operations.{without}
 use Rattle.swf_jq_builtins.proofs.Searches.{without_sorted}
 use Rattle.swf_jq_builtins.proofs.operations.remaining_items.Goals as goal
 

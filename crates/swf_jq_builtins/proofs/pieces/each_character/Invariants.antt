@@ -1,5 +1,5 @@
 use Rattle.std.proofs.Common.{◌≡◌, ◌++◌, drop}
-use Rattle.swf_jq_builtins.specs.Builtins.{characters}
+use Rattle.swf_evaluation.specs.Builtins.{characters}
 use Rattle.swf_jq_builtins.proofs.pieces.each_character.Given as goal
 
 abbrev pub invariant-loop-character : goal.invariant-loop-character

@@ -1,7 +1,7 @@
 use Rattle.std.proofs.Common.{◌≡◌, ◌∙◌, ap, ap₂, sym}
 use Rattle.swf_value.specs.Node.{node_value, items_of}
 use Rattle.swf_value.specs.Value.{list, text}
-use Rattle.swf_jq_builtins.specs.Builtins.{join, joined_or_not, pieces_of}
+use Rattle.swf_evaluation.specs.Builtins.{join, joined_or_not, pieces_of}
 use Rattle.swf_jq_builtins.proofs.Joins.{join_is}
 use Rattle.swf_jq_builtins.proofs.pieces.join.Goals as goal
 

@@ -3,7 +3,7 @@ use Rattle.std.proofs.lemmas.List.{drop_all}
 use Rattle.std.specs.Option.{option_and_then}
 use Rattle.swf_value.proofs.Writing.{first_of_rest}
 use Rattle.swf_value.specs.Value.{Value}
-use Rattle.swf_jq_builtins.specs.Builtins.{piece_of, pieces_of}
+use Rattle.swf_evaluation.specs.Builtins.{piece_of, pieces_of}
 use Rattle.swf_jq_builtins.proofs.pieces.pieces_of.Goals as goal
 
 -- what is written of the items from here on, behind this

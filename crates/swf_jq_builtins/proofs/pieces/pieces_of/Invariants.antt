@@ -1,5 +1,5 @@
 use Rattle.std.proofs.Common.{◌≡◌, ◌++◌, drop, option_map}
-use Rattle.swf_jq_builtins.specs.Builtins.{pieces_of}
+use Rattle.swf_evaluation.specs.Builtins.{pieces_of}
 use Rattle.swf_jq_builtins.proofs.pieces.pieces_of.Given as goal
 
 abbrev pub invariant-loop-item : goal.invariant-loop-item

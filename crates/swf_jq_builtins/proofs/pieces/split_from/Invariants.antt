@@ -1,5 +1,5 @@
 use Rattle.std.proofs.Common.{◌≡◌, ◌++◌, [], drop}
-use Rattle.swf_jq_builtins.specs.Builtins.{split_from}
+use Rattle.swf_evaluation.specs.Builtins.{split_from}
 use Rattle.swf_jq_builtins.proofs.pieces.split_from.Given as goal
 
 abbrev pub invariant-loop-i : goal.invariant-loop-i

@@ -1,5 +1,5 @@
 use Rattle.std.proofs.Common.{◌≡◌, drop}
-use Rattle.swf_jq_builtins.specs.Builtins.{lead}
+use Rattle.swf_evaluation.specs.Builtins.{lead}
 use Rattle.swf_jq_builtins.proofs.totals.lead_of.Given as goal
 
 abbrev pub invariant-loop-value : goal.invariant-loop-value

@@ -1,5 +1,5 @@
 use Rattle.std.proofs.Common.{◌≡◌, drop}
-use Rattle.swf_jq_builtins.specs.Builtins.{summed}
+use Rattle.swf_evaluation.specs.Builtins.{summed}
 use Rattle.swf_jq_builtins.specs.Drafts.{drafted}
 use Rattle.swf_jq_builtins.proofs.totals.sum_onto.Given as goal
 

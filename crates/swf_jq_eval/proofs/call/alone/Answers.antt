@@ -1,5 +1,5 @@
 use Rattle.std.proofs.Common.{subst}
-use Rattle.swf_jq_builtins.specs.Builtins.{plain}
+use Rattle.swf_evaluation.specs.Builtins.{plain}
 use Rattle.swf_jq_eval.specs.Goes.{Goes}
 use Rattle.swf_jq_eval.proofs.Calls.{alone_other}
 use Rattle.swf_jq_eval.proofs.call.alone.Goals as goal

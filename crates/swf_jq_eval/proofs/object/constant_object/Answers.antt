@@ -2,8 +2,9 @@ use Rattle.std.proofs.Common.{rules, ◌≡◌, ◌+◌, ◌<◌, Err, length, s
 use Rattle.swf_jq_eval.specs.declared.outputs.Stop.TheVariants.{Limit}
 use Rattle.swf_value.specs.Value.{object, no_members}
 use Rattle.swf_jq_eval.specs.Names.{names}
-use Rattle.swf_jq_eval.specs.Outputs.{objects}
-use Rattle.swf_jq_eval.specs.Goes.{Goes, limit}
+use Rattle.swf_evaluation.specs.Outputs.{objects}
+use Rattle.swf_evaluation.specs.Turns.{limit}
+use Rattle.swf_jq_eval.specs.Goes.{Goes}
 use Rattle.swf_jq_eval.proofs.Constants.{keys_stop, values_stop}
 use Rattle.swf_jq_eval.proofs.object.constant_object.Goals as goal
 

@@ -2,7 +2,7 @@ use Rattle.std.proofs.Common.{◌≡◌, ◌∙◌, ◌<◌, ◌≤◌, ◌+◌,
 use Rattle.std.proofs.lemmas.Result.{err_from_is_err_and}
 use Rattle.swf_value.specs.Value.{Value}
 use Rattle.swf_jq_eval.specs.declared.outputs.Stop.{Stop}
-use Rattle.swf_jq_eval.specs.Run.{each}
+use Rattle.swf_evaluation.specs.Run.{each}
 use Rattle.swf_jq_eval.specs.Goes.{Goes, ending_of, ahead}
 use Rattle.swf_jq_eval.proofs.Runs.{each_on, each_out, each_stop, each_end, goes_from}
 use Rattle.swf_jq_eval.proofs.outputs.each.Goals as goal

@@ -1,6 +1,6 @@
 use Rattle.std.proofs.Common.{◌≡◌, drop}
 use Rattle.swf_value.specs.Value.{Value}
-use Rattle.swf_jq_eval.specs.Run.{Run, each}
+use Rattle.swf_evaluation.specs.Run.{Run, each}
 use Rattle.swf_jq_eval.specs.Goes.{Goes, ending_of, ahead}
 use Rattle.swf_jq_eval.proofs.outputs.each.Given as goal
 

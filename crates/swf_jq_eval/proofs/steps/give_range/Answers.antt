@@ -1,8 +1,8 @@
 use Rattle.std.proofs.Common.{◌≡◌, ◌∙◌, ◌+◌, ap, subst}
-use Rattle.swf_jq_builtins.specs.Builtins.{range_of}
+use Rattle.swf_evaluation.specs.Builtins.{range_of}
 use Rattle.swf_jq_builtins.specs.Outcome.{count_of}
 use Rattle.swf_jq_eval.specs.declared.outputs.Out.{Out}
-use Rattle.swf_jq_eval.specs.Run.{spend, spread}
+use Rattle.swf_evaluation.specs.Run.{spend, spread}
 use Rattle.swf_jq_eval.specs.Goes.{Goes}
 use Rattle.swf_jq_eval.proofs.Applied.{ranged_is}
 use Rattle.swf_jq_eval.proofs.Runs.{goes_from, made_on}

@@ -1,7 +1,7 @@
 use Rattle.std.proofs.Common.{◌≡◌, ◌+◌, ap}
-use Rattle.swf_jq_builtins.specs.Operations.{index_of}
+use Rattle.swf_evaluation.specs.Operations.{index_of}
 use Rattle.swf_jq_eval.specs.declared.outputs.Out.{Out}
-use Rattle.swf_jq_eval.specs.Run.{answered}
+use Rattle.swf_evaluation.specs.Run.{answered}
 use Rattle.swf_jq_eval.proofs.Runs.{turn_on}
 use Rattle.swf_jq_eval.proofs.steps.member.Goals as goal
 

@@ -1,5 +1,5 @@
 use Rattle.std.proofs.Common.{◌≡◌, drop}
-use Rattle.swf_transform.specs.Filter.{bind_all}
+use Rattle.swf_templates.specs.Filter.{bind_all}
 use Rattle.swf_transform.proofs.correlation.bind_all.Given as goal
 
 abbrev pub invariant-loop-correlation : goal.invariant-loop-correlation

@@ -2,7 +2,7 @@ use Rattle.std.proofs.Common.{◌≡◌, ◌+◌, drop}
 use Rattle.swf_value.specs.Grow.{IsObject}
 use Rattle.swf_document.specs.Template.{list as list_of, object as object_of, weight, weight_templates, weight_fields}
 use Rattle.swf_document.specs.TemplateNode.{templates_of, fields_of}
-use Rattle.swf_transform.specs.Fill.{filled, filled_items}
+use Rattle.swf_templates.specs.Fill.{filled, filled_items}
 use Rattle.swf_transform.proofs.Steps.{listed, onto}
 use Rattle.swf_transform.proofs.filling.+filled.Given as goal
 

@@ -2,7 +2,7 @@ use Rattle.std.proofs.Common.{◌≡◌, drop}
 use Rattle.std.specs.List.{list_all}
 use Rattle.swf_value.specs.Members.{member_at}
 use Rattle.swf_cloudevents.specs.Event.{event_value}
-use Rattle.swf_transform.specs.Filter.{attribute_matches, filter_matches}
+use Rattle.swf_templates.specs.Filter.{attribute_matches, filter_matches}
 use Rattle.swf_transform.proofs.filter.filter_matches.Given as goal
 
 abbrev pub invariant-loop-field : goal.invariant-loop-field

@@ -1,5 +1,5 @@
 use Rattle.std.proofs.Common.{◌≡◌, None, drop}
-use Rattle.swf_transform.specs.Uris.{pattern_text}
+use Rattle.swf_templates.specs.Uris.{pattern_text}
 use Rattle.swf_transform.proofs.Joined.{behind}
 use Rattle.swf_transform.proofs.uris.pattern_text.Given as goal
 

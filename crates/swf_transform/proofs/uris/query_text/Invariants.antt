@@ -1,6 +1,6 @@
 use Rattle.std.proofs.Common.{◌≡◌, drop}
 use Rattle.swf_value.specs.Node.{members_of}
-use Rattle.swf_transform.specs.Uris.{query_text}
+use Rattle.swf_templates.specs.Uris.{query_text}
 use Rattle.swf_transform.proofs.Joined.{behind}
 use Rattle.swf_transform.proofs.uris.query_text.Given as goal
 

@@ -1,0 +1,6 @@
+//! How labels print.
+#![tactic(auto)]
+
+mod printed;
+
+pub use printed::print_label;
