@@ -2,13 +2,13 @@
 // connectors of other schemes, which reach nobody. A part that names none of them has no connector at all.
 use std::alloc::{AllocError, Global};
 use std::io;
-use swf_connect::{Connector, HttpConnector, MemoryConnector, MemoryDial, Switchboard};
+use swf_connect::{HttpConnector, MemoryConnector, MemoryDial, Switchboard};
 use swf_test_tables::{bytes_of, number_of, split};
 use swf_text::Text;
 
 /// What a part says of those who answer its calls.
 #[derive(Drop)]
-pub struct Answering<'a> {
+pub(crate) struct Answering<'a> {
     /// What each link over HTTP gives, in order.
     links: Vec<Vec<u8>>,
     /// The numbers of the dials that fail.
@@ -19,15 +19,14 @@ pub struct Answering<'a> {
 
 /// Those who answer the calls of a part.
 #[derive(Drop)]
-struct Answerers {
-    http: Option<HttpConnector<MemoryDial>>,
+pub(crate) struct Answerers {
+    pub(crate) http: Option<HttpConnector<MemoryDial>>,
     /// Connectors that reach nobody.
-    silent: Vec<MemoryConnector>,
+    pub(crate) silent: Vec<MemoryConnector>,
 }
 
 impl<'a> Answering<'a> {
-    /// None of them.
-    pub fn nobody(alloc: Global) -> Answering<'a> {
+    pub(crate) fn nobody(alloc: Global) -> Answering<'a> {
         Answering {
             links: Vec::new(alloc),
             failing: Vec::new(alloc),
@@ -36,25 +35,25 @@ impl<'a> Answering<'a> {
     }
 
     /// Has the next link give a response of a status, a type and, where one stands there, a body.
-    pub fn respond(&mut self, alloc: Global, order: &str) -> io::Result<()> {
+    pub(crate) fn respond(&mut self, alloc: Global, order: &str) -> io::Result<()> {
         self.links.push(response(alloc, order)?)?;
         Ok(())
     }
 
     /// Has the next link give these bytes.
-    pub fn give(&mut self, alloc: Global, digits: &str) -> io::Result<()> {
+    pub(crate) fn give(&mut self, alloc: Global, digits: &str) -> io::Result<()> {
         self.links.push(bytes_of(alloc, digits)?)?;
         Ok(())
     }
 
     /// Has the dial of a number fail.
-    pub fn fail(&mut self, number: &str) -> io::Result<()> {
+    pub(crate) fn fail(&mut self, number: &str) -> io::Result<()> {
         self.failing.push(number_of(number)?)?;
         Ok(())
     }
 
     /// Puts a connector of a scheme behind the others.
-    pub fn also(&mut self, scheme: &'a str) -> io::Result<()> {
+    pub(crate) fn also(&mut self, scheme: &'a str) -> io::Result<()> {
         self.schemes.push(scheme)?;
         Ok(())
     }
@@ -63,8 +62,8 @@ impl<'a> Answering<'a> {
         self.links.is_empty() && self.failing.is_empty() && self.schemes.is_empty()
     }
 
-    // The connectors of them.
-    fn connectors(self, alloc: Global) -> Result<Answerers, AllocError> {
+    /// The connectors of them.
+    pub(crate) fn connectors(self, alloc: Global) -> Result<Answerers, AllocError> {
         if self.is_nobody() {
             return Ok(Answerers {
                 http: None,
@@ -106,21 +105,8 @@ fn silent_one(alloc: Global, scheme: &str) -> Result<MemoryConnector, AllocError
     Ok(MemoryConnector::new(alloc, scheme, Vec::new(alloc), none))
 }
 
-/// The board of those who answer.
-pub fn board_of(alloc: Global, answering: Answering<'_>) -> Result<Switchboard, AllocError> {
-    let Answerers { http, silent } = answering.connectors(alloc)?;
-    let mut connectors: Vec<Box<dyn Connector + Send>> = Vec::new(alloc);
-    if let Some(http) = http {
-        connectors.push(Box::new(alloc, http)?)?;
-    }
-    for connector in silent {
-        connectors.push(Box::new(alloc, connector)?)?;
-    }
-    Ok(Switchboard::new(connectors))
-}
-
 /// How often each connector of a board was asked, in order, and `-` for one that does not tell it.
-pub fn asked(alloc: Global, board: Switchboard) -> Result<String, AllocError> {
+pub(crate) fn asked(alloc: Global, board: Switchboard) -> Result<String, AllocError> {
     let mut told = String::new(alloc);
     for connector in board.close().as_slice() {
         if !told.is_empty() {
