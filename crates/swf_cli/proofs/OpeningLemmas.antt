@@ -18,7 +18,7 @@ use Rattle.swf_engine.specs.Opening.{OpensHistory, IsOpened}
 use Rattle.swf_engine.proofs.HistoryLemmas.{left_history}
 use Rattle.swf_engine.proofs.LawLemmas.{history_one, damaged_long, damaged_none}
 use Rattle.swf_protocol.specs.Spoken.{damaged_bytes}
-use Rattle.swf_turns.specs.declared.say.After.TheVariants.{Stops}
+use Rattle.swf_turns.specs.declared.saying.After.TheVariants.{Stops}
 use Rattle.swf_turns.specs.Dialect.{session}
 use Rattle.swf_turns.specs.Finish.{Ran, RunsOn, Tells, TellsDamage, ClosesWith}
 use Rattle.swf_cli.specs.Running.{KeepsDamaged, SessionRun, TellsOfDamage}

@@ -19,7 +19,7 @@ use Rattle.swf_turns.specs.Follows.{AreOpen, IsGoing, IsOneTurn, MayBegin}
 use Rattle.swf_turns.specs.Moments.{IsMoment, IsLastPiece, IsLastUnsaid}
 use Rattle.swf_turns.specs.Owed.{Heard, conn_of, owed, piece_of, pieces_of, replies_of}
 use Rattle.swf_turns.specs.Steps.{Stand, TurnLeft, Turned, Whole, Unsaid, Broken, IsTold, Nothing, TurnDone}
-use Rattle.swf_turns.specs.declared.say.After.TheVariants.{Stops}
+use Rattle.swf_turns.specs.declared.saying.After.TheVariants.{Stops}
 use Rattle.swf_turns.specs.Turns.{Turn, AreMore, IsAnswered, AreTurns, labels_of, inputs_in, inputs_of, answers_of, last_told}
 use Rattle.swf_turns.proofs.TurnListLemmas.{flat_map-snoc, allowed-snoc, open-snoc, over-snoc, heard_all, inputs_join, pieces_join, said_at_once, session_last}
 use Rattle.swf_words.specs.declared.words.Words.{Words}

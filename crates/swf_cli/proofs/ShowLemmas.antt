@@ -31,8 +31,8 @@ use Rattle.swf_engine.proofs.HistoryLemmas.{left_history}
 use Rattle.swf_engine.proofs.LawLemmas.{damaged_none}
 use Rattle.swf_protocol.specs.Spoken.{spoken}
 use Rattle.swf_protocol.specs.declared.reply.Reply.{Reply}
-use Rattle.swf_turns.specs.declared.say.After.{After}
-use Rattle.swf_turns.specs.declared.say.After.TheVariants.{GoesOn, Stops}
+use Rattle.swf_turns.specs.declared.saying.After.{After}
+use Rattle.swf_turns.specs.declared.saying.After.TheVariants.{GoesOn, Stops}
 use Rattle.swf_turns.specs.Finish.{Tells, ClosesWith}
 use Rattle.swf_turns.specs.Moments.{Runs}
 use Rattle.swf_cli.specs.Running.{ShowRun}

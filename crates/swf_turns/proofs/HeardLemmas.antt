@@ -8,8 +8,8 @@ use Rattle.swf_host.specs.declared.host.Input.{Input}
 use Rattle.swf_host.specs.declared.host.Input.TheVariants.{Ask as Asks, TooLong, Work, Idle, Closed}
 use Rattle.swf_protocol.specs.Spoken.{spoken, damaged_bytes, full_bytes}
 use Rattle.swf_protocol.specs.declared.reply.Reply.{Reply}
-use Rattle.swf_turns.specs.declared.say.After.{After}
-use Rattle.swf_turns.specs.declared.say.After.TheVariants.{GoesOn, Ends, Stops}
+use Rattle.swf_turns.specs.declared.saying.After.{After}
+use Rattle.swf_turns.specs.declared.saying.After.TheVariants.{GoesOn, Ends, Stops}
 use Rattle.swf_journal.specs.Frames.{header}
 use Rattle.swf_engine.specs.Retelling.{IsMisread}
 use Rattle.swf_engine.specs.declared.fault.EngineFault.{EngineFault}

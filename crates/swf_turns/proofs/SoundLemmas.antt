@@ -11,8 +11,8 @@ use Rattle.swf_engine.specs.Core.{Core}
 use Rattle.swf_protocol.specs.declared.command.Command.{Command}
 use Rattle.swf_protocol.specs.declared.command.CommandFault.{CommandFault}
 use Rattle.swf_turns.specs.declared.answer.Answered.{Answered}
-use Rattle.swf_turns.specs.declared.say.After.{After}
-use Rattle.swf_turns.specs.declared.say.After.TheVariants.{GoesOn, Ends, Stops}
+use Rattle.swf_turns.specs.declared.saying.After.{After}
+use Rattle.swf_turns.specs.declared.saying.After.TheVariants.{GoesOn, Ends, Stops}
 use Rattle.swf_words.specs.declared.words.Words.{Words}
 use Rattle.swf_turns.specs.Steps.{AskDone, IsSound, Says, StaysSound, reply_of, follows_end}
 use Rattle.swf_turns.proofs.TurnLemmas.{still_stands}

@@ -28,8 +28,8 @@ use Rattle.swf_protocol.specs.declared.command.CommandFault.{CommandFault}
 use Rattle.swf_protocol.specs.declared.reply.Reply.{Reply}
 use Rattle.swf_protocol.specs.declared.reply.Reply.TheVariants.{TooLong}
 use Rattle.swf_turns.specs.declared.answer.Answered.{Answered}
-use Rattle.swf_turns.specs.declared.say.After.{After}
-use Rattle.swf_turns.specs.declared.say.After.TheVariants.{GoesOn, Ends, Stops}
+use Rattle.swf_turns.specs.declared.saying.After.{After}
+use Rattle.swf_turns.specs.declared.saying.After.TheVariants.{GoesOn, Ends, Stops}
 use Rattle.swf_turns.specs.Dialect.{line_read, session}
 use Rattle.swf_turns.specs.Owed.{Heard, conn_of, heard}
 use Rattle.swf_turns.specs.Follows.{AsksNext, MayAdd, MayAsk, MayBegin}

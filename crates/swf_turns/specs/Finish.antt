@@ -19,7 +19,7 @@ use Rattle.swf_turns.specs.Owed.{AreSaid, ArePrompt}
 use Rattle.swf_turns.specs.Follows.{IsOneTurn}
 use Rattle.swf_turns.specs.Moments.{IsMoment}
 use Rattle.swf_turns.specs.Steps.{Stand, IsTold, Says}
-use Rattle.swf_turns.specs.declared.say.After.TheVariants.{Stops}
+use Rattle.swf_turns.specs.declared.saying.After.TheVariants.{Stops}
 use Rattle.swf_words.specs.declared.words.Words.{Words}
 
 -- the last turn ends the input

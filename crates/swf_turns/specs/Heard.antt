@@ -11,8 +11,8 @@ use Rattle.swf_journal.specs.Frames.{header}
 use Rattle.swf_engine.specs.Retelling.{IsMisread}
 use Rattle.swf_protocol.specs.declared.reply.Reply.{Reply}
 use Rattle.swf_protocol.specs.declared.reply.Reply.TheVariants.{TooLong as Long}
-use Rattle.swf_turns.specs.declared.say.After.{After}
-use Rattle.swf_turns.specs.declared.say.After.TheVariants.{GoesOn, Ends, Stops}
+use Rattle.swf_turns.specs.declared.saying.After.{After}
+use Rattle.swf_turns.specs.declared.saying.After.TheVariants.{GoesOn, Ends, Stops}
 use Rattle.swf_turns.specs.Dialect.{Dialect, Spell}
 use Rattle.swf_turns.specs.Faults.{AsksHistory, AsksLabels, TellsPlace}
 use Rattle.swf_turns.specs.Owed.{AreSaid, ArePrompt, IsAsked, conn_of}

@@ -25,8 +25,8 @@ use Rattle.swf_protocol.specs.declared.command.CommandFault.{CommandFault}
 use Rattle.swf_protocol.specs.declared.reply.Reply.{Reply}
 use Rattle.swf_protocol.specs.declared.reply.Reply.TheVariants.{Report, Pending, Outbox, History as Labels, UnknownInstance as NoInstance, Memory}
 use Rattle.swf_turns.specs.declared.answer.Answered.{Answered}
-use Rattle.swf_turns.specs.declared.say.After.{After}
-use Rattle.swf_turns.specs.declared.say.After.TheVariants.{GoesOn, Ends, Stops}
+use Rattle.swf_turns.specs.declared.saying.After.{After}
+use Rattle.swf_turns.specs.declared.saying.After.TheVariants.{GoesOn, Ends, Stops}
 use Rattle.swf_turns.specs.Dialect.{Dialect, Spell}
 use Rattle.swf_turns.specs.Turns.{Turn, AreMore, CommandTurn, AskTurn, IsAnswered, inputs_in}
 use Rattle.swf_turns.specs.Owed.{Heard, conn_of, owed, piece_of}

@@ -3,11 +3,11 @@
 
 mod answer;
 mod opening;
-mod say;
+mod saying;
 
 pub use answer::{Answered, answer_line, obey, queried, unread};
 pub use opening::not_opened;
-pub use say::{
+pub use saying::{
     After, DAMAGED, FULL, HOST_FAULT, NO_MEMORY, STORE_FAULT, say, say_damage, say_damaged,
     say_full, say_last, say_line,
 };

@@ -2,7 +2,7 @@
 ghost use Rattle.std.specs.Prelude.{◌≡◌, ℕ};
 ghost use Rattle.swf_turns.specs.Finish.{Tells, ClosesWith};
 
-use crate::say::{NO_MEMORY, STORE_FAULT, say_damage};
+use crate::saying::{NO_MEMORY, STORE_FAULT, say_damage};
 use std::alloc::Global;
 use swf_engine::EngineFault;
 use swf_host::{Host, NoWork};

@@ -1,6 +1,6 @@
 use Rattle.std.proofs.Common.{⊎_elim, sym, subst, ℕ, List}
 use Rattle.swf_turns.specs.Steps.{Says}
-use Rattle.swf_turns.specs.declared.say.After.TheVariants.{GoesOn}
+use Rattle.swf_turns.specs.declared.saying.After.TheVariants.{GoesOn}
 use Rattle.swf_cli.proofs.ShowLemmas.{says_nothing}
 use Rattle.swf_cli.proofs.show.say_status.Goals as goal
 

@@ -8,7 +8,7 @@ use Rattle.swf_engine.specs.Retelling.{AnswersQuery}
 use Rattle.swf_protocol.specs.Spoken.{spoken}
 use Rattle.swf_turns.specs.Steps.{Says}
 use Rattle.swf_turns.specs.Turns.{query_reply}
-use Rattle.swf_turns.specs.declared.say.After.TheVariants.{GoesOn}
+use Rattle.swf_turns.specs.declared.saying.After.TheVariants.{GoesOn}
 use Rattle.swf_cli.proofs.ShowLemmas.{status_said}
 use Rattle.swf_cli.proofs.show.show_one.Goals as goal
 

@@ -11,7 +11,7 @@ use Rattle.swf_turns.specs.Faults.{ReadFaults}
 use Rattle.swf_turns.specs.Dialect.{line_read}
 use Rattle.swf_turns.specs.Steps.{IsSound, follows_end, reply_of}
 use Rattle.swf_turns.specs.declared.answer.Answered.{Answered}
-use Rattle.swf_turns.specs.declared.say.After.TheVariants.{Stops}
+use Rattle.swf_turns.specs.declared.saying.After.TheVariants.{Stops}
 use Rattle.swf_turns.proofs.FaultLemmas.{damage_of_history, full_of_labels, reply_of_history}
 use Rattle.swf_turns.proofs.HeardLemmas.{reply_tells, full_tells, damage_tells}
 use Rattle.swf_turns.proofs.SettlingLemmas.{asks_none}

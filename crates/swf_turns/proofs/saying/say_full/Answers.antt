@@ -1,7 +1,7 @@
 use Rattle.std.proofs.Common.{◌∙◌, subst, ℕ, List}
 use Rattle.swf_turns.specs.Steps.{Says}
-use Rattle.swf_turns.specs.declared.say.After.TheVariants as after
-use Rattle.swf_turns.proofs.say.say_full.Goals as goal
+use Rattle.swf_turns.specs.declared.saying.After.TheVariants as after
+use Rattle.swf_turns.proofs.saying.say_full.Goals as goal
 
 pub returns-clause-says : goal.returns-clause-says
 returns-clause-says g c =

@@ -1,6 +1,6 @@
 use Rattle.std.proofs.Common.{◌∙◌, subst, ℕ, List}
 use Rattle.swf_turns.specs.Steps.{Says, follows_end}
-use Rattle.swf_turns.proofs.say.say.Goals as goal
+use Rattle.swf_turns.proofs.saying.say.Goals as goal
 
 pub returns-clause-says : goal.returns-clause-says
 returns-clause-says g c =
