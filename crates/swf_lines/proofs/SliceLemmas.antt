@@ -1,7 +1,7 @@
--- A slice equals its steps in a row.
-use Rattle.std.proofs.Common.{◌≡◌, ◌∙◌, refl, sym, ap, cond, arith, ℕ, zero, suc, ◌+◌, List, [], ◌∷◌, Bool, true, false, Option, Some, None}
+-- A slice equals its steps in a row, and is determined.
+use Rattle.std.proofs.Common.{◌≡◌, ◌∙◌, refl, sym, ap, cond, arith, ℕ, zero, suc, ◌+◌, ◌<◌, List, [], ◌∷◌, replicate, Bool, true, false, Option, Some, None}
 use Rattle.std.proofs.lemmas.Option.{same_Some, option_and_then_some}
-use Rattle.std.specs.Prelude.{option_map, option_and_then, replicate}
+use Rattle.std.specs.Prelude.{option_map, option_and_then}
 use Rattle.swf_cloudevents.specs.declared.event.Event.{Event}
 use Rattle.swf_text.specs.Same.{same}
 use Rattle.swf_meaning.specs.Answer.{instance_at}
@@ -10,9 +10,10 @@ use Rattle.swf_meaning.specs.Documents.{Loaded}
 use Rattle.swf_meaning.specs.World.{Instance, step_at, with_step}
 use Rattle.swf_lines.specs.Own.{Own, own_at, own_step, put_own}
 use Rattle.swf_meaning.specs.declared.label.Label.TheVariants.{Step}
-use Rattle.swf_runs.specs.After.{after, stepped, with_instances}
+use Rattle.swf_runs.specs.After.{stepped, with_instances, after}
 use Rattle.swf_runs.specs.Runs.{run_from}
-use Rattle.swf_lines.specs.Slices.{own_steps, put_in, with_slice, Carries, SliceIsSteps}
+use Rattle.swf_lines.specs.Slices.{own_steps, put_in, with_slice}
+use Rattle.swf_lines.specs.SliceLaws.{Carries, SliceIsOne, SliceIsSteps}
 use Rattle.swf_lines.proofs.OwnSteps.{alone, placed}
 
 same_id : (bs : List ℕ) (p : Own) (i : Instance) → (put_own bs p i).id ≡ i.id
@@ -84,3 +85,25 @@ slice_is_steps w id bs (suc n) o p c e =
     ∙ slice_is_steps (with_slice id bs 1 q w) id bs n q p there b
     ∙ ap (λ l. Some (record w { instances = l; count = w.count + 1 + n })) (twice_in id bs q p w.instances)
     ∙ ap (λ m. Some (record w { instances = put_in id bs p w.instances; count = m })) k)
+
+-- where two numbers of steps can be taken, and none more after the fewer, they are one number
+steps_one : (now n m : ℕ) (o p q : Own) → own_steps now n o ≡ Some p → own_steps now m o ≡ Some q → (n < m → own_step now p ≡ None) → (m < n → own_step now q ≡ None) → (n ≡ m) × (p ≡ q)
+steps_one now zero zero o p q a b f g = (refl, same_Some p q (sym a ∙ b))
+steps_one now zero (suc m) o p q a b f g =
+    option_and_then_some (own_steps now m) (own_step now o) q b (λ x c d.
+    let none : own_step now o ≡ None = ap (own_step now) (same_Some o p a) ∙ f (omega arith) in
+    let e : Some x ≡ None = sym c ∙ none in cc)
+steps_one now (suc n) zero o p q a b f g =
+    option_and_then_some (own_steps now n) (own_step now o) p a (λ x c d.
+    let none : own_step now o ≡ None = ap (own_step now) (same_Some o q b) ∙ g (omega arith) in
+    let e : Some x ≡ None = sym c ∙ none in cc)
+steps_one now (suc n) (suc m) o p q a b f g =
+    option_and_then_some (own_steps now n) (own_step now o) p a (λ x c d.
+    option_and_then_some (own_steps now m) (own_step now o) q b (λ y e h.
+    let is : y ≡ x = same_Some y x (sym e ∙ c) in
+    let rest = steps_one now n m x p q d (sym (ap (own_steps now m) is) ∙ h) (λ l. f (omega (arith, l))) (λ l. g (omega (arith, l))) in
+    (ap suc rest.0, rest.1)))
+
+pub slice_is_one : SliceIsOne
+slice_is_one now fuel n m o p q a b =
+    steps_one now n m o p q a.took b.took (λ l. a.enough refl (omega (arith, l, b.most))) (λ l. b.enough refl (omega (arith, l, a.most)))

@@ -1,3 +1,4 @@
 pub mod Own
 pub mod OwnLaws
 pub mod Slices
+pub mod SliceLaws

@@ -7,6 +7,7 @@ mod error;
 mod event;
 mod expr;
 mod held;
+mod loaded;
 mod part;
 mod same;
 mod setting;
@@ -17,6 +18,7 @@ mod text;
 mod value;
 mod work;
 
+pub use loaded::{same_document, same_task};
 pub use same::{Same, same_given, same_items};
 pub use setting::same_line;
-pub use stand::same_stands;
+pub use stand::same_stand;

@@ -110,9 +110,10 @@ impl Same for Stand {
     }
 }
 
-/// Whether what two strands hold is the same tree.
-pub fn same_stands(a: &Stand, b: &Stand) -> bool
-    ensures { IsTrue result ↔ (plug (inward a.now.around) (top_node a.now.top) ≡ plug (inward b.now.around) (top_node b.now.top)) }
+/// Whether two strands hold the same. Then, and only then, the trees that they stand for are the same.
+pub fn same_stand(a: &Stand, b: &Stand) -> bool
+    ensures exact { IsTrue result ↔ (a.now ≡ b.now) }
+    ensures tree { IsTrue result ↔ (plug (inward a.now.around) (top_node a.now.top) ≡ plug (inward b.now.around) (top_node b.now.top)) }
 {
     a.is_same(b)
 }

@@ -1,10 +1,11 @@
 // Values, and what is made of texts and values alone.
 use crate::same::{Same, same_items};
-use swf_value::{Json, JsonList, Member};
+use swf_value::{Json, JsonList, Member, depth, size};
 
+/// By what is kept of each first: how deep and how large it is.
 impl Same for Json {
     fn is_same(&self, other: &Json) -> bool {
-        self.is(other)
+        depth(self) == depth(other) && size(self) == size(other) && self.is(other)
     }
 }
 
