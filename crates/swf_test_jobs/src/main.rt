@@ -1,9 +1,7 @@
-//! Reads the rows of a table (jobs.txt), and prints each with what came of it: the lines of a job and the sums of replies, and who is
-//! told what at a desk.
+//! Reads the rows of a table (jobs.txt), and prints each with what came of it: the lines of a job, and who is told what at a desk.
 //!
 //! A row that begins with `#` names what follows, and stands in the transcript as it is. Any other row is a word and what it is about:
-//! `lines TURNS` tells how many lines a job has, `line TURNS NUMBER` that line, `totals WORD..` the sums of replies (`started`, or a
-//! report as JSON without blanks), and `desk WORD..` what comes of clients that ask, by name, and of connections to which something is said, by number.
+//! `lines TURNS` tells how many lines a job has, `line TURNS NUMBER` that line, and `desk WORD..` what comes of clients that ask, by name, and of connections to which something is said, by number.
 #![tactic(auto)]
 
 mod desks;
@@ -20,7 +18,6 @@ fn outcome_of(alloc: Global, row: &str) -> io::Result<String> {
     match word {
         "lines" => jobs::count_told(alloc, rest),
         "line" => jobs::line_told(alloc, rest),
-        "totals" => jobs::totals_told(alloc, rest),
         "desk" => desks::told(alloc, rest),
         _ => Err(no_meaning()),
     }
